@@ -1,0 +1,4 @@
+pub mod Bools
+pub mod Sums
+pub mod Faults
+pub mod Lists

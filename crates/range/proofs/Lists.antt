@@ -1,0 +1,46 @@
+-- Laws of lists made over i < n.
+use Prim.Native.Nat.{ℕ, zero, suc, _+_, _≤_, _<_}
+use mathlib.Core.Path.{_≡_, refl, sym, _∙_, ap}
+use mathlib.Core.List.{List}
+use native.Mathlib.Omega.{arith}
+use native.Mathlib.Numerals.{add-one}
+use native.Mathlib.Decide.{ℕ-discrete}
+use lib.ListN.{length, getD, set, replicate, length-set}
+use lib.Seq.{getD-set-same, getD-set-other}
+use Rattle.range.specs.Lists.{stored}
+
+pub zeros-at : (n v : ℕ) → getD {A = ℕ} (replicate n 0) v 0 ≡ 0
+zeros-at zero v = refl
+zeros-at (suc n) zero = refl
+zeros-at (suc n) (suc v) = zeros-at n v
+
+pub stored-next : (f : ℕ → ℕ) (n : ℕ) (d : List ℕ) → stored f (n + 1) d ≡ set (stored f n d) n (f n)
+unfolding stored
+stored-next f n d = rw (add-one n)
+
+pub length-stored : (f : ℕ → ℕ) (n : ℕ) (d : List ℕ) → length (stored f n d) ≡ length d
+unfolding stored
+length-stored f zero d = refl
+length-stored f (suc n) d = length-set (stored f n d) n (f n) ∙ length-stored f n d
+
+pub stored-same : (f g : ℕ → ℕ) (n : ℕ) (d : List ℕ) → ((i : ℕ) → i < n → f i ≡ g i) → stored f n d ≡ stored g n d
+unfolding stored
+stored-same f g zero d h = refl
+stored-same f g (suc n) d h = rw (stored-same f g n d (λ i l. h i (omega arith)), h n (omega arith))
+
+-- the entries stored
+pub stored-at : (f : ℕ → ℕ) (n : ℕ) (d : List ℕ) (i : ℕ) → n ≤ length d → i < n → getD (stored f n d) i 0 ≡ f i
+unfolding stored
+stored-at f zero d i fits l = absurd (omega arith)
+stored-at f (suc n) d i fits l = go (stored-at f n d i (omega arith)) (ℕ-discrete i n)
+  where
+    go : (i < n → getD (stored f n d) i 0 ≡ f i) → Dec (i ≡ n) → getD (set (stored f n d) n (f n)) i 0 ≡ f i
+    go before (yes e) = rw e (getD-set-same (stored f n d) n (f n) 0 (let k = length-stored f n d in omega arith))
+    go before (no e) = getD-set-other (stored f n d) n i (f n) 0 e ∙ before (omega arith)
+
+-- "entries beyond the table's own stay untouched"
+pub stored-beyond : (f : ℕ → ℕ) (n : ℕ) (d : List ℕ) (i : ℕ) → n ≤ i → getD (stored f n d) i 0 ≡ getD d i 0
+unfolding stored
+stored-beyond f zero d i l = refl
+stored-beyond f (suc n) d i l =
+    getD-set-other (stored f n d) n i (f n) 0 (λ (z : i ≡ n). omega arith) ∙ stored-beyond f n d i (omega arith)

@@ -1,0 +1,95 @@
+-- What it means that a table's checks find no fault.
+use Prim.Native.Nat.{ℕ, _-_, _≤_, _<_}
+use mathlib.Core.Path.{_≡_, sym, _∙_}
+use mathlib.Core.Bool.{cond, not, _&&_, _||_}
+use lib.Dec.{ltb, eqb}
+use borrow.Author.Tests.{ltb-true, ltb-false, eqb-true, eqb-false, not-false, eq-eqb, ne-eqb}
+use Rattle.range.specs.First.{orElse, first}
+use Rattle.range.proofs.Bools.{and-left, and-right, or-false-left, or-false-right, unless-none, when-none}
+use Rattle.range.proofs.Faults.{or-left, or-here, or-next, first-all}
+use Rattle.table.specs.Checking.{checkingOf}
+use Rattle.table.specs.declared.Checking.the-variants.{Fine, Refused}
+use Rattle.table.specs.Legal.{endsFault, orderFault, linkFault, sizeFault, roomFault}
+
+pub record Ends (probes low high : ℕ) : Type 0 where
+  pub rises : low < high
+  pub below : high < probes
+
+pub ends-good : (probes low high : ℕ) → endsFault probes low high ≡ 0 → Ends probes low high
+ends-good probes low high e =
+    let b = unless-none (ltb low high && ltb high probes) 3 e in
+    record {
+      rises = ltb-true low high (and-left (ltb low high) (ltb high probes) b);
+      below = ltb-true high probes (and-right (ltb low high) (ltb high probes) b);
+    }
+
+pub link-ends : (probes : ℕ) (low high : ℕ → ℕ) (i : ℕ) → linkFault probes low high i ≡ 0 → Ends probes (low i) (high i)
+unfolding linkFault
+link-ends probes low high i e =
+    ends-good probes (low i) (high i)
+    (or-left (endsFault probes (low i) (high i)) (cond (eqb i 0) 0 (orderFault (low (i - 1)) (high (i - 1)) (low i) (high i))) e)
+
+pub links-ends : (probes links : ℕ) (low high : ℕ → ℕ) → first (linkFault probes low high) links ≡ 0 → (i : ℕ) → i < links → Ends probes (low i) (high i)
+links-ends probes links low high e i l = link-ends probes low high i (first-all (linkFault probes low high) links i e l)
+
+pub record Size (pmax lmax probes links : ℕ) : Type 0 where
+  pub some : probes ≡ 0 → ⊥
+  pub few : probes ≤ pmax
+  pub within : links ≤ lmax
+
+pub size-good : (pmax lmax probes links : ℕ) → sizeFault pmax lmax probes links ≡ 0 → Size pmax lmax probes links
+size-good pmax lmax probes links e =
+    let b = when-none (eqb probes 0 || (ltb pmax probes || ltb lmax links)) 2 e in
+    let d = or-false-right (eqb probes 0) (ltb pmax probes || ltb lmax links) b in
+    record {
+      some = eqb-false probes 0 (or-false-left (eqb probes 0) (ltb pmax probes || ltb lmax links) b);
+      few = ltb-false pmax probes (or-false-left (ltb pmax probes) (ltb lmax links) d);
+      within = ltb-false lmax links (or-false-right (ltb pmax probes) (ltb lmax links) d);
+    }
+
+pub record Room (probes links needs lows highs costs : ℕ) : Type 0 where
+  pub needed : probes ≤ needs
+  pub linked : links ≤ lows
+  pub equal : lows ≡ highs
+  pub equal₂ : highs ≡ costs
+
+pub room-good : (probes links needs lows highs costs : ℕ) → roomFault probes links needs lows highs costs ≡ 0 → Room probes links needs lows highs costs
+room-good probes links needs lows highs costs e =
+    let short = ltb lows links in
+    let unequal = not (eqb highs costs) || short in
+    let a = when-none (ltb needs probes || (not (eqb lows highs) || unequal)) 7 e in
+    let b = or-false-right (ltb needs probes) (not (eqb lows highs) || unequal) a in
+    let d = or-false-right (not (eqb lows highs)) unequal b in
+    record {
+      needed = ltb-false needs probes (or-false-left (ltb needs probes) (not (eqb lows highs) || unequal) a);
+      linked = ltb-false lows links (or-false-right (not (eqb highs costs)) short d);
+      equal = eqb-true lows highs (not-false (eqb lows highs) (or-false-left (not (eqb lows highs)) unequal b));
+      equal₂ = eqb-true highs costs (not-false (eqb highs costs) (or-false-left (not (eqb highs costs)) short d));
+    }
+
+-- How the code comes to a link's fault, by ends l and h that are its low and high.
+module _ (probes : ℕ) (low high : ℕ → ℕ) (i l h r : ℕ) (el : l ≡ low i) (eh : h ≡ high i) (e : r ≡ endsFault probes l h) where
+  abbrev order : ℕ
+  order = cond (eqb i 0) 0 (orderFault (low (i - 1)) (high (i - 1)) (low i) (high i))
+
+  ends : r ≡ endsFault probes (low i) (high i)
+  ends = e ∙ rw (el, eh)
+
+  pub link-not-ends : (r ≡ 0 → ⊥) → r ≡ linkFault probes low high i
+  unfolding linkFault
+  link-not-ends n = or-here r (endsFault probes (low i) (high i)) order ends n
+
+  pub link-alone : r ≡ 0 → i ≡ 0 → 0 ≡ linkFault probes low high i
+  unfolding linkFault
+  link-alone z k = or-next r (endsFault probes (low i) (high i)) order 0 ends z (rw (eq-eqb i 0 k))
+
+  pub link-after : r ≡ 0 → (i ≡ 0 → ⊥) → (l₀ h₀ q : ℕ) → l₀ ≡ low (i - 1) → h₀ ≡ high (i - 1) → q ≡ orderFault l₀ h₀ l h → q ≡ linkFault probes low high i
+  unfolding linkFault
+  link-after z k l₀ h₀ q el₀ eh₀ f = or-next r (endsFault probes (low i) (high i)) order q ends z (f ∙ rw (el₀, eh₀, el, eh, ne-eqb i 0 k))
+
+-- How the code comes to an answer.
+pub checking-fine : (r fault : ℕ) → r ≡ fault → r ≡ 0 → Fine ≡ checkingOf fault
+checking-fine r fault e z = rw (eq-eqb fault 0 (sym e ∙ z))
+
+pub checking-refused : (r fault : ℕ) → r ≡ fault → (r ≡ 0 → ⊥) → Refused r ≡ checkingOf fault
+checking-refused r fault e n = rw (e, ne-eqb fault 0 (λ z. n (e ∙ z)))

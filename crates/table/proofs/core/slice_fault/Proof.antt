@@ -1,0 +1,30 @@
+use borrow.Author.Needs.{needs}
+use Rattle.table.proofs.core.slice_fault.Statement.{statement}
+use Rattle.table.proofs.core.slice_fault.Tie as tie
+use Rattle.table.proofs.core.slice_fault.Reads as reads
+use Rattle.table.proofs.core.slice_fault.Lts as lts
+use Rattle.table.proofs.core.room_fault.Reads as room-fault-reads
+use Rattle.table.proofs.core.table_fault.Reads as table-fault-reads
+use native.Mathlib.Omega.{arith}
+use mathlib.Core.Path.{_∙_, sym}
+use lib.ListN.{length}
+use Rattle.range.proofs.Faults.{or-here, or-next}
+use Rattle.table.proofs.Faults.{room-good}
+
+room-fault-requires : tie.Need-room-fault-requires
+room-fault-requires c κs = search needs
+
+returns : tie.Need-returns
+returns c = or-here _ _ _ (c .before .room-fault .ensures) (c .if1 .taken)
+
+table-fault-requires : tie.Need-table-fault-requires
+table-fault-requires c κs =
+    let a = c .before .before .before .before .before .before .args in
+    let s = room-good (a .probes) (a .links) (length (a .needs .now)) (length (a .lows .now)) (length (a .highs .now)) (length (a .costs .now)) (sym (c .before .room-fault .ensures) ∙ c .if1 .left) in
+    (omega arith, omega arith, omega arith, omega arith, omega arith)
+
+returns-2 : tie.Need-returns-2
+returns-2 c = or-next _ _ _ _ (c .before .before .room-fault .ensures) (c .before .if1 .left) (c .table-fault .ensures)
+
+pub slice-fault-spec : {M : Type 1} → statement M
+slice-fault-spec = tie.close (tie.spec room-fault-requires returns table-fault-requires returns-2)

@@ -1,0 +1,4 @@
+pub mod Table
+pub mod Legal
+pub mod Text
+pub mod Checking

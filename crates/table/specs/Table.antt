@@ -1,0 +1,55 @@
+-- A site and the order of its links. The sentences are those of document 01, "Table and order".
+use Prim.Native.Nat.{ℕ, _-_}
+use mathlib.Core.Bool.{Bool, _&&_, _||_}
+use mathlib.Core.List.{List}
+use lib.Dec.{ltb, eqb}
+use lib.ListN.{getD}
+use Rattle.range.specs.Sum.{count}
+
+-- "A site has .. probes, numbered from 0, and .. links. A link joins a low probe to a higher one and has a cost .. Each probe has a need."
+-- Links are known by their place in the table, from 0.
+pub record Table : Type 0 where
+  pub number : ℕ
+  pub probes : ℕ
+  pub links : ℕ
+  pub need : ℕ → ℕ
+  pub low : ℕ → ℕ
+  pub high : ℕ → ℕ
+  pub cost : ℕ → ℕ
+
+-- the entry of a slice at a place
+abbrev pub item : List ℕ → ℕ → ℕ
+item xs i = getD xs i 0
+
+-- "A table in slices goes with its number, probe count and link count."
+abbrev pub ofSlices : ℕ → ℕ → ℕ → List ℕ → List ℕ → List ℕ → List ℕ → Table
+ofSlices number probes links needs lows highs costs =
+    record {
+      number = number;
+      probes = probes;
+      links = links;
+      need = item needs;
+      low = item lows;
+      high = item highs;
+      cost = item costs;
+    }
+
+-- v is an end of the link i
+abbrev pub touches : Table → ℕ → ℕ → Bool
+touches t v i = eqb v (t .low i) || eqb v (t .high i)
+
+-- the probe's number of links
+abbrev pub degree : Table → ℕ → ℕ
+degree t v = count (t .links) (touches t v)
+
+-- "Its spare is its number of links less its need."
+abbrev pub spare : Table → ℕ → ℕ
+spare t v = degree t v - t .need v
+
+-- "A link is dearer than another if its cost is larger; at equal cost, if its low end is larger; then if its high end is larger."
+unfoldable pub dearer : Table → ℕ → ℕ → Bool
+dearer t i j =
+    ltb (t .cost j) (t .cost i)
+    || (eqb (t .cost i) (t .cost j)
+    && (ltb (t .low j) (t .low i)
+    || (eqb (t .low i) (t .low j) && ltb (t .high j) (t .high i))))

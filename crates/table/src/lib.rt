@@ -1,0 +1,41 @@
+// A table in slices: whether it is legal.
+ghost use mathlib.Core.Path.{_≡_};
+ghost use Rattle.table.specs.Legal.{sliceFault};
+ghost use Rattle.table.specs.Checking.{checkingOf};
+
+pub mod core;
+
+// A table's answer: fine, or the number of its refusal.
+pub enum Checking {
+    Fine,
+    Refused(u8),
+}
+
+// Checks a table that is given in slices by its number, probe count and link count.
+pub fn check_table(
+    number: u16,
+    probes: u16,
+    links: u16,
+    needs: &[u16],
+    lows: &[u16],
+    highs: &[u16],
+    costs: &[u16],
+) -> Checking
+    ensures { λ r. ⌜ r ≡ checkingOf (sliceFault 256 2048 number probes links (now (needs .entry)) (now (lows .entry)) (now (highs .entry)) (now (costs .entry))) ⌝ }
+{
+    let fault = core::slice_fault(
+        256,
+        2048,
+        probes as usize,
+        links as usize,
+        needs,
+        lows,
+        highs,
+        costs,
+    );
+    if fault == 0 {
+        Checking::Fine
+    } else {
+        Checking::Refused(fault)
+    }
+}
