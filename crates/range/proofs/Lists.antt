@@ -44,3 +44,6 @@ unfolding stored
 stored-beyond f zero d i l = refl
 stored-beyond f (suc n) d i l =
     getD-set-other (stored f n d) n i (f n) 0 (λ (z : i ≡ n). omega arith) ∙ stored-beyond f n d i (omega arith)
+
+pub same-length : (f : ℕ → ℕ) (n : ℕ) (d e : List ℕ) → e ≡ stored f n d → length e ≡ length d
+same-length f n d e q = ap length q ∙ length-stored f n d

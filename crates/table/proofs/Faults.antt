@@ -3,7 +3,7 @@ use Prim.Native.Nat.{ℕ, _-_, _≤_, _<_}
 use mathlib.Core.Path.{_≡_, sym, _∙_}
 use mathlib.Core.Bool.{cond, not, _&&_, _||_}
 use lib.Dec.{ltb, eqb}
-use borrow.Author.Tests.{ltb-true, ltb-false, eqb-true, eqb-false, not-false, eq-eqb, ne-eqb}
+use borrow.Author.Tests.{ltb-true, ltb-false, eqb-true, eqb-false, not-false, eq-eqb, ne-eqb, le-ltb}
 use Rattle.range.specs.First.{orElse, first}
 use Rattle.range.proofs.Bools.{and-left, and-right, or-false-left, or-false-right, unless-none, when-none}
 use Rattle.range.proofs.Faults.{or-left, or-here, or-next, first-all}
@@ -46,6 +46,9 @@ size-good pmax lmax probes links e =
       few = ltb-false pmax probes (or-false-left (ltb pmax probes) (ltb lmax links) d);
       within = ltb-false lmax links (or-false-right (ltb pmax probes) (ltb lmax links) d);
     }
+
+pub good-size : (pmax lmax probes links : ℕ) → Size pmax lmax probes links → sizeFault pmax lmax probes links ≡ 0
+good-size pmax lmax probes links g = rw (ne-eqb probes 0 (g .some), le-ltb pmax probes (g .few), le-ltb lmax links (g .within))
 
 pub record Room (probes links needs lows highs costs : ℕ) : Type 0 where
   pub needed : probes ≤ needs

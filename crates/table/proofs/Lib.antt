@@ -1,2 +1,4 @@
 pub mod Faults
 pub mod Degrees
+pub mod Same
+pub mod Accepted

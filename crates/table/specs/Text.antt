@@ -76,13 +76,15 @@ abbrev pub headFault : ℕ → ℕ → List ℕ → ℕ
 headFault pmax lmax s = orElse (lineFault s 0 12) (sizeFault pmax lmax (ofText s .probes) (ofText s .links))
 
 -- "Text goes line by line: 1, 2, then 3, or 4 and 5. Then come 6, 7 and 8."
-unfoldable pub textFault : ℕ → ℕ → Bool → List ℕ → ℕ
-textFault pmax lmax more s =
+abbrev pub bodyFault : Bool → List ℕ → ℕ
+bodyFault more s =
     let t = ofText s in
-    orElse (headFault pmax lmax s)
-    (orElse (first (needLineFault s) (t .probes))
+    orElse (first (needLineFault s) (t .probes))
     (orElse (first (linkLineFault s) (t .links))
-    (orElse (closingFault more s (linkStart (t .probes) (t .links))) (first (needFault t) (t .probes)))))
+    (orElse (closingFault more s (linkStart (t .probes) (t .links))) (first (needFault t) (t .probes))))
+
+unfoldable pub textFault : ℕ → ℕ → Bool → List ℕ → ℕ
+textFault pmax lmax more s = orElse (headFault pmax lmax s) (bodyFault more s)
 
 -- where the closing line ends
 abbrev pub textEnd : Table → ℕ

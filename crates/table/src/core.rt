@@ -7,6 +7,9 @@ ghost use Rattle.range.specs.First.{first};
 ghost use Rattle.table.specs.Table.{item, ofSlices, degree};
 ghost use Rattle.table.specs.Legal.{sizeFault, endsFault, orderFault, linkFault, aboveFault, needFault, tableFault, roomFault, sliceFault};
 
+// The closing line: the text's reader compares with it, and the writers write it.
+pub const CLOSING: [u8; 5] = *b"ffff\n";
+
 pub fn wide(x: u16) -> usize
     ensures { λ r. ⌜ r ≡ x ⌝ }
 {

@@ -1,0 +1,5 @@
+pub mod Begins
+pub mod Closing
+pub mod Good
+pub mod Local
+pub mod Answers
