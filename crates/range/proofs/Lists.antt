@@ -1,18 +1,36 @@
 -- Laws of lists made over i < n.
-use Prim.Native.Nat.{ℕ, zero, suc, _+_, _≤_, _<_}
+use Prim.Native.Nat.{ℕ, zero, suc, _+_, _*_, _≤_, _<_}
 use mathlib.Core.Path.{_≡_, refl, sym, _∙_, ap}
-use mathlib.Core.List.{List}
+use mathlib.Core.List.{List, _++_}
 use native.Mathlib.Omega.{arith}
 use native.Mathlib.Numerals.{add-one}
 use native.Mathlib.Decide.{ℕ-discrete}
-use lib.ListN.{length, getD, set, replicate, length-set}
+use lib.ListN.{length, getD, set, replicate, length-set, length-append}
 use lib.Seq.{getD-set-same, getD-set-other}
-use Rattle.range.specs.Lists.{stored}
+use Rattle.range.specs.Lists.{joined, stored}
 
 pub zeros-at : (n v : ℕ) → getD {A = ℕ} (replicate n 0) v 0 ≡ 0
 zeros-at zero v = refl
 zeros-at (suc n) zero = refl
 zeros-at (suc n) (suc v) = zeros-at n v
+
+pub joined-next : (f : ℕ → List ℕ) (n : ℕ) → joined f (n + 1) ≡ joined f n ++ f n
+unfolding joined
+joined-next f n = rw (add-one n)
+
+pub joined-same : (f g : ℕ → List ℕ) (n : ℕ) → ((i : ℕ) → i < n → f i ≡ g i) → joined f n ≡ joined g n
+unfolding joined
+joined-same f g zero h = refl
+joined-same f g (suc n) h = rw (joined-same f g n (λ i l. h i (omega arith)), h n (omega arith))
+
+-- lists of one length w
+pub length-joined : (f : ℕ → List ℕ) (w n : ℕ) → ((i : ℕ) → length (f i) ≡ w) → length (joined f n) ≡ w * n
+unfolding joined
+length-joined f w zero h = omega arith
+length-joined f w (suc n) h =
+    let a = length-joined f w n h in
+    let b = h n in
+    length-append (joined f n) (f n) ∙ omega arith
 
 pub stored-next : (f : ℕ → ℕ) (n : ℕ) (d : List ℕ) → stored f (n + 1) d ≡ set (stored f n d) n (f n)
 unfolding stored

@@ -2,3 +2,4 @@ pub mod Faults
 pub mod Degrees
 pub mod Same
 pub mod Accepted
+pub mod Lengths

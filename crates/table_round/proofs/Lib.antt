@@ -1,0 +1,6 @@
+pub mod Parts
+pub mod Numbers
+pub mod Tables
+pub mod Fits
+pub mod Round
+pub mod Samples

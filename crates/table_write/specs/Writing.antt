@@ -1,0 +1,32 @@
+-- Writing the text of a table: the answer and the lent text.
+use Prim.Native.Nat.{ℕ}
+use mathlib.Core.Path.{_≡_}
+use mathlib.Core.Bool.{cond}
+use mathlib.Core.List.{List, _++_}
+use lib.Dec.{ltb, eqb}
+use lib.ListN.{length, drop}
+use Rattle.range.specs.First.{orElse}
+use Rattle.table.specs.Table.{Table, ofSlices}
+use Rattle.table.specs.Legal.{sliceFault}
+use Rattle.table.specs.Text.{textOf, textEnd}
+use Rattle.table_write.specs.declared.Writing.{Writing}
+use Rattle.table_write.specs.declared.Writing.the-variants.{Length, Refused}
+
+-- 8 for "a lent .. output slice too short", then the faults of the table's slices. `out` is the length of the lent text.
+abbrev pub writeFault : ℕ → ℕ → ℕ → ℕ → ℕ → List ℕ → List ℕ → List ℕ → List ℕ → ℕ → ℕ
+writeFault pmax lmax number probes links needs lows highs costs out =
+    orElse (cond (ltb out (textEnd (ofSlices number probes links needs lows highs costs))) 8 0)
+    (sliceFault pmax lmax number probes links needs lows highs costs)
+
+-- the answer: the text's length, or the number of the refusal alone
+abbrev pub writingOf : ℕ → Table → Writing
+writingOf fault t = cond (eqb fault 0) (Length (textEnd t)) (Refused fault)
+
+-- "Writing fills a lent text from its start; bytes beyond the closing line stay untouched." A refusal "changes no buffer".
+abbrev pub writtenOf : ℕ → Table → List ℕ → List ℕ
+writtenOf fault t d = cond (eqb fault 0) (textOf t ++ drop (length (textOf t)) d) d
+
+-- what a call answers, and what it leaves in the lent text
+pub record Writes (fault : ℕ) (t : Table) (answered : Writing) (before after : List ℕ) : Type 0 where
+  pub answer : answered ≡ writingOf fault t
+  pub out : after ≡ writtenOf fault t before
