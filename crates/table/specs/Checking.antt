@@ -8,3 +8,8 @@ use Rattle.table.specs.declared.Checking.the-variants.{Fine, Refused}
 -- the answer by the fault found: fine, or the number of the refusal alone
 abbrev pub checkingOf : ℕ → Checking
 checkingOf fault = cond (eqb fault 0) Fine (Refused fault)
+
+-- document 01's number of each answer, 0 where there is none
+abbrev pub refusalOf : Checking → ℕ
+refusalOf Fine = 0
+refusalOf (Refused refusal) = refusal
