@@ -1,0 +1,20 @@
+//! Links the planner's static library: from PLANNER_LIB_DIR, else from ../target/staticlib.
+
+use std::env;
+use std::path::{Path, PathBuf};
+
+fn main() {
+    let folder = match (
+        env::var_os("PLANNER_LIB_DIR"),
+        env::var_os("CARGO_MANIFEST_DIR"),
+    ) {
+        (Some(folder), _) => PathBuf::from(folder),
+        (None, Some(here)) => Path::new(&here).join("../target/staticlib"),
+        (None, None) => panic!("cargo sets CARGO_MANIFEST_DIR"),
+    };
+    let archive = folder.join("libexports.a");
+    println!("cargo:rustc-link-search=native={}", folder.display());
+    println!("cargo:rustc-link-lib=static=exports");
+    println!("cargo:rerun-if-env-changed=PLANNER_LIB_DIR");
+    println!("cargo:rerun-if-changed={}", archive.display());
+}

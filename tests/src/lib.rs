@@ -1,0 +1,8 @@
+//! A second implementation of the planner, and what the tests need to compare the library with it.
+
+pub mod buffer;
+pub mod compare;
+pub mod face;
+pub mod random;
+pub mod reference;
+pub mod sites;

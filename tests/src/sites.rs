@@ -1,0 +1,229 @@
+//! Sites to compare: 01's marked ones, random legal ones, and damaged ones.
+
+use crate::random::Random;
+use crate::reference::{Link, Slices, Table, MOST_LINKS, MOST_PROBES};
+
+/// The texts of M1 to M8, each as table 0001.
+pub const MARKED: [&str; 8] = [
+    "000100040003\n0000\n0001\n0001\n0000\n000000010005\n000100020005\n000200030005\nffff\n",
+    "000100040003\n0000\n0001\n0001\n0000\n000000010005\n000100020006\n000200030005\nffff\n",
+    "000100010000\n0000\nffff\n",
+    "000100020001\n0000\n0000\n000000010007\nffff\n",
+    "000100020001\n0001\n0000\n000000010007\nffff\n",
+    "000100030003\n0001\n0001\n0001\n000000010001\n000000020002\n000100020003\nffff\n",
+    "000100030003\n0001\n0001\n0001\n000000010004\n000000020004\n000100020004\nffff\n",
+    "000100040003\n0000\n0001\n0001\n0000\n000000010000\n000100020000\n000200030000\nffff\n",
+];
+
+pub const M2: &str = MARKED[1];
+
+/// A random legal table; most are small, some as large as may be.
+pub fn legal(random: &mut Random) -> Table {
+    let probes = match random.below(32) {
+        0 => MOST_PROBES,
+        1 => 1 + random.below(MOST_PROBES),
+        2..=7 => 1 + random.below(40),
+        _ => 1 + random.below(8),
+    };
+    let most = MOST_LINKS.min(probes * (probes - 1) / 2);
+    let links = match random.below(4) {
+        0 => most,
+        1 => random.below(most + 1) / 8,
+        _ => random.below(most + 1),
+    };
+    legal_of_size(probes, links, random)
+}
+
+/// A random legal table with these counts.
+pub fn legal_of_size(probes: usize, links: usize, random: &mut Random) -> Table {
+    let mut table = Table {
+        number: random.short(),
+        needs: vec![0; probes],
+        links: pairs(probes, links, random),
+    };
+    let (first, range) = random.pick(&[(0, 1), (7, 1), (0, 3), (65_534, 2), (0, 65_536)]);
+    for link in &mut table.links {
+        link.cost = (first + random.below(range)) as u16;
+    }
+    for probe in 0..probes {
+        let degree = table.degree(probe);
+        let need = random.below(degree + 1);
+        table.needs[probe] = random.pick(&[0, 1.min(degree), degree, need]) as u16;
+    }
+    table
+}
+
+/// So many of all pairs of probes, in rising order, at cost 0.
+fn pairs(probes: usize, links: usize, random: &mut Random) -> Vec<Link> {
+    let mut left = probes * (probes - 1) / 2;
+    let mut chosen = Vec::new();
+    for low in 0..probes as u16 {
+        for high in low + 1..probes as u16 {
+            if random.below(left) < links - chosen.len() {
+                chosen.push(Link { low, high, cost: 0 });
+            }
+            left -= 1;
+        }
+    }
+    chosen
+}
+
+/// Damages the table in a way that 4, 5 or 7 may refuse.
+pub fn damage_table(table: &mut Table, random: &mut Random) {
+    let probe = random.below(table.needs.len());
+    let links = table.links.len();
+    if links == 0 || random.one_in(4) {
+        table.needs[probe] = (table.degree(probe) + 1 + random.below(2)) as u16;
+        return;
+    }
+    let place = random.below(links);
+    let any = random.below(links);
+    let other = random.pick(&[(place + 1) % links, any]);
+    let link = table.links[place];
+    match random.below(7) {
+        0 => table.links[place].low = link.high,
+        1 => table.links[place].high = table.needs.len() as u16,
+        2 => table.links[place].high = random.short(),
+        3 => table.links[place].low = probe as u16,
+        4 => table.links[other] = link,
+        5 => table.links.swap(place, other),
+        _ => {
+            table.links[place].low = link.high;
+            table.links[place].high = link.low;
+        }
+    }
+}
+
+const BYTES: &[u8] = b"\n\n\r \0/09:@AFG`afgx\x7f\x80\xff";
+
+/// Damages the text in one place or a few.
+pub fn damage_text(text: &mut Vec<u8>, random: &mut Random) {
+    let place = random.below(text.len() + 1);
+    let (likely, any) = (random.pick(BYTES), random.byte());
+    let byte = random.pick(&[likely, any]);
+    match random.below(9) {
+        0 if place < text.len() => text[place] = byte,
+        1 if place < text.len() => text[place] = random.pick(b"0123456789abcdef"),
+        2 if place < text.len() => drop(text.remove(place)),
+        3 => text.insert(place, byte),
+        4 => text.truncate(place),
+        5 => text.extend(random.pick::<&[u8]>(&[b"ffff\n", b"\n", b"0", b"00000100000000\n"])),
+        6 => damage_header(text, random),
+        _ => damage_lines(text, random),
+    }
+}
+
+/// A count near the given one or near a limit, or any.
+fn other_count(old: u16, random: &mut Random) -> u16 {
+    let (more, less, any) = (old.wrapping_add(1), old.wrapping_sub(1), random.short());
+    random.pick(&[more, more, less, less, 0, 256, 257, 2048, 2049, 65_535, any])
+}
+
+/// Changes one of the header's numbers.
+fn damage_header(text: &mut [u8], random: &mut Random) {
+    let place = 4 * random.below(3);
+    let Some(digits) = text.get_mut(place..place + 4) else {
+        return;
+    };
+    let old = std::str::from_utf8(digits).unwrap_or("");
+    let old = u16::from_str_radix(old, 16).unwrap_or(0);
+    let new = other_count(old, random);
+    digits.copy_from_slice(format!("{new:04x}").as_bytes());
+}
+
+/// Swaps, repeats or drops a line.
+fn damage_lines(text: &mut Vec<u8>, random: &mut Random) {
+    let mut lines: Vec<&[u8]> = text.split_inclusive(|&byte| byte == b'\n').collect();
+    if lines.is_empty() {
+        return;
+    }
+    let line = random.below(lines.len());
+    let any = random.below(lines.len());
+    let other = random.pick(&[(line + 1) % lines.len(), any]);
+    match random.below(4) {
+        0 => lines.insert(other, lines[line]),
+        1 => drop(lines.remove(line)),
+        _ => lines.swap(line, other),
+    }
+    *text = lines.concat();
+}
+
+/// Lengths of needs, lows, highs and costs for these counts: often right, else short, unequal or
+/// longer.
+pub fn lengths(probes: usize, links: usize, random: &mut Random) -> [usize; 4] {
+    let right = [probes, links, links, links];
+    let which = random.below(4);
+    let (more, some) = (1 + random.below(4), random.below(links + 2));
+    let mut lengths = right;
+    match random.below(9) {
+        0 => lengths[which] = right[which].saturating_sub(1),
+        1 => lengths[which] += more,
+        2 => lengths = [probes, some, some, some],
+        3 => lengths = right.map(|length| length + more),
+        4 => lengths = right.map(|length| (length + random.below(3)).saturating_sub(1)),
+        _ => {}
+    }
+    lengths
+}
+
+/// A table in slices that can be damaged where a `Table` cannot.
+pub struct Numbers {
+    pub number: u16,
+    pub probes: u16,
+    pub links: u16,
+    /// Needs, lows, highs, costs.
+    pub entries: [Vec<u16>; 4],
+    /// How many of each are lent.
+    pub lent: [usize; 4],
+}
+
+impl Numbers {
+    pub fn of(table: &Table) -> Numbers {
+        let of_links = |number: fn(&Link) -> u16| table.links.iter().map(number).collect();
+        let entries = [
+            table.needs.clone(),
+            of_links(|link| link.low),
+            of_links(|link| link.high),
+            of_links(|link| link.cost),
+        ];
+        Numbers {
+            number: table.number,
+            probes: table.needs.len() as u16,
+            links: table.links.len() as u16,
+            lent: entries.each_ref().map(Vec::len),
+            entries,
+        }
+    }
+
+    /// Lends so many entries of each; those beyond the table's own are random.
+    pub fn lend(&mut self, lengths: [usize; 4], random: &mut Random) {
+        for (entries, length) in self.entries.iter_mut().zip(lengths) {
+            while entries.len() < length {
+                entries.push(random.short());
+            }
+        }
+        self.lent = lengths;
+    }
+
+    /// Changes one of the counts.
+    pub fn damage_counts(&mut self, random: &mut Random) {
+        let count = match random.one_in(2) {
+            true => &mut self.probes,
+            false => &mut self.links,
+        };
+        *count = other_count(*count, random);
+    }
+
+    pub fn slices(&self) -> Slices<'_> {
+        let lent = |which: usize| &self.entries[which][..self.lent[which]];
+        Slices {
+            number: self.number,
+            probes: self.probes,
+            links: self.links,
+            needs: lent(0),
+            lows: lent(1),
+            highs: lent(2),
+            costs: lent(3),
+        }
+    }
+}

@@ -1,0 +1,80 @@
+//! Random and damaged tables in slices, checked and written by both.
+
+use planner_tests::compare;
+use planner_tests::random::Random;
+use planner_tests::reference::{text_length, Behind};
+use planner_tests::sites::{self, Numbers};
+
+const CASES: u64 = 12_000;
+
+/// A length for the text: right, one too short, longer, or any up to right.
+fn out_length(numbers: &Numbers, random: &mut Random) -> usize {
+    let right = text_length(numbers.probes.into(), numbers.links.into());
+    let (longer, shorter) = (random.below(40), random.below(right));
+    random.pick(&[right, right, right, right - 1, right + longer, shorter])
+}
+
+/// Checks and writes; a written text is read back as the same table.
+fn check_and_write(numbers: &Numbers, random: &mut Random) -> (Result<(), u8>, bool) {
+    let checked = compare::check(numbers.slices());
+    let length = out_length(numbers, random);
+    let written = compare::write(numbers.slices(), length, random);
+    if let Ok(text) = &written {
+        let (probes, links) = (numbers.probes.into(), numbers.links.into());
+        let fit = [probes, links, links, links];
+        let read = compare::read(text, Behind::Nothing, fit, random);
+        let back = Numbers::of(&read.expect("a written text can be read"));
+        assert_eq!(back.number, numbers.number);
+        assert_eq!((back.probes, back.links), (numbers.probes, numbers.links));
+        for (read, given) in back.entries.iter().zip(&numbers.entries) {
+            assert!(given.starts_with(read));
+        }
+    }
+    (checked, written.is_ok())
+}
+
+#[test]
+fn legal_tables() {
+    let (mut fine, mut writes) = (0, 0);
+    for seed in 0..CASES {
+        let mut random = Random::new(4 << 32 | seed);
+        let table = sites::legal(&mut random);
+        let (probes, links) = (table.needs.len(), table.links.len());
+        let mut numbers = Numbers::of(&table);
+        let lengths = sites::lengths(probes, links, &mut random);
+        numbers.lend(lengths, &mut random);
+        let (checked, written) = check_and_write(&numbers, &mut random);
+        assert!(matches!(checked, Ok(()) | Err(8)));
+        assert!(checked.is_ok() || !written);
+        fine += checked.is_ok() as usize;
+        writes += written as usize;
+    }
+    assert!(fine > 6_000 && writes > 3_000, "{fine} {writes}");
+}
+
+#[test]
+fn damaged_tables() {
+    let mut tally = [0; 9];
+    for seed in 0..CASES {
+        let mut random = Random::new(5 << 32 | seed);
+        let mut table = sites::legal(&mut random);
+        for _ in 0..random.below(3) {
+            sites::damage_table(&mut table, &mut random);
+        }
+        let mut numbers = Numbers::of(&table);
+        if random.one_in(3) {
+            numbers.damage_counts(&mut random);
+        }
+        let true_counts = (table.needs.len(), table.links.len());
+        let told_counts = (numbers.probes.into(), numbers.links.into());
+        let (probes, links) = random.pick(&[true_counts, told_counts]);
+        let lengths = sites::lengths(probes, links, &mut random);
+        numbers.lend(lengths, &mut random);
+        let (checked, _) = check_and_write(&numbers, &mut random);
+        tally[checked.err().unwrap_or(0) as usize] += 1;
+    }
+    assert!(
+        [0, 3, 4, 5, 7, 8].iter().all(|&answer| tally[answer] > 300),
+        "{tally:?}"
+    );
+}

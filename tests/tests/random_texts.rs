@@ -1,0 +1,98 @@
+//! Random and damaged texts, read both ways by the library and by the second implementation.
+
+use planner_tests::compare;
+use planner_tests::random::Random;
+use planner_tests::reference::{Behind, Table};
+use planner_tests::sites::{self, Numbers};
+
+const CASES: u64 = 12_000;
+
+/// How often each refusal came; 0 stands for accepted.
+type Tally = [usize; 9];
+
+/// Reads the text both ways and writes what was read back.
+fn read_both_ways(text: &[u8], lengths: [usize; 4], random: &mut Random, tally: &mut Tally) {
+    for behind in [Behind::Nothing, Behind::Anything] {
+        let read = compare::read(text, behind, lengths, random);
+        tally[read.as_ref().err().copied().unwrap_or(0) as usize] += 1;
+        let Ok(table) = read else {
+            continue;
+        };
+        let written = compare::write(Numbers::of(&table).slices(), text.len(), random);
+        let written = written.expect("a table read can be written");
+        match behind {
+            Behind::Nothing => assert!(written == text),
+            Behind::Anything => assert!(text.starts_with(&written)),
+        }
+    }
+}
+
+fn lengths(table: &Table, random: &mut Random) -> [usize; 4] {
+    sites::lengths(table.needs.len(), table.links.len(), random)
+}
+
+#[test]
+fn legal_texts() {
+    let mut tally = Tally::default();
+    for seed in 0..CASES {
+        let mut random = Random::new(seed);
+        let table = sites::legal(&mut random);
+        let lengths = lengths(&table, &mut random);
+        read_both_ways(&table.text(), lengths, &mut random, &mut tally);
+    }
+    assert_eq!(tally[1..8], [0; 7]);
+    assert!(tally[0] > 10_000 && tally[8] > 1_000, "{tally:?}");
+}
+
+#[test]
+fn texts_of_damaged_tables() {
+    let mut tally = Tally::default();
+    for seed in 0..CASES {
+        let mut random = Random::new(1 << 32 | seed);
+        let mut table = sites::legal(&mut random);
+        for _ in 0..1 + random.below(3) {
+            sites::damage_table(&mut table, &mut random);
+        }
+        let lengths = lengths(&table, &mut random);
+        read_both_ways(&table.text(), lengths, &mut random, &mut tally);
+    }
+    assert!(
+        [4, 5, 7].iter().all(|&refusal| tally[refusal] > 1_000),
+        "{tally:?}"
+    );
+}
+
+#[test]
+fn damaged_texts() {
+    let mut tally = Tally::default();
+    for seed in 0..CASES {
+        let mut random = Random::new(2 << 32 | seed);
+        let mut table = sites::legal(&mut random);
+        if random.one_in(4) {
+            sites::damage_table(&mut table, &mut random);
+        }
+        let mut text = table.text();
+        for _ in 0..1 + random.below(3) {
+            sites::damage_text(&mut text, &mut random);
+        }
+        let lengths = lengths(&table, &mut random);
+        read_both_ways(&text, lengths, &mut random, &mut tally);
+    }
+    assert!(tally.iter().all(|&times| times > 100), "{tally:?}");
+}
+
+#[test]
+fn texts_of_any_bytes() {
+    let mut tally = Tally::default();
+    for seed in 0..CASES {
+        let mut random = Random::new(3 << 32 | seed);
+        let alphabet = random.pick::<&[u8]>(&[b"01f\n", b"000000000000\n", b"0fF \n\r\0\xff"]);
+        let header = random.pick::<&[u8]>(&[b"", b"000100010000\n", b"ffff00020001\n"]);
+        let mut text = header.to_vec();
+        for _ in 0..random.below(60) {
+            text.push(random.pick(alphabet));
+        }
+        read_both_ways(&text, [2, 1, 1, 1], &mut random, &mut tally);
+    }
+    assert!(tally[1] > 1_000, "{tally:?}");
+}

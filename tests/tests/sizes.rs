@@ -1,0 +1,143 @@
+//! The largest sizes, and one more.
+
+use planner_tests::compare;
+use planner_tests::random::Random;
+use planner_tests::reference::{Behind, Link, Table};
+use planner_tests::sites::{legal_of_size, Numbers};
+
+const LENT: [usize; 4] = [300, 2100, 2100, 2100];
+const BOTH: [Behind; 2] = [Behind::Nothing, Behind::Anything];
+
+/// The legal table is read from its text and written back the same, into slices that just fit
+/// and into longer ones.
+#[track_caller]
+fn round_trip(table: &Table, random: &mut Random) {
+    let text = table.text();
+    let mut numbers = Numbers::of(table);
+    for behind in BOTH {
+        for lengths in [numbers.lent, LENT] {
+            assert_eq!(
+                compare::read(&text, behind, lengths, random).as_ref(),
+                Ok(table)
+            );
+        }
+    }
+    for lengths in [numbers.lent, LENT] {
+        numbers.lend(lengths, random);
+        assert_eq!(compare::check(numbers.slices()), Ok(()));
+        for length in [text.len(), text.len() + 1, 30_000] {
+            let written = compare::write(numbers.slices(), length, random);
+            assert_eq!(written.as_ref(), Ok(&text));
+        }
+        let short = compare::write(numbers.slices(), text.len() - 1, random);
+        assert_eq!(short, Err(8));
+    }
+}
+
+#[track_caller]
+fn refused_by_3(table: &Table, random: &mut Random) {
+    let text = table.text();
+    for behind in BOTH {
+        assert_eq!(compare::read(&text, behind, LENT, random), Err(3));
+        // The header alone decides.
+        assert_eq!(compare::read(&text[..13], behind, LENT, random), Err(3));
+    }
+    let numbers = Numbers::of(table);
+    assert_eq!(compare::check(numbers.slices()), Err(3));
+    let written = compare::write(numbers.slices(), text.len(), random);
+    assert_eq!(written, Err(3));
+}
+
+#[test]
+fn longest_text() {
+    let mut random = Random::new(6);
+    for _ in 0..20 {
+        let table = legal_of_size(256, 2048, &mut random);
+        assert_eq!(table.text().len(), 27_922);
+        round_trip(&table, &mut random);
+    }
+}
+
+#[test]
+fn longest_text_without_its_last_bytes() {
+    let mut random = Random::new(7);
+    let text = legal_of_size(256, 2048, &mut random).text();
+    for behind in BOTH {
+        for (length, refusal) in [(27_921, 6), (27_917, 6), (27_916, 1), (27_904, 1)] {
+            let read = compare::read(&text[..length], behind, LENT, &mut random);
+            assert_eq!(read, Err(refusal));
+        }
+        for short in [[255, 2048, 2048, 2048], [256, 2047, 2047, 2047]] {
+            assert_eq!(compare::read(&text, behind, short, &mut random), Err(8));
+        }
+    }
+}
+
+#[test]
+fn one_probe_more() {
+    let mut random = Random::new(8);
+    for links in [0, 1, 2048] {
+        round_trip(&legal_of_size(256, links, &mut random), &mut random);
+        refused_by_3(&legal_of_size(257, links, &mut random), &mut random);
+    }
+}
+
+#[test]
+fn one_link_more() {
+    let mut random = Random::new(9);
+    for probes in [65, 100, 256] {
+        round_trip(&legal_of_size(probes, 2048, &mut random), &mut random);
+        refused_by_3(&legal_of_size(probes, 2049, &mut random), &mut random);
+    }
+}
+
+#[test]
+fn small_sizes() {
+    let mut random = Random::new(10);
+    for probes in 1..=12 {
+        for links in 0..=probes * (probes - 1) / 2 {
+            round_trip(&legal_of_size(probes, links, &mut random), &mut random);
+        }
+    }
+}
+
+/// A star: probe 0 has 255 links, each other probe one.
+fn star(last_need: u16) -> Table {
+    let cost = 65_535;
+    let links = (1..256).map(|high| Link { low: 0, high, cost });
+    let mut needs = vec![1; 256];
+    (needs[0], needs[255]) = (255, last_need);
+    Table {
+        number: 65_535,
+        needs,
+        links: links.collect(),
+    }
+}
+
+#[test]
+fn need_equal_to_the_links_and_one_above() {
+    let mut random = Random::new(11);
+    round_trip(&star(1), &mut random);
+    let above = star(2);
+    for behind in BOTH {
+        let read = compare::read(&above.text(), behind, LENT, &mut random);
+        assert_eq!(read, Err(7));
+    }
+    assert_eq!(compare::check(Numbers::of(&above).slices()), Err(7));
+}
+
+#[test]
+fn highest_counts_a_header_can_hold() {
+    let mut random = Random::new(12);
+    let mut numbers = Numbers::of(&star(1));
+    (numbers.probes, numbers.links) = (65_535, 65_535);
+    let length = 13 + 18 * 65_535 + 5;
+    for (lent, refusal) in [(65_535, 3), (65_534, 8)] {
+        numbers.lend([lent; 4], &mut random);
+        assert_eq!(compare::check(numbers.slices()), Err(refusal));
+        let written = compare::write(numbers.slices(), length, &mut random);
+        assert_eq!(written, Err(refusal));
+        let short = compare::write(numbers.slices(), length - 1, &mut random);
+        assert_eq!(short, Err(8));
+    }
+}
