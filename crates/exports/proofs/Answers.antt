@@ -7,9 +7,9 @@ use native.Mathlib.Omega.{arith}
 use lib.Dec.{eqb}
 use Rattle.table.specs.Table.{Table as Site}
 use Rattle.table.specs.Text.{textEnd}
-use Rattle.table_read.specs.Reading.{readingOf, Reads}
+use Rattle.table_read.specs.Reading.{Reads}
 use Rattle.table_read.specs.declared.Reading.{Reading}
-use Rattle.table_write.specs.Writing.{writingOf, Writes}
+use Rattle.table_write.specs.Writing.{Writes}
 use Rattle.table_write.specs.declared.Writing.{Writing}
 use Rattle.table_write.specs.declared.Writing.the-variants.{Length, Refused}
 use Rattle.exports.specs.Packed.{packedReading, packedWriting, ReadsPacked, WritesPacked}

@@ -1,5 +1,5 @@
 -- Lines that are there, and lines of digits that have no fault.
-use Prim.Native.Nat.{ℕ, _+_, _≤_, _<_}
+use Prim.Native.Nat.{ℕ, _+_, _<_}
 use mathlib.Core.Path.{_≡_, refl, sym, _∙_, ap}
 use mathlib.Core.Bool.{Bool, true, false, cond}
 use mathlib.Core.List.{List}
@@ -8,9 +8,9 @@ use lib.Dec.{ltb, eqb}
 use lib.ListN.{length, getD, drop, length-drop}
 use lib.Seq.{getD-drop}
 use borrow.Author.Tests.{ltb-true, lt-ltb, eqb-true, eq-eqb, ne-eqb}
-use Rattle.range.specs.First.{orElse, first}
+use Rattle.range.specs.First.{first}
 use Rattle.range.proofs.Bools.{unless-none}
-use Rattle.range.proofs.Faults.{or-left, or-right, or-none, first-all, none-first}
+use Rattle.range.proofs.Faults.{or-left, or-right, first-all, none-first}
 use Rattle.hex.specs.Digits.{valueOf}
 use Rattle.lines.specs.Line.{untilFeed, lineAt}
 use Rattle.lines.specs.Digits.{lengthFault, digitFault, lineFault}

@@ -4,7 +4,7 @@ use mathlib.Core.Path.{_≡_, sym, _∙_}
 use mathlib.Core.Bool.{cond, not, _&&_, _||_}
 use lib.Dec.{ltb, eqb}
 use borrow.Author.Tests.{ltb-true, ltb-false, eqb-true, eqb-false, not-false, eq-eqb, ne-eqb, le-ltb}
-use Rattle.range.specs.First.{orElse, first}
+use Rattle.range.specs.First.{first}
 use Rattle.range.proofs.Bools.{and-left, and-right, or-false-left, or-false-right, unless-none, when-none}
 use Rattle.range.proofs.Faults.{or-left, or-here, or-next, first-all}
 use Rattle.table.specs.Checking.{checkingOf}

@@ -1,9 +1,9 @@
 -- How the code comes to its answer.
 use Prim.Native.Nat.{ℕ}
-use mathlib.Core.Path.{_≡_, refl, sym, _∙_}
+use mathlib.Core.Path.{_≡_, _∙_}
 use mathlib.Core.Bool.{Bool}
 use mathlib.Core.List.{List}
-use borrow.Author.Tests.{eq-eqb, ne-eqb}
+use borrow.Author.Tests.{ne-eqb}
 use Rattle.range.proofs.Faults.{or-left, or-right}
 use Rattle.table.specs.Table.{Table}
 use Rattle.table.specs.Legal.{roomFault}

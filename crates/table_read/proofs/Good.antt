@@ -1,16 +1,16 @@
 -- What the checks of a text give to the code behind them.
 use Prim.Native.Nat.{ℕ, _+_, _-_, _*_, _^_, _≤_, _<_}
-use mathlib.Core.Path.{_≡_, refl, sym, _∙_, ap}
+use mathlib.Core.Path.{_≡_, _∙_, ap}
 use mathlib.Core.Bool.{Bool}
 use mathlib.Core.List.{List}
 use native.Mathlib.Omega.{arith}
 use native.Mathlib.Decide.{decLt}
-use lib.ListN.{length, getD}
-use Rattle.range.specs.First.{orElse, first}
+use lib.ListN.{length}
+use Rattle.range.specs.First.{first}
 use Rattle.range.proofs.Faults.{or-here, or-next, or-left, or-right, first-all, none-first}
 use Rattle.range.specs.Lists.{stored}
 use Rattle.range.proofs.Lists.{stored-same}
-use Rattle.hex.specs.Digits.{valueOf, numberAt}
+use Rattle.hex.specs.Digits.{numberAt}
 use Rattle.hex.proofs.Laws.{number-fits}
 use Rattle.lines.specs.Digits.{lineFault}
 use Rattle.lines.proofs.Lines.{GoodLine, line-good}

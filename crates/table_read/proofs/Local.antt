@@ -1,6 +1,6 @@
 -- The table of a text, where its needs, lows and highs stand in local arrays.
 use Prim.Native.Nat.{ℕ, _+_, _*_, _≤_, _<_}
-use mathlib.Core.Path.{_≡_, refl, sym, _∙_, ap}
+use mathlib.Core.Path.{_≡_, _∙_, ap}
 use mathlib.Core.Bool.{_||_}
 use mathlib.Core.List.{List, []}
 use lib.Dec.{eqb}

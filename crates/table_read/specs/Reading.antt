@@ -1,13 +1,12 @@
 -- What reading a text promises: the answer, and the lent slices at exit.
 use Prim.Native.Nat.{ℕ}
 use mathlib.Core.Path.{_≡_}
-use mathlib.Core.Bool.{Bool, cond}
+use mathlib.Core.Bool.{cond}
 use mathlib.Core.List.{List}
 use lib.Dec.{eqb}
-use lib.ListN.{length}
 use Rattle.range.specs.Lists.{stored}
 use Rattle.table.specs.Table.{Table}
-use Rattle.table.specs.Text.{ofText, textEnd, readFault}
+use Rattle.table.specs.Text.{textEnd}
 use Rattle.table_read.specs.declared.Reading.{Reading}
 use Rattle.table_read.specs.declared.Reading.the-variants.{Table as Read, Refused}
 

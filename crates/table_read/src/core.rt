@@ -4,7 +4,7 @@ ghost use mathlib.Core.Path.{_≡_};
 ghost use mathlib.Core.Bool.{true};
 ghost use Prim.Native.Nat.{ℕ, _+_, _*_, _<_, _≤_};
 ghost use lib.ListN.{length, drop};
-ghost use Rattle.range.specs.First.{orElse, first};
+ghost use Rattle.range.specs.First.{first};
 ghost use Rattle.range.specs.Lists.{stored};
 ghost use Rattle.hex.specs.Digits.{numberAt};
 ghost use Rattle.table.specs.Legal.{needFault, roomFault};

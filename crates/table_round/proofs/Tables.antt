@@ -1,10 +1,7 @@
 -- The lines of a table; tables with the same entries have the same text and the same fault.
-use Prim.Native.Nat.{ℕ, zero, suc, _-_, _*_, _<_}
+use Prim.Native.Nat.{ℕ}
 use mathlib.Core.Path.{_≡_, refl}
-use mathlib.Core.Bool.{cond}
 use mathlib.Core.List.{List, [], _∷_, _++_}
-use native.Mathlib.Omega.{arith}
-use lib.ListN.{length, length-append}
 use Rattle.range.specs.First.{orElse, first}
 use Rattle.range.specs.Lists.{joined}
 use Rattle.range.proofs.Lists.{joined-same}

@@ -1,8 +1,7 @@
+-- `exports::packed_reading` meets its contract.
 use borrow.Author.Needs.{needs}
 use Rattle.exports.proofs.packed_reading.Statement.{statement}
 use Rattle.exports.proofs.packed_reading.Tie as tie
-use Rattle.exports.proofs.packed_reading.Reads as reads
-use Rattle.exports.proofs.packed_reading.Lts as lts
 
 enum-known-r : tie.Need-enum-known-r
 enum-known-r c = search needs

@@ -1,9 +1,7 @@
+-- `exports::planner_check_table` meets its contract.
 use borrow.Author.Needs.{needs}
 use Rattle.exports.proofs.planner_check_table.Statement.{statement}
 use Rattle.exports.proofs.planner_check_table.Tie as tie
-use Rattle.exports.proofs.planner_check_table.Reads as reads
-use Rattle.exports.proofs.planner_check_table.Lts as lts
-use Rattle.table.proofs.check_table.Reads as check-table-reads
 use mathlib.Core.Path.{sym, _∙_, ap}
 use Rattle.table.specs.Checking.{refusalOf}
 

@@ -1,10 +1,7 @@
+-- `exports::planner_read_table` meets its contract.
 use borrow.Author.Needs.{needs}
 use Rattle.exports.proofs.planner_read_table.Statement.{statement}
 use Rattle.exports.proofs.planner_read_table.Tie as tie
-use Rattle.exports.proofs.planner_read_table.Reads as reads
-use Rattle.exports.proofs.planner_read_table.Lts as lts
-use Rattle.exports.proofs.packed_reading.Reads as packed-reading-reads
-use Rattle.table_read.proofs.read_table.Reads as read-table-reads
 use Rattle.table.specs.Text.{ofText}
 use Rattle.exports.proofs.Answers.{reads-packed}
 

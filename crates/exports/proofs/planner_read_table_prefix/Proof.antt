@@ -1,10 +1,7 @@
+-- `exports::planner_read_table_prefix` meets its contract.
 use borrow.Author.Needs.{needs}
 use Rattle.exports.proofs.planner_read_table_prefix.Statement.{statement}
 use Rattle.exports.proofs.planner_read_table_prefix.Tie as tie
-use Rattle.exports.proofs.planner_read_table_prefix.Reads as reads
-use Rattle.exports.proofs.planner_read_table_prefix.Lts as lts
-use Rattle.exports.proofs.packed_reading.Reads as packed-reading-reads
-use Rattle.table_read.proofs.read_table_prefix.Reads as read-table-prefix-reads
 use Rattle.table.specs.Text.{ofText}
 use Rattle.exports.proofs.Answers.{reads-packed}
 

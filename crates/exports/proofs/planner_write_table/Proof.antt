@@ -1,9 +1,7 @@
+-- `exports::planner_write_table` meets its contract.
 use borrow.Author.Needs.{needs}
 use Rattle.exports.proofs.planner_write_table.Statement.{statement}
 use Rattle.exports.proofs.planner_write_table.Tie as tie
-use Rattle.exports.proofs.planner_write_table.Reads as reads
-use Rattle.exports.proofs.planner_write_table.Lts as lts
-use Rattle.table_write.proofs.write_table.Reads as write-table-reads
 use native.Mathlib.Omega.{arith}
 use Rattle.table.specs.Table.{ofSlices}
 use Rattle.exports.proofs.Answers.{writes-packed, length-is}

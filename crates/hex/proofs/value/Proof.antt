@@ -1,8 +1,7 @@
+-- `hex::value` meets its contract.
 use borrow.Author.Needs.{needs}
 use Rattle.hex.proofs.value.Statement.{statement}
 use Rattle.hex.proofs.value.Tie as tie
-use Rattle.hex.proofs.value.Reads as reads
-use Rattle.hex.proofs.value.Lts as lts
 use mathlib.Core.List.{List, [], _∷_}
 use mathlib.Core.Bool.{Bool}
 use Prim.Native.Nat.{ℕ}

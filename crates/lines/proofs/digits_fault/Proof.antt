@@ -1,11 +1,9 @@
+-- `lines::digits_fault` meets its contract.
 use borrow.Author.Needs.{needs}
 use Rattle.lines.proofs.digits_fault.Statement.{statement}
 use Rattle.lines.proofs.digits_fault.Tie as tie
-use Rattle.lines.proofs.digits_fault.Reads as reads
-use Rattle.lines.proofs.digits_fault.Lts as lts
-use Rattle.hex.proofs.value.Reads as value-reads
 use Prim.Native.Nat.{ℕ, _+_, _-_, _≤_}
-use mathlib.Core.Path.{_≡_, refl, sym, _∙_, ap}
+use mathlib.Core.Path.{_≡_, refl, sym, _∙_}
 use mathlib.Core.List.{List}
 use native.Mathlib.Omega.{arith}
 use lib.ListN.{getD}

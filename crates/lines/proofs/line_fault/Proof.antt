@@ -1,11 +1,7 @@
+-- `lines::line_fault` meets its contract.
 use borrow.Author.Needs.{needs}
 use Rattle.lines.proofs.line_fault.Statement.{statement}
 use Rattle.lines.proofs.line_fault.Tie as tie
-use Rattle.lines.proofs.line_fault.Reads as reads
-use Rattle.lines.proofs.line_fault.Lts as lts
-use Rattle.lines.proofs.digits_fault.Reads as digits-fault-reads
-use Rattle.lines.proofs.find_line.Reads as find-line-reads
-use Prim.Native.Nat.{ℕ}
 use mathlib.Core.Path.{_≡_, sym, _∙_, ap}
 use native.Mathlib.Omega.{arith}
 use Rattle.lines.specs.declared.Found.{Found}

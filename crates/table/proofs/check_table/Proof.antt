@@ -1,9 +1,7 @@
+-- `table::check_table` meets its contract.
 use borrow.Author.Needs.{needs}
 use Rattle.table.proofs.check_table.Statement.{statement}
 use Rattle.table.proofs.check_table.Tie as tie
-use Rattle.table.proofs.check_table.Reads as reads
-use Rattle.table.proofs.check_table.Lts as lts
-use Rattle.table.proofs.core.slice_fault.Reads as slice-fault-reads
 use Rattle.table.proofs.Faults.{checking-fine, checking-refused}
 
 slice-fault-requires : tie.Need-slice-fault-requires

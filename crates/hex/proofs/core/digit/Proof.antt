@@ -1,8 +1,7 @@
+-- `hex::core::digit` meets its contract.
 use borrow.Author.Needs.{needs}
 use Rattle.hex.proofs.core.digit.Statement.{statement}
 use Rattle.hex.proofs.core.digit.Tie as tie
-use Rattle.hex.proofs.core.digit.Reads as reads
-use Rattle.hex.proofs.core.digit.Lts as lts
 use borrow.Author.Tests.{lt-ltb, le-ltb}
 use Rattle.hex.specs.Digits.{digitOf}
 

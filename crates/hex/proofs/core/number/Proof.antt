@@ -1,14 +1,11 @@
+-- `hex::core::number` meets its contract.
 use borrow.Author.Needs.{needs}
 use Rattle.hex.proofs.core.number.Statement.{statement}
 use Rattle.hex.proofs.core.number.Tie as tie
-use Rattle.hex.proofs.core.number.Reads as reads
-use Rattle.hex.proofs.core.number.Lts as lts
-use Rattle.hex.proofs.core.wide.Reads as wide-reads
-use Rattle.hex.proofs.value.Reads as value-reads
-use Prim.Native.Nat.{_+_, _-_, _≤_}
-use mathlib.Core.Path.{_≡_, refl, sym, _∙_, ap}
+use Prim.Native.Nat.{_-_, _≤_}
+use mathlib.Core.Path.{_≡_, refl}
 use native.Mathlib.Omega.{arith}
-use Rattle.hex.specs.Digits.{numberAt, valueOf}
+use Rattle.hex.specs.Digits.{numberAt}
 use Rattle.hex.proofs.Laws.{number-next, number-bound, value-le}
 
 abbrev Inv-loop : tie.InvT-loop

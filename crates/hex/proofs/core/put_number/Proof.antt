@@ -1,13 +1,10 @@
+-- `hex::core::put_number` meets its contract.
 use borrow.Author.Needs.{needs}
 use Rattle.hex.proofs.core.put_number.Statement.{statement}
 use Rattle.hex.proofs.core.put_number.Tie as tie
-use Rattle.hex.proofs.core.put_number.Reads as reads
-use Rattle.hex.proofs.core.put_number.Lts as lts
-use Rattle.hex.proofs.core.digit.Reads as digit-reads
-use Prim.Native.Nat.{_+_, _-_, _%_, _/_, _≤_}
-use mathlib.Core.Path.{_≡_, refl, sym, _∙_, ap}
+use Prim.Native.Nat.{_≤_}
+use mathlib.Core.Path.{_≡_, refl}
 use native.Mathlib.Omega.{arith}
-use native.Mathlib.Numerals.{add-one}
 use lib.ListN.{length, length-set}
 use lib.Seq.{sets}
 use Rattle.hex.specs.Digits.{digits}

@@ -1,12 +1,9 @@
+-- `table::core::count_degrees` meets its contract.
 use borrow.Author.Needs.{needs}
 use Rattle.table.proofs.core.count_degrees.Statement.{statement}
 use Rattle.table.proofs.core.count_degrees.Tie as tie
-use Rattle.table.proofs.core.count_degrees.Reads as reads
-use Rattle.table.proofs.core.count_degrees.Lts as lts
-use Rattle.table.proofs.core.add_one.Reads as add-one-reads
-use Rattle.table.proofs.core.wide.Reads as wide-reads
-use Prim.Native.Nat.{ℕ, _+_, _-_, _≤_, _<_}
-use mathlib.Core.Path.{_≡_, refl, sym, _∙_, ap}
+use Prim.Native.Nat.{ℕ, _-_, _≤_, _<_}
+use mathlib.Core.Path.{_≡_, refl, _∙_, ap}
 use native.Mathlib.Omega.{arith}
 use lib.ListN.{length, getD, length-set}
 use lib.Seq.{getD-set-other}

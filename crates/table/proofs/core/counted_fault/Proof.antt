@@ -1,8 +1,7 @@
+-- `table::core::counted_fault` meets its contract.
 use borrow.Author.Needs.{needs}
 use Rattle.table.proofs.core.counted_fault.Statement.{statement}
 use Rattle.table.proofs.core.counted_fault.Tie as tie
-use Rattle.table.proofs.core.counted_fault.Reads as reads
-use Rattle.table.proofs.core.counted_fault.Lts as lts
 use Prim.Native.Nat.{ℕ, _-_, _≤_}
 use mathlib.Core.Path.{_≡_, refl, sym, _∙_}
 use mathlib.Core.List.{List}

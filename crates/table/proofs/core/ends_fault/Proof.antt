@@ -1,8 +1,6 @@
-use borrow.Author.Needs.{needs}
+-- `table::core::ends_fault` meets its contract.
 use Rattle.table.proofs.core.ends_fault.Statement.{statement}
 use Rattle.table.proofs.core.ends_fault.Tie as tie
-use Rattle.table.proofs.core.ends_fault.Reads as reads
-use Rattle.table.proofs.core.ends_fault.Lts as lts
 use borrow.Author.Tests.{lt-ltb, le-ltb}
 
 returns : tie.Need-returns

@@ -1,11 +1,7 @@
+-- `table::core::link_fault` meets its contract.
 use borrow.Author.Needs.{needs}
 use Rattle.table.proofs.core.link_fault.Statement.{statement}
 use Rattle.table.proofs.core.link_fault.Tie as tie
-use Rattle.table.proofs.core.link_fault.Reads as reads
-use Rattle.table.proofs.core.link_fault.Lts as lts
-use Rattle.table.proofs.core.ends_fault.Reads as ends-fault-reads
-use Rattle.table.proofs.core.order_fault.Reads as order-fault-reads
-use Rattle.table.proofs.core.wide.Reads as wide-reads
 use Rattle.table.specs.Table.{item}
 use Rattle.table.proofs.Faults.{link-not-ends, link-alone, link-after}
 

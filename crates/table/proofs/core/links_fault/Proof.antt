@@ -1,9 +1,7 @@
+-- `table::core::links_fault` meets its contract.
 use borrow.Author.Needs.{needs}
 use Rattle.table.proofs.core.links_fault.Statement.{statement}
 use Rattle.table.proofs.core.links_fault.Tie as tie
-use Rattle.table.proofs.core.links_fault.Reads as reads
-use Rattle.table.proofs.core.links_fault.Lts as lts
-use Rattle.table.proofs.core.link_fault.Reads as link-fault-reads
 use Prim.Native.Nat.{_-_, _≤_}
 use mathlib.Core.Path.{_≡_, refl, sym, _∙_}
 use native.Mathlib.Omega.{arith}

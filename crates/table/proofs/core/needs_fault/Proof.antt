@@ -1,12 +1,9 @@
+-- `table::core::needs_fault` meets its contract.
 use borrow.Author.Needs.{needs}
 use Rattle.table.proofs.core.needs_fault.Statement.{statement}
 use Rattle.table.proofs.core.needs_fault.Tie as tie
-use Rattle.table.proofs.core.needs_fault.Reads as reads
-use Rattle.table.proofs.core.needs_fault.Lts as lts
-use Rattle.table.proofs.core.count_degrees.Reads as count-degrees-reads
-use Rattle.table.proofs.core.counted_fault.Reads as counted-fault-reads
 use Prim.Native.Nat.{ℕ}
-use mathlib.Core.Path.{_∙_, ap, sym}
+use mathlib.Core.Path.{_∙_, ap}
 use mathlib.Core.List.{[]}
 use Rattle.range.proofs.Faults.{first-same}
 use Rattle.range.proofs.Lists.{zeros-at}

@@ -1,8 +1,6 @@
-use borrow.Author.Needs.{needs}
+-- `table::core::order_fault` meets its contract.
 use Rattle.table.proofs.core.order_fault.Statement.{statement}
 use Rattle.table.proofs.core.order_fault.Tie as tie
-use Rattle.table.proofs.core.order_fault.Reads as reads
-use Rattle.table.proofs.core.order_fault.Lts as lts
 use mathlib.Core.Path.{_≡_}
 use native.Mathlib.Omega.{arith}
 use borrow.Author.Tests.{lt-ltb, le-ltb, eq-eqb, ne-eqb}

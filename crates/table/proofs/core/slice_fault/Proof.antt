@@ -1,10 +1,7 @@
+-- `table::core::slice_fault` meets its contract.
 use borrow.Author.Needs.{needs}
 use Rattle.table.proofs.core.slice_fault.Statement.{statement}
 use Rattle.table.proofs.core.slice_fault.Tie as tie
-use Rattle.table.proofs.core.slice_fault.Reads as reads
-use Rattle.table.proofs.core.slice_fault.Lts as lts
-use Rattle.table.proofs.core.room_fault.Reads as room-fault-reads
-use Rattle.table.proofs.core.table_fault.Reads as table-fault-reads
 use native.Mathlib.Omega.{arith}
 use mathlib.Core.Path.{_∙_, sym}
 use lib.ListN.{length}

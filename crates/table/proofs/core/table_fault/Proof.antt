@@ -1,11 +1,7 @@
+-- `table::core::table_fault` meets its contract.
 use borrow.Author.Needs.{needs}
 use Rattle.table.proofs.core.table_fault.Statement.{statement}
 use Rattle.table.proofs.core.table_fault.Tie as tie
-use Rattle.table.proofs.core.table_fault.Reads as reads
-use Rattle.table.proofs.core.table_fault.Lts as lts
-use Rattle.table.proofs.core.links_fault.Reads as links-fault-reads
-use Rattle.table.proofs.core.needs_fault.Reads as needs-fault-reads
-use Rattle.table.proofs.core.size_fault.Reads as size-fault-reads
 use native.Mathlib.Omega.{arith}
 use mathlib.Core.Path.{_∙_, sym}
 use Rattle.range.proofs.Faults.{or-here, or-next}

@@ -1,10 +1,6 @@
-use borrow.Author.Needs.{needs}
+-- `table_read::core::answer` meets its contract.
 use Rattle.table_read.proofs.core.answer.Statement.{statement}
 use Rattle.table_read.proofs.core.answer.Tie as tie
-use Rattle.table_read.proofs.core.answer.Reads as reads
-use Rattle.table_read.proofs.core.answer.Lts as lts
-use Rattle.hex.proofs.core.number.Reads as number-reads
-use mathlib.Core.Path.{_≡_, refl, sym, _∙_, ap}
 use mathlib.Core.Bool.{true}
 use native.Mathlib.Omega.{arith}
 use Rattle.table_read.proofs.Good.{text-head, head-field}

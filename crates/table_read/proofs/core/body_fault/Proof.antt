@@ -1,14 +1,8 @@
+-- `table_read::core::body_fault` meets its contract.
 use borrow.Author.Needs.{needs}
 use Rattle.table_read.proofs.core.body_fault.Statement.{statement}
 use Rattle.table_read.proofs.core.body_fault.Tie as tie
-use Rattle.table_read.proofs.core.body_fault.Reads as reads
-use Rattle.table_read.proofs.core.body_fault.Lts as lts
-use Rattle.table_read.proofs.core.closing_fault.Reads as closing-fault-reads
-use Rattle.table_read.proofs.core.link_lines_fault.Reads as link-lines-fault-reads
-use Rattle.table_read.proofs.core.need_lines_fault.Reads as need-lines-fault-reads
-use Rattle.table_read.proofs.core.needs_fault.Reads as needs-fault-reads
-use Prim.Native.Nat.{ℕ}
-use mathlib.Core.Path.{_≡_, refl, sym, _∙_, ap}
+use mathlib.Core.Path.{_≡_, sym, _∙_, ap}
 use native.Mathlib.Omega.{arith}
 use Rattle.range.specs.First.{first}
 use Rattle.range.proofs.Faults.{or-here, or-next}

@@ -1,10 +1,8 @@
+-- `table_read::core::closing_fault` meets its contract.
 use borrow.Author.Needs.{needs}
 use Rattle.table_read.proofs.core.closing_fault.Statement.{statement}
 use Rattle.table_read.proofs.core.closing_fault.Tie as tie
-use Rattle.table_read.proofs.core.closing_fault.Reads as reads
-use Rattle.table_read.proofs.core.closing_fault.Lts as lts
-use Rattle.table_read.proofs.core.stands_at.Reads as stands-at-reads
-use mathlib.Core.Path.{_≡_, sym, _∙_}
+use mathlib.Core.Path.{sym, _∙_}
 use borrow.Author.Tests.{not-true, not-false}
 use Rattle.table_read.proofs.Closing.{closing-absent, closing-more, closing-followed, closing-last}
 

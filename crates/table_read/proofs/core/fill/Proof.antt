@@ -1,13 +1,11 @@
+-- `table_read::core::fill` meets its contract.
 use borrow.Author.Needs.{needs}
 use Rattle.table_read.proofs.core.fill.Statement.{statement}
 use Rattle.table_read.proofs.core.fill.Tie as tie
-use Rattle.table_read.proofs.core.fill.Reads as reads
-use Rattle.table_read.proofs.core.fill.Lts as lts
-use Rattle.hex.proofs.core.number.Reads as number-reads
 use Prim.Native.Nat.{_+_, _-_, _*_, _≤_}
-use mathlib.Core.Path.{_≡_, refl, sym, _∙_, ap}
+use mathlib.Core.Path.{_≡_, refl, sym}
 use native.Mathlib.Omega.{arith}
-use lib.ListN.{length, set, length-set}
+use lib.ListN.{length, length-set}
 use Rattle.range.specs.Lists.{stored}
 use Rattle.range.proofs.Lists.{stored-next}
 use Rattle.hex.specs.Digits.{numberAt}

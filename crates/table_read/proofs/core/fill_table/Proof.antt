@@ -1,12 +1,9 @@
+-- `table_read::core::fill_table` meets its contract.
 use borrow.Author.Needs.{needs}
 use Rattle.table_read.proofs.core.fill_table.Statement.{statement}
 use Rattle.table_read.proofs.core.fill_table.Tie as tie
-use Rattle.table_read.proofs.core.fill_table.Reads as reads
-use Rattle.table_read.proofs.core.fill_table.Lts as lts
-use Rattle.hex.proofs.core.number.Reads as number-reads
-use Rattle.table_read.proofs.core.fill.Reads as fill-reads
-use Prim.Native.Nat.{ℕ, _+_, _*_, _<_, _≤_}
-use mathlib.Core.Path.{_≡_, refl, sym, _∙_, ap}
+use Prim.Native.Nat.{_+_, _*_}
+use mathlib.Core.Path.{refl}
 use mathlib.Core.Bool.{true}
 use native.Mathlib.Omega.{arith}
 use lib.ListN.{length}

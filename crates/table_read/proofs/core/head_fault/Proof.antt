@@ -1,16 +1,11 @@
+-- `table_read::core::head_fault` meets its contract.
 use borrow.Author.Needs.{needs}
 use Rattle.table_read.proofs.core.head_fault.Statement.{statement}
 use Rattle.table_read.proofs.core.head_fault.Tie as tie
-use Rattle.table_read.proofs.core.head_fault.Reads as reads
-use Rattle.table_read.proofs.core.head_fault.Lts as lts
-use Rattle.hex.proofs.core.number.Reads as number-reads
-use Rattle.lines.proofs.line_fault.Reads as line-fault-reads
-use Rattle.table.proofs.core.size_fault.Reads as size-fault-reads
-use mathlib.Core.Path.{_≡_, refl, sym, _∙_, ap}
+use mathlib.Core.Path.{sym, _∙_}
 use native.Mathlib.Omega.{arith}
 use Rattle.range.proofs.Faults.{or-here, or-next}
 use Rattle.lines.proofs.Lines.{line-good}
-use Rattle.table.specs.Legal.{sizeFault}
 
 line-fault-requires : tie.Need-line-fault-requires
 line-fault-requires c κs = search needs

@@ -1,13 +1,8 @@
+-- `table_read::core::link_line_fault` meets its contract.
 use borrow.Author.Needs.{needs}
 use Rattle.table_read.proofs.core.link_line_fault.Statement.{statement}
 use Rattle.table_read.proofs.core.link_line_fault.Tie as tie
-use Rattle.table_read.proofs.core.link_line_fault.Reads as reads
-use Rattle.table_read.proofs.core.link_line_fault.Lts as lts
-use Rattle.hex.proofs.core.number.Reads as number-reads
-use Rattle.lines.proofs.line_fault.Reads as line-fault-reads
-use Rattle.table.proofs.core.ends_fault.Reads as ends-fault-reads
-use Rattle.table.proofs.core.order_fault.Reads as order-fault-reads
-use mathlib.Core.Path.{_≡_, refl, sym, _∙_, ap}
+use mathlib.Core.Path.{sym, _∙_}
 use native.Mathlib.Omega.{arith}
 use Rattle.lines.proofs.Lines.{line-good}
 use Rattle.table.specs.Text.{ofText, linkStart}

@@ -1,17 +1,13 @@
+-- `table_read::core::needs_fault` meets its contract.
 use borrow.Author.Needs.{needs}
 use Rattle.table_read.proofs.core.needs_fault.Statement.{statement}
 use Rattle.table_read.proofs.core.needs_fault.Tie as tie
-use Rattle.table_read.proofs.core.needs_fault.Reads as reads
-use Rattle.table_read.proofs.core.needs_fault.Lts as lts
-use Rattle.table.proofs.core.needs_fault.Reads as needs-fault-reads
-use Rattle.table_read.proofs.core.fill.Reads as fill-reads
-use Prim.Native.Nat.{ℕ, _+_, _*_, _<_}
-use mathlib.Core.Path.{_≡_, refl, sym, _∙_, ap}
+use Prim.Native.Nat.{_+_, _*_}
+use mathlib.Core.Path.{_≡_, refl, _∙_}
 use native.Mathlib.Omega.{arith}
 use lib.ListN.{replicate, length}
-use Rattle.range.proofs.Lists.{length-stored, same-length}
+use Rattle.range.proofs.Lists.{same-length}
 use Rattle.table.specs.Text.{ofText, needStart, linkStart}
-use Rattle.table.specs.Table.{item}
 use Rattle.table_read.proofs.Good.{fields, need-lines, link-lines, links-good}
 use Rattle.table_read.proofs.Local.{field-at, local-links, local-needs}
 

@@ -1,12 +1,8 @@
+-- `table_read::core::read_fault` meets its contract.
 use borrow.Author.Needs.{needs}
 use Rattle.table_read.proofs.core.read_fault.Statement.{statement}
 use Rattle.table_read.proofs.core.read_fault.Tie as tie
-use Rattle.table_read.proofs.core.read_fault.Reads as reads
-use Rattle.table_read.proofs.core.read_fault.Lts as lts
-use Rattle.hex.proofs.core.number.Reads as number-reads
-use Rattle.table.proofs.core.room_fault.Reads as room-fault-reads
-use Rattle.table_read.proofs.core.text_fault.Reads as text-fault-reads
-use mathlib.Core.Path.{_≡_, refl, sym, _∙_, ap}
+use mathlib.Core.Path.{sym, _∙_}
 use native.Mathlib.Omega.{arith}
 use Rattle.range.proofs.Faults.{or-here, or-next}
 use Rattle.table.specs.Text.{readFault}

@@ -1,18 +1,10 @@
+-- `table_read::core::read_limited` meets its contract.
 use borrow.Author.Needs.{needs}
 use Rattle.table_read.proofs.core.read_limited.Statement.{statement}
 use Rattle.table_read.proofs.core.read_limited.Tie as tie
-use Rattle.table_read.proofs.core.read_limited.Reads as reads
-use Rattle.table_read.proofs.core.read_limited.Lts as lts
-use Rattle.table_read.proofs.core.answer.Reads as answer-reads
-use Rattle.table_read.proofs.core.fill_table.Reads as fill-table-reads
-use Rattle.table_read.proofs.core.read_fault.Reads as read-fault-reads
-use mathlib.Core.Path.{_≡_, refl, sym, _∙_, ap}
-use mathlib.Core.Bool.{true}
-use native.Mathlib.Omega.{arith}
+use mathlib.Core.Path.{sym, _∙_}
 use lib.ListN.{length}
-use Rattle.range.proofs.Faults.{or-left, or-right}
-use Rattle.table.specs.Text.{ofText, textFault, readFault}
-use Rattle.table.specs.Legal.{roomFault}
+use Rattle.table.specs.Text.{ofText}
 use Rattle.table.proofs.Accepted.{text-wider}
 use Rattle.table_read.proofs.Answers.{reads-refused, reads-table, read-text, read-room}
 

@@ -1,11 +1,9 @@
+-- `table_read::core::stands_at` meets its contract.
 use borrow.Author.Needs.{needs}
 use Rattle.table_read.proofs.core.stands_at.Statement.{statement}
 use Rattle.table_read.proofs.core.stands_at.Tie as tie
-use Rattle.table_read.proofs.core.stands_at.Reads as reads
-use Rattle.table_read.proofs.core.stands_at.Lts as lts
 use Prim.Native.Nat.{_+_, _-_, _≤_}
-use mathlib.Core.Path.{_≡_, refl, sym, _∙_, ap}
-use native.Mathlib.Omega.{arith}
+use mathlib.Core.Path.{_≡_, sym, _∙_}
 use native.Mathlib.Nat.{add-zero}
 use lib.ListN.{length, drop}
 use Rattle.table.specs.Text.{begins}

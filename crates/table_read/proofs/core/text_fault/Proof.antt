@@ -1,15 +1,11 @@
+-- `table_read::core::text_fault` meets its contract.
 use borrow.Author.Needs.{needs}
 use Rattle.table_read.proofs.core.text_fault.Statement.{statement}
 use Rattle.table_read.proofs.core.text_fault.Tie as tie
-use Rattle.table_read.proofs.core.text_fault.Reads as reads
-use Rattle.table_read.proofs.core.text_fault.Lts as lts
-use Rattle.hex.proofs.core.number.Reads as number-reads
-use Rattle.table_read.proofs.core.body_fault.Reads as body-fault-reads
-use Rattle.table_read.proofs.core.head_fault.Reads as head-fault-reads
-use mathlib.Core.Path.{_≡_, refl, sym, _∙_, ap}
+use mathlib.Core.Path.{sym, _∙_}
 use native.Mathlib.Omega.{arith}
 use Rattle.range.proofs.Faults.{or-here, or-next}
-use Rattle.table.specs.Text.{ofText, textFault}
+use Rattle.table.specs.Text.{textFault}
 use Rattle.table_read.proofs.Good.{head-good}
 
 head-fault-requires : tie.Need-head-fault-requires

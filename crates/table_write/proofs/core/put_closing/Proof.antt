@@ -1,8 +1,7 @@
+-- `table_write::core::put_closing` meets its contract.
 use borrow.Author.Needs.{needs}
 use Rattle.table_write.proofs.core.put_closing.Statement.{statement}
 use Rattle.table_write.proofs.core.put_closing.Tie as tie
-use Rattle.table_write.proofs.core.put_closing.Reads as reads
-use Rattle.table_write.proofs.core.put_closing.Lts as lts
 use Prim.Native.Nat.{_-_, _≤_}
 use mathlib.Core.Path.{_≡_, refl}
 use native.Mathlib.Omega.{arith}

@@ -1,9 +1,7 @@
+-- `table_write::core::put_links` meets its contract.
 use borrow.Author.Needs.{needs}
 use Rattle.table_write.proofs.core.put_links.Statement.{statement}
 use Rattle.table_write.proofs.core.put_links.Tie as tie
-use Rattle.table_write.proofs.core.put_links.Reads as reads
-use Rattle.table_write.proofs.core.put_links.Lts as lts
-use Rattle.table_write.proofs.core.put_triple.Reads as put-triple-reads
 use Prim.Native.Nat.{_-_, _≤_}
 use mathlib.Core.Path.{_≡_, refl, _∙_}
 use native.Mathlib.Omega.{arith}

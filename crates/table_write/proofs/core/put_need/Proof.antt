@@ -1,9 +1,7 @@
+-- `table_write::core::put_need` meets its contract.
 use borrow.Author.Needs.{needs}
 use Rattle.table_write.proofs.core.put_need.Statement.{statement}
 use Rattle.table_write.proofs.core.put_need.Tie as tie
-use Rattle.table_write.proofs.core.put_need.Reads as reads
-use Rattle.table_write.proofs.core.put_need.Lts as lts
-use Rattle.hex.proofs.core.put_number.Reads as put-number-reads
 use Prim.Native.Nat.{_+_}
 use mathlib.Core.Path.{refl}
 use mathlib.Core.List.{[], _∷_}

@@ -1,9 +1,7 @@
+-- `table_write::core::put_needs` meets its contract.
 use borrow.Author.Needs.{needs}
 use Rattle.table_write.proofs.core.put_needs.Statement.{statement}
 use Rattle.table_write.proofs.core.put_needs.Tie as tie
-use Rattle.table_write.proofs.core.put_needs.Reads as reads
-use Rattle.table_write.proofs.core.put_needs.Lts as lts
-use Rattle.table_write.proofs.core.put_need.Reads as put-need-reads
 use Prim.Native.Nat.{_-_, _≤_}
 use mathlib.Core.Path.{_≡_, refl, _∙_}
 use native.Mathlib.Omega.{arith}

@@ -1,12 +1,7 @@
+-- `table_write::core::put_table` meets its contract.
 use borrow.Author.Needs.{needs}
 use Rattle.table_write.proofs.core.put_table.Statement.{statement}
 use Rattle.table_write.proofs.core.put_table.Tie as tie
-use Rattle.table_write.proofs.core.put_table.Reads as reads
-use Rattle.table_write.proofs.core.put_table.Lts as lts
-use Rattle.table_write.proofs.core.put_closing.Reads as put-closing-reads
-use Rattle.table_write.proofs.core.put_links.Reads as put-links-reads
-use Rattle.table_write.proofs.core.put_needs.Reads as put-needs-reads
-use Rattle.table_write.proofs.core.put_triple.Reads as put-triple-reads
 use Rattle.table.specs.Table.{ofSlices}
 use Rattle.table_write.proofs.Laws.{text-then}
 

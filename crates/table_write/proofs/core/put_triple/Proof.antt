@@ -1,9 +1,7 @@
+-- `table_write::core::put_triple` meets its contract.
 use borrow.Author.Needs.{needs}
 use Rattle.table_write.proofs.core.put_triple.Statement.{statement}
 use Rattle.table_write.proofs.core.put_triple.Tie as tie
-use Rattle.table_write.proofs.core.put_triple.Reads as reads
-use Rattle.table_write.proofs.core.put_triple.Lts as lts
-use Rattle.hex.proofs.core.put_number.Reads as put-number-reads
 use Prim.Native.Nat.{_+_}
 use mathlib.Core.Path.{refl, _∙_}
 use mathlib.Core.List.{[], _∷_, _++_}

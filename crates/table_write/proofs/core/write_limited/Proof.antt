@@ -1,10 +1,7 @@
+-- `table_write::core::write_limited` meets its contract.
 use borrow.Author.Needs.{needs}
 use Rattle.table_write.proofs.core.write_limited.Statement.{statement}
 use Rattle.table_write.proofs.core.write_limited.Tie as tie
-use Rattle.table_write.proofs.core.write_limited.Reads as reads
-use Rattle.table_write.proofs.core.write_limited.Lts as lts
-use Rattle.table.proofs.core.slice_fault.Reads as slice-fault-reads
-use Rattle.table_write.proofs.core.put_table.Reads as put-table-reads
 use mathlib.Core.Path.{_∙_, sym}
 use native.Mathlib.Omega.{arith}
 use lib.ListN.{length}
