@@ -34,7 +34,7 @@ textOf t =
     ++ (joined (λ v. needLine (t .need v)) (t .probes)
     ++ (joined (λ i. tripleLine (t .low i) (t .high i) (t .cost i)) (t .links) ++ closingLine))
 
--- Where the lines stand.
+-- Where the lines stand: each line before is of its length, or the text is refused for that one.
 
 abbrev pub needStart : ℕ → ℕ
 needStart v = 13 + 5 * v
@@ -42,7 +42,7 @@ needStart v = 13 + 5 * v
 abbrev pub linkStart : ℕ → ℕ → ℕ
 linkStart probes i = 13 + 5 * probes + 13 * i
 
--- The table that a text writes.
+-- the table that a text gives
 abbrev pub ofText : List ℕ → Table
 ofText s =
     let probes = numberAt s 4 4 in

@@ -21,7 +21,7 @@ pub record Filled (t : Table) (needs needs′ lows lows′ highs highs′ costs 
   pub high : highs′ ≡ stored (t .high) (t .links) highs
   pub cost : costs′ ≡ stored (t .cost) (t .links) costs
 
--- a slice at exit, and at entry where the fault is found: "a refused call changes no lent buffer"
+-- a slice at exit: filled, or as it was where there is a fault; "a refused call changes no lent buffer"
 abbrev pub filledOf : ℕ → (ℕ → ℕ) → ℕ → List ℕ → List ℕ
 filledOf fault f n d = cond (eqb fault 0) (stored f n d) d
 
