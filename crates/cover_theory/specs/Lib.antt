@@ -1,0 +1,3 @@
+pub mod Pass
+pub mod Plan
+pub mod Sites

@@ -1,0 +1,1 @@
+// The plan of a site and the S-LSE method: definitions in specs/ and their laws in proofs/. It has no code.
