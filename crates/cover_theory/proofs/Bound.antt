@@ -79,15 +79,15 @@ module _ (t : Table) (s : Sound t) (choice : ℕ → Bool) (within : WithinSpare
         let out = weigh-split (t .links) (λ i. touches t x i && not (choice i)) (rested t) (λ i. 1) in
         let rest = weigh-split (t .links) (λ i. touches t x i && rested t i) choice (λ i. 1) in
         let both = weigh-same (t .links) (λ i. (touches t x i && rested t i) && not (choice i)) (λ i. (touches t x i && not (choice i)) && rested t i) (λ i. 1)
-            (λ i l. flip (touches t x i) (rested t i) (not (choice i))) in
+        (λ i l. flip (touches t x i) (rested t i) (not (choice i))) in
         let stay = weigh-le (t .links) (onlyPlanAt x) (λ i. (touches t x i && not (choice i)) && not (rested t i)) (λ i. 1)
-            (λ i l. only (touches t x i) (leb (spare t x) (dearerAt t (rested t) i x)) (not (rested t i)) (not (choice i))) in
+        (λ i l. only (touches t x i) (leb (spare t x) (dearerAt t (rested t) i x)) (not (rested t i)) (not (choice i))) in
         let go = weigh-le (t .links) (λ i. (touches t x i && rested t i) && choice i) (onlyChoiceAt x) (λ i. 1)
-            (λ i l. other (touches t x i) (rested t i) (choice i)) in
+        (λ i l. other (touches t x i) (rested t i) (choice i)) in
         let most = within x lx in
         let room = full in
         let dearest = weigh-le (t .links) (λ g. touches t x g && (dearer t g (e .at) && rested t g)) (λ g. touches t x g && rested t g) (λ i. 1)
-            (λ g l. and-skip (touches t x g) (dearer t g (e .at)) (rested t g)) in
+        (λ g l. and-skip (touches t x g) (dearer t g (e .at)) (rested t g)) in
         omega arith
 
     most : (i : ℕ) → i < t .links → onlyPlanAt x i ≡ true → t .cost i ≤ t .cost (e .at)
@@ -124,16 +124,18 @@ module _ (t : Table) (s : Sound t) (choice : ℕ → Bool) (within : WithinSpare
   one-end i l =
       part (without (kept t) choice i) (t .cost i) (sum (t .probes) (λ x. cond (onlyPlanAt x i) (t .cost i) 0))
       (λ only.
-        either only (decLt (dearerAt t (rested t) i (t .low i)) (spare t (t .low i))) (decLt (dearerAt t (rested t) i (t .high i)) (spare t (t .high i))))
+      either only (decLt (dearerAt t (rested t) i (t .low i)) (spare t (t .low i))) (decLt (dearerAt t (rested t) i (t .high i)) (spare t (t .high i))))
     where
       part : (b : Bool) (k n : ℕ) → (b ≡ true → k ≤ n) → cond b k 0 ≤ n
       part true k n h = h refl
       part false k n h = omega arith
+
       by : (x : ℕ) → x < t .probes → touches t x i ≡ true → spare t x ≤ dearerAt t (rested t) i x → without (kept t) choice i ≡ true
           → t .cost i ≤ sum (t .probes) (λ y. cond (onlyPlanAt y i) (t .cost i) 0)
       by x lx at full only =
           rw (and-intro at (and-intro (le-leb (spare t x) (dearerAt t (rested t) i x) full) only))
           at (sum-at (t .probes) (λ y. cond (onlyPlanAt y i) (t .cost i) 0) x lx)
+
       either : without (kept t) choice i ≡ true → Dec (UnderSpare t (rested t) i (t .low i)) → Dec (UnderSpare t (rested t) i (t .high i))
           → t .cost i ≤ sum (t .probes) (λ y. cond (onlyPlanAt y i) (t .cost i) 0)
       either only (yes a) (yes b) =
@@ -151,7 +153,7 @@ module _ (t : Table) (s : Sound t) (choice : ℕ → Bool) (within : WithinSpare
       let high = sum-one (t .probes) (λ x. k) (t .high i) (e .below) in
       let both = sum-add (t .probes) (λ x. cond (eqb x (t .low i)) k 0) (λ x. cond (eqb x (t .high i)) k 0) in
       let all = sum-le (t .probes) (λ x. cond (onlyChoiceAt x i) (t .cost i) 0) (λ x. cond (eqb x (t .low i)) k 0 + cond (eqb x (t .high i)) k 0)
-          (λ x lx. part (eqb x (t .low i)) (eqb x (t .high i)) (without choice (kept t) i) (t .cost i)) in
+      (λ x lx. part (eqb x (t .low i)) (eqb x (t .high i)) (without choice (kept t) i) (t .cost i)) in
       omega arith
     where
       part : (a b c : Bool) (n : ℕ) → cond ((a || b) && c) n 0 ≤ cond a (cond c n 0) 0 + cond b (cond c n 0) 0

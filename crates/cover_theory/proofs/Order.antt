@@ -68,6 +68,7 @@ module _ (pmax lmax : ℕ) (t : Table) (good : tableFault pmax lmax t ≡ 0) whe
     where
       next : After t j (suc j)
       next = next-rises t j (first-all (linkFault (t .probes) (t .low) (t .high)) (t .links) (suc j) (or-left links-good needs-good none) l)
+
       go : (i < j → j < t .links → After t i j) → Dec (i ≡ j) → After t i (suc j)
       go old (yes e) = rw e next
       go old (no n) = after-after t i j (suc j) (old (omega arith) (omega arith)) next
@@ -100,10 +101,12 @@ module _ (t : Table) (r : Rising t) where
       after (inr a) =
           or-intro-right (ltb (t .low j) (t .low i)) (eqb (t .low i) (t .low j) && ltb (t .high j) (t .high i))
           (and-intro (eq-eqb (t .low i) (t .low j) (sym (a .0))) (lt-ltb (t .high j) (t .high i) (a .1)))
+
       before : After t i j → (ltb (t .low j) (t .low i) || (eqb (t .low i) (t .low j) && ltb (t .high j) (t .high i))) ≡ false
       before (inl a) = rw (le-ltb (t .low j) (t .low i) (omega arith), ne-eqb (t .low i) (t .low j) (λ e. omega arith))
       before (inr a) =
           rw (le-ltb (t .low j) (t .low i) (omega arith), eq-eqb (t .low i) (t .low j) (a .0), le-ltb (t .high j) (t .high i) (omega arith))
+
       go : Dec (j < i) → Dec (i < j) → (ltb (t .low j) (t .low i) || (eqb (t .low i) (t .low j) && ltb (t .high j) (t .high i))) ≡ ltb j i
       go (yes a) b = rw (lt-ltb j i a) (after (r .rising j i a li))
       go (no a) (yes b) = rw (le-ltb j i (omega arith)) (before (r .rising i j b lj))
@@ -123,8 +126,10 @@ module _ (t : Table) (r : Rising t) where
     where
       more : Bool
       more = ltb (t .cost j) (t .cost i)
+
       same : Bool
       same = eqb (t .cost i) (t .cost j)
+
       go : (more ≡ true) ⊎ ((same && ltb j i) ≡ true) → Dear t i j
       go (inl a) = inl (ltb-true (t .cost j) (t .cost i) a)
       go (inr a) = inr (eqb-true (t .cost i) (t .cost j) (and-left same (ltb j i) a), ltb-true j i (and-right same (ltb j i) a))
@@ -153,11 +158,13 @@ module _ (t : Table) (r : Rising t) where
           go (inl a) = omega arith
           go (inr a) = omega arith
       not-dear i l (inr e) = e
+
       dear-dear : (i j k : ℕ) → Dear t i j → Dear t j k → Dear t i k
       dear-dear i j k (inl a) (inl b) = inl (omega arith)
       dear-dear i j k (inl a) (inr b) = inl (omega arith)
       dear-dear i j k (inr a) (inl b) = inl (omega arith)
       dear-dear i j k (inr a) (inr b) = inr (omega arith)
+
       either : (i j : ℕ) → i < t .links → j < t .links → (i ≡ j → ⊥) → Dec (t .cost i < t .cost j) → Dec (t .cost j < t .cost i) → Dec (i < j)
           → (dearer t i j ≡ true) ⊎ (dearer t j i ≡ true)
       either i j li lj n (yes a) b c = inr (on-dear j i lj li (inl a))

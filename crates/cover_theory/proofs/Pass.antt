@@ -72,6 +72,7 @@ module _ (m : ℕ) (before : ℕ → ℕ → Bool) (o : Order m before) (test : 
           at : (g : ℕ) → g < m → (before g i ≡ true) ⊎ (before g i ≡ false) → (before g i && r g) ≡ (before g i && pass m before test g)
           at g k (inl e) = rw e (h g k e)
           at g k (inr e) = rw e
+
       go : (b i : ℕ) → i < m → place m before i < b → r i ≡ pass m before test i
       go zero i l s = absurd (omega arith)
       go (suc b) i l s = agree i l (λ g k e. let a = place-lt m before o g i k l e in go b g k (omega arith))

@@ -52,6 +52,7 @@ module _ (m : ℕ) (before : ℕ → ℕ → Bool) (o : Order m before) where
       apart : (g ≡ e → ⊥) → (before g e ≡ true) ⊎ (before e g ≡ true) → Side before g e
       apart n (inl f) = earlier (ne-eqb g e n) f (one-way g e lg le f)
       apart n (inr f) = later (ne-eqb g e n) (one-way e g le lg f) f
+
       go : Dec (g ≡ e) → Side before g e
       go (yes q) =
           here (eq-eqb g e q) (ap (λ x. before x e) q ∙ o .irreflexive e le) (ap (λ x. before e x) q ∙ o .irreflexive e le)
@@ -69,10 +70,13 @@ module _ (m : ℕ) (before : ℕ → ℕ → Bool) (o : Order m before) where
     where
       a : ℕ → ℕ
       a g = cond (before g e && p g) 1 0
+
       b : ℕ → ℕ
       b g = cond (before e g && p g) 1 0
+
       c : ℕ → ℕ
       c g = cond (eqb g e) (cond (p g) 1 0) 0
+
       part : {g : ℕ} (x : Bool) → Side before g e → cond x 1 0 ≡ (cond (before g e && x) 1 0 + cond (before e g && x) 1 0) + cond (eqb g e) (cond x 1 0) 0
       part x (here q f h) = rw (q, f, h) (omega arith)
       part x (earlier q f h) = rw (q, f, h) (omega arith)
@@ -93,6 +97,7 @@ module _ (m : ℕ) (before : ℕ → ℕ → Bool) (o : Order m before) where
     where
       rest : ℕ → ℕ
       rest e = count m (λ g. before e g && p g)
+
       walk : (k e : ℕ) → e < m → p e ≡ true → rest e < k → Last m before p
       walk zero e l i s = absurd (omega arith)
       walk (suc k) e l i s = go (walk k) (decLt 0 (rest e))
@@ -104,9 +109,9 @@ module _ (m : ℕ) (before : ℕ → ℕ → Bool) (o : Order m before) where
               let af = and-left (before e i) (p i) (f .2) in
               let pf = and-right (before e i) (p i) (f .2) in
               let less = count-less m (λ g. before i g && p g) (λ g. before e g && p g) i
-                  (λ g lg h.
-                    and-intro (o .transitive e i g l (f .1) lg af (and-left (before i g) (p g) h)) (and-right (before i g) (p g) h))
-                  (f .1) (rw (o .irreflexive i (f .1))) (f .2) in
+              (λ g lg h.
+              and-intro (o .transitive e i g l (f .1) lg af (and-left (before i g) (p g) h)) (and-right (before i g) (p g) h))
+              (f .1) (rw (o .irreflexive i (f .1))) (f .2) in
               on i (f .1) pf (omega arith)
           go on (no z) = record { at = e; below = l; inside = i; after = omega arith }
 
@@ -169,10 +174,10 @@ module _ (m : ℕ) (before : ℕ → ℕ → Bool) (o : Order m before) where
   place-next i j li lj e h =
       let a = rw e at (split (λ g. before g j) i li) in
       let b = none-count m (λ g. before i g && before g j)
-          (λ g l f. true≢false (sym (and-left (before i g) (before g j) f) ∙ h g l (and-right (before i g) (before g j) f))) in
+      (λ g l f. true≢false (sym (and-left (before i g) (before g j) f) ∙ h g l (and-right (before i g) (before g j) f))) in
       let c = weigh-same m (λ g. before g i && before g j) (λ g. before g i) (λ g. 1)
-          (λ g l. same-bool (before g i && before g j) (before g i) (and-left (before g i) (before g j))
-            (λ f. and-intro f (o .transitive g i j l li lj f e))) in
+      (λ g l. same-bool (before g i && before g j) (before g i) (and-left (before g i) (before g j))
+      (λ f. and-intro f (o .transitive g i j l li lj f e))) in
       omega arith
 
   pub place-last : (i : ℕ) → i < m → ((g : ℕ) → g < m → before i g ≡ false) → suc (place m before i) ≡ m
@@ -197,6 +202,7 @@ module _ (m : ℕ) (before : ℕ → ℕ → Bool) (o : Order m before) where
           let a = up k (omega arith) in
           let b = place-lt (row k) (row (suc k)) (below k (omega arith)) (below (suc k) l) (rises k l) in
           omega arith
+
       down : (d k : ℕ) → k < m → m ≤ k + d → place m before (row k) ≤ k
       down zero k l s = absurd (omega arith)
       down (suc d) k l s = go (λ h. down d (suc k) h (omega arith)) (decLt (suc k) m)

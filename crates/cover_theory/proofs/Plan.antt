@@ -73,9 +73,10 @@ module _ (t : Table) where
   test-under : (s : ℕ → Bool) (i : ℕ) → (test s i ≡ true) ↔ ((linksAt t s (t .low i) < spare t (t .low i)) × (linksAt t s (t .high i) < spare t (t .high i)))
   test-under s i =
       let low = hasMore t s (t .low i) in
-      let high = hasMore t s (t .high i) in
-      (λ e. (more-under s (t .low i) (and-left low high e), more-under s (t .high i) (and-right low high e)),
-      λ f. and-intro (under-more s (t .low i) (f .0)) (under-more s (t .high i) (f .1)))
+      let high = hasMore t s (t .high i) in (
+        λ e. (more-under s (t .low i) (and-left low high e), more-under s (t .high i) (and-right low high e)),
+        λ f. and-intro (under-more s (t .low i) (f .0)) (under-more s (t .high i) (f .1)),
+      )
 
   pub by-test : (r : ℕ → Bool) → ((i : ℕ) → i < t .links → r i ≡ test (λ g. dearer t g i && r g) i) → Criterion t r
   by-test r h i l =
@@ -92,8 +93,8 @@ module _ (t : Table) (rises : Rising t) where
   plan-unique r c =
       only-pass (t .links) (dearer t) (dearer-order t rises) (test t) (test-below t) r
       (λ i l.
-        let both = test-under t (λ g. dearer t g i && r g) i in
-        same-bool (r i) (test t (λ g. dearer t g i && r g) i) (λ e. both .1 (c i l .0 e)) (λ e. c i l .1 (both .0 e)))
+      let both = test-under t (λ g. dearer t g i && r g) i in
+      same-bool (r i) (test t (λ g. dearer t g i && r g) i) (λ e. both .1 (c i l .0 e)) (λ e. c i l .1 (both .0 e)))
 
   -- a rested link has fewer dearer ones at each end than the spare
   pub rested-at : (i v : ℕ) → i < t .links → rested t i ≡ true → touches t v i ≡ true → UnderSpare t (rested t) i v
@@ -105,9 +106,9 @@ module _ (t : Table) (rises : Rising t) where
   rested-fits v =
       bounded (t .links) (dearer t) (dearer-order t rises) (λ g. touches t v g && rested t g) (spare t v)
       (λ i l e.
-        let a = rested-at i v l (and-right (touches t v i) (rested t i) e) (and-left (touches t v i) (rested t i) e) in
-        let b = at-both t (λ g. dearer t g i) (rested t) v in
-        omega arith)
+      let a = rested-at i v l (and-right (touches t v i) (rested t i) e) (and-left (touches t v i) (rested t i) e) in
+      let b = at-both t (λ g. dearer t g i) (rested t) v in
+      omega arith)
 
 pub plan-meets : (t : Table) → Legal t → Meets t (kept t)
 plan-meets t legal v l =

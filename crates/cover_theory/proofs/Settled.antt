@@ -52,7 +52,7 @@ module _ (t : Table) (rises : Rising t) (stand held : ℕ → ℕ → Bool) (set
   before-it : (r : ℕ → Bool) (i v : ℕ) → i < t .links → touches t v i ≡ true → r i ≡ true → linksAt t r v ≤ spare t v → dearerAt t r i v < spare t v
   before-it r i v l at e fits =
       let less = count-less (t .links) (λ g. touches t v g && (dearer t g i && r g)) (λ g. touches t v g && r g) i
-          (λ g k. and-skip (touches t v g) (dearer t g i) (r g)) l (rw (order .irreflexive i l) (and-false (touches t v i))) (and-intro at e) in
+      (λ g k. and-skip (touches t v g) (dearer t g i) (r g)) l (rw (order .irreflexive i l) (and-false (touches t v i))) (and-intro at e) in
       omega arith
 
   -- the offers on a link are as the plan has it
@@ -67,14 +67,17 @@ module _ (t : Table) (rises : Rising t) (stand held : ℕ → ℕ → Bool) (set
       seen r v h =
           weigh-same (t .links) (λ g. touches t v g && (dearer t g i && r g)) (λ g. touches t v g && (dearer t g i && rested t g)) (λ g. 1)
           (λ g k. and-same (touches t v g) (dearer t g i) (r g) (rested t g) (h g k))
+
       stand-seen : dearerAt t (stand u) i u ≡ dearerAt t (rested t) i u
       stand-seen = seen (stand u) u (λ g k at d. at-end t (λ v. stand v g ≡ rested t g) u g at (known g k d _ _ up) (known g k d _ _ down))
+
       held-seen : dearerAt t (held w) i w ≡ dearerAt t (rested t) i w
       held-seen =
           seen (held w) w
           (λ g k at d.
-            at-end t (λ v. held v g ≡ rested t g) w g at (sym (settled .same g _ _ k down) ∙ known g k d _ _ down)
-            (sym (settled .same g _ _ k up) ∙ known g k d _ _ up))
+          at-end t (λ v. held v g ≡ rested t g) w g at (sym (settled .same g _ _ k down) ∙ known g k d _ _ down)
+          (sym (settled .same g _ _ k up) ∙ known g k d _ _ up))
+
       rests : stand u i ≡ true → rested t i ≡ true
       rests e =
           let a = before-it (stand u) i u l (near x) e (settled .standing u) in
@@ -82,6 +85,7 @@ module _ (t : Table) (rises : Rising t) (stand held : ℕ → ℕ → Bool) (set
           let c = stand-seen in
           let d = held-seen in
           plan-criterion t rises i l .1 (both (λ v. UnderSpare t (rested t) i v) x (omega arith) (omega arith))
+
       full : rested t i ≡ true → (spare t u ≤ dearerAt t (stand u) i u) ⊎ (spare t w ≤ dearerAt t (held w) i w) → ⊥
       full e (inl a) =
           let c = stand-seen in
@@ -91,6 +95,7 @@ module _ (t : Table) (rises : Rising t) (stand held : ℕ → ℕ → Bool) (set
           let c = held-seen in
           let f = rested-at t rises i w l e (near (back x)) in
           omega arith
+
       stays : rested t i ≡ true → stand u i ≡ true
       stays e = go (decided (stand u i))
         where

@@ -106,7 +106,7 @@ module _ (t : Table) (rises : Rising t) where
     unfolding dropped
     counted a =
         let all = sum-same (t .links) (λ g. f₁ g + f₂ g) (λ g. f₃ g + (f₄ g + f₅ g))
-            (λ g k. point (touches t v g) (added t g) (removed t g) (dearer t g e) (dearer t e g) (removed-added g k) (λ n. go g n (side (t .links) (dearer t) order g e k l))) in
+        (λ g k. point (touches t v g) (added t g) (removed t g) (dearer t g e) (dearer t e g) (removed-added g k) (λ n. go g n (side (t .links) (dearer t) order g e k l))) in
         let left = sum-add (t .links) f₁ f₂ in
         let right = sum-add (t .links) f₃ (λ g. f₄ g + f₅ g) in
         let inner = sum-add (t .links) f₄ f₅ in
@@ -114,14 +114,19 @@ module _ (t : Table) (rises : Rising t) where
       where
         f₁ : ℕ → ℕ
         f₁ g = cond (touches t v g) 1 0
+
         f₂ : ℕ → ℕ
         f₂ g = cond (touches t v g && (dearer t g e && removed t g)) 1 0
+
         f₃ : ℕ → ℕ
         f₃ g = cond (touches t v g && added t g) 1 0
+
         f₄ : ℕ → ℕ
         f₄ g = cond (touches t v g && (dearer t e g && not (added t g))) 1 0
+
         f₅ : ℕ → ℕ
         f₅ g = cond (touches t v g && (dearer t g e && not (added t g && not (removed t g)))) 1 0
+
         go : (g : ℕ) → added t g ≡ false → Side (dearer t) g e → dearer t e g ≡ not (dearer t g e)
         go g n (here q d u) = absurd (true≢false (sym a ∙ ap (added t) (sym (eqb-true g e q)) ∙ n))
         go g n (earlier q d u) = rw (d, u)
@@ -135,6 +140,7 @@ module _ (t : Table) (rises : Rising t) where
         under true true c y h q = rw (h refl) q
         under true false c y h q = absurd (true≢false (sym q))
         under false b c y h q = q
+
         go : Dec (0 < cheapLeft) → hasMoreAdded t (λ g. dearer t g e && removed t g) v ≡ hasMore t (λ g. dearer t g e && dropped g) v
         go (yes some) =
             let m = member (t .links) (λ g. touches t v g && (dearer t e g && not (added t g))) some in
@@ -143,7 +149,7 @@ module _ (t : Table) (rises : Rising t) where
             let below = and-left (dearer t e f) (not (added t f)) out in
             let many = unadded f v (m .1) (not-true (added t f) (and-right (dearer t e f) (not (added t f)) out)) (and-left (touches t v f) (dearer t e f && not (added t f)) (m .2)) in
             let more = weigh-le (t .links) (λ g. touches t v g && (dearer t f g && added t g)) (λ g. touches t v g && (dearer t e g && added t g)) (λ g. 1)
-                (λ g k. under (touches t v g) (dearer t f g) (dearer t e g) (added t g) (λ h. order .transitive e f g l (m .1) k below h)) in
+            (λ g k. under (touches t v g) (dearer t f g) (dearer t e g) (added t g) (λ h. order .transitive e f g l (m .1) k below h)) in
             let whole = counted a in
             let room = around-added a in
             lt-ltb (t .need v) (linksAt t (added t) v - dearRemoved) (omega arith)
@@ -162,6 +168,7 @@ module _ (t : Table) (rises : Rising t) where
           let many = unadded e v l a at in
           let room = around e v l at in
           lt-ltb (t .need v) (degree t v - linksAt t (λ g. dearer t g e && dropped g) v) (omega arith)
+
       go : (added t e ≡ true) ⊎ (added t e ≡ false) → dropped e ≡ test t (λ g. dearer t g e && dropped g) e
       go (inl a) =
           rw a (Bool·not-not (removed t e))

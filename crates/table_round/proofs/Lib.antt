@@ -3,4 +3,5 @@ pub mod Numbers
 pub mod Tables
 pub mod Fits
 pub mod Round
+pub mod Functions
 pub mod Samples

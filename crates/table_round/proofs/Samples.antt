@@ -6,13 +6,13 @@ use native.Mathlib.Omega.{arith}
 use lib.ListN.{getD}
 use Rattle.range.specs.First.{first}
 use Rattle.range.specs.Sum.{sum}
-use Rattle.range.specs.Lists.{joined}
+use Rattle.range.specs.Lists.{joined, stored}
 use Rattle.hex.specs.Digits.{valueOf, digitOf, numberAt, digits}
 use Rattle.lines.specs.Line.{untilFeed, lineAt}
 use Rattle.lines.specs.Digits.{lineFault}
 use Rattle.table.specs.Legal.{linkFault}
-use Rattle.table.specs.Text.{textOf, begins, textFault}
-use Rattle.table_round.specs.Samples.{M2, Refusals}
+use Rattle.table.specs.Text.{textOf, begins, textFault, readFault}
+use Rattle.table_round.specs.Samples.{M2, Calls, Refusals}
 use Rattle.table_round.proofs.Numbers.{Small}
 
 small-at : (xs : List ℕ) (i : ℕ) → Small xs → getD xs i 0 < 65536
@@ -39,6 +39,17 @@ m2-is =
             cost = λ i l. small-at (5 ∷ 6 ∷ 5 ∷ []) i (omega arith);
           };
       written = refl;
+    }
+
+pub calls-are : Calls
+unfolding readFault textFault lineFault lineAt untilFeed first numberAt valueOf linkFault begins sum stored textOf joined digits digitOf
+calls-are =
+    record {
+      read = record { answer = refl; need = refl; low = refl; high = refl; cost = refl };
+      enough = omega arith;
+      write = record { answer = refl; out = refl };
+      holds = record { needed = omega arith; linked = omega arith; equal = refl; equal₂ = refl };
+      again = record { answer = refl; need = refl; low = refl; high = refl; cost = refl };
     }
 
 pub refusals-are : Refusals

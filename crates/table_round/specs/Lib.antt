@@ -1,2 +1,3 @@
 pub mod Same
+pub mod Functions
 pub mod Samples

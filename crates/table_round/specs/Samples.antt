@@ -1,15 +1,18 @@
 -- Sample texts and what is claimed of them: M2 of document 01, and texts of M5 with one fault each.
-use Prim.Native.Nat.{ℕ}
+use Prim.Native.Nat.{ℕ, _≤_}
 use Prim.Native.Char.{code}
 use Prim.Native.String.{String, [] as done, _∷_ as _before_}
 use mathlib.Core.Path.{_≡_}
 use mathlib.Core.Bool.{Bool, true, false}
-use mathlib.Core.List.{List, [], _∷_}
-use lib.ListN.{take}
-use Rattle.table.specs.Table.{Table, ofSlices}
+use mathlib.Core.List.{List, [], _∷_, _++_}
+use lib.ListN.{length, take, drop, replicate}
+use Rattle.table.specs.Table.{Table}
 use Rattle.table.specs.Legal.{Legal}
 use Rattle.table.specs.Text.{textOf, ofText, textFault}
+use Rattle.table_read.specs.declared.Reading.the-variants.{Table as Read}
+use Rattle.table_write.specs.declared.Writing.the-variants.{Length}
 use Rattle.table_round.specs.Same.{Fits}
+use Rattle.table_round.specs.Functions.{Slices, tableOf, Holds, ReadTable, WriteTable}
 
 -- the bytes of a text of ASCII characters
 abbrev pub bytes : String → List ℕ
@@ -20,8 +23,11 @@ bytes (c before s) = code c ∷ bytes s
 abbrev pub m2Text : List ℕ
 m2Text = bytes "000100040003\n0000\n0001\n0001\n0000\n000000010005\n000100020006\n000200030005\nffff\n"
 
+abbrev pub m2Slices : Slices
+m2Slices = record { needs = 0 ∷ 1 ∷ 1 ∷ 0 ∷ []; lows = 0 ∷ 1 ∷ 2 ∷ []; highs = 1 ∷ 2 ∷ 3 ∷ []; costs = 5 ∷ 6 ∷ 5 ∷ [] }
+
 abbrev pub m2 : Table
-m2 = ofSlices 1 4 3 (0 ∷ 1 ∷ 1 ∷ 0 ∷ []) (0 ∷ 1 ∷ 2 ∷ []) (1 ∷ 2 ∷ 3 ∷ []) (5 ∷ 6 ∷ 5 ∷ [])
+m2 = tableOf 1 4 3 m2Slices
 
 pub record M2 : Type 0 where
   pub header : take 13 m2Text ≡ 48 ∷ 48 ∷ 48 ∷ 49 ∷ 48 ∷ 48 ∷ 48 ∷ 52 ∷ 48 ∷ 48 ∷ 48 ∷ 51 ∷ 10 ∷ []
@@ -30,6 +36,22 @@ pub record M2 : Type 0 where
   pub legal : Legal m2
   pub fits : Fits m2
   pub written : textOf m2 ≡ m2Text
+
+-- slices of M2's size, and a text that is longer by 3
+
+abbrev blank : Slices
+blank = record { needs = replicate 4 9; lows = replicate 3 9; highs = replicate 3 9; costs = replicate 3 9 }
+
+abbrev lent : List ℕ
+lent = replicate 80 0
+
+-- calls with M2 that meet what each round trip of the functions asks
+pub record Calls : Type 0 where
+  pub read : ReadTable m2Text (Read 1 4 3 77) blank m2Slices
+  pub enough : length m2Text ≤ length lent
+  pub write : WriteTable 1 4 3 m2Slices (Length 77) lent (m2Text ++ drop 77 lent)
+  pub holds : Holds 4 3 blank
+  pub again : ReadTable (take 77 (m2Text ++ drop 77 lent)) (Read 1 4 3 77) blank m2Slices
 
 abbrev refusal : Bool → String → ℕ
 refusal more s = textFault 256 2048 more (bytes s)
