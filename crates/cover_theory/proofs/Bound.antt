@@ -57,8 +57,10 @@ module _ (t : Table) (s : Sound t) (choice : ℕ → Bool) (within : WithinSpare
   abbrev onlyChoiceAt : ℕ → ℕ → Bool
   onlyChoiceAt x i = touches t x i && without choice (kept t) i
 
+  -- At a probe x, by e, the dearest of those that only the plan keeps.
   module _ (x : ℕ) (lx : x < t .probes) (e : Last (t .links) (λ i j. dearer t j i) (onlyPlanAt x)) where
-    abbrev full : spare t x ≤ dearerAt t (rested t) (e .at) x
+    -- x rests its spare of dearer links
+    full : spare t x ≤ dearerAt t (rested t) (e .at) x
     full =
         let blocked = leb (spare t x) (dearerAt t (rested t) (e .at) x) in
         let only = without (kept t) choice (e .at) in
@@ -90,6 +92,7 @@ module _ (t : Table) (s : Sound t) (choice : ℕ → Bool) (within : WithinSpare
         (λ g l. and-skip (touches t x g) (dearer t g (e .at)) (rested t g)) in
         omega arith
 
+    -- e costs no less than those that only the plan keeps, and no more than those that only the choice keeps
     most : (i : ℕ) → i < t .links → onlyPlanAt x i ≡ true → t .cost i ≤ t .cost (e .at)
     most i l h = go (decLt (t .cost (e .at)) (t .cost i))
       where
@@ -119,7 +122,7 @@ module _ (t : Table) (s : Sound t) (choice : ℕ → Bool) (within : WithinSpare
           weigh-le (t .links) (onlyPlanAt x) (onlyChoiceAt x) (t .cost)
           (λ i l h. absurd (true≢false (sym h ∙ count-none (t .links) (onlyPlanAt x) (omega arith) i l)))
 
-  -- a link that only the plan keeps onlyPlanAt for one of its ends
+  -- a link that only the plan keeps is kept because of one of its ends
   one-end : (i : ℕ) → i < t .links → cond (without (kept t) choice i) (t .cost i) 0 ≤ sum (t .probes) (λ x. cond (onlyPlanAt x i) (t .cost i) 0)
   one-end i l =
       part (without (kept t) choice i) (t .cost i) (sum (t .probes) (λ x. cond (onlyPlanAt x i) (t .cost i) 0))

@@ -1,4 +1,4 @@
--- The order of a table's links: on a rising table `dearer` is a strict total order, "at equal cost" by the larger place in the table.
+-- The order of a legal table's links: `dearer` is strict and total, by the cost and then by the place in the table.
 use Prim.Native.Nat.{ℕ, zero, suc, _-_, _≤_, _<_}
 use mathlib.Core.Path.{_≡_, sym, _∙_}
 use mathlib.Core.Logic.{_⊎_, inl, inr}
@@ -53,21 +53,21 @@ after-after t i j k (inr a) (inr b) = inr (omega arith)
 
 -- the checks of a table, at any limits
 module _ (pmax lmax : ℕ) (t : Table) (good : tableFault pmax lmax t ≡ 0) where
-  abbrev links-good : ℕ
-  links-good = first (linkFault (t .probes) (t .low) (t .high)) (t .links)
+  abbrev linksFault : ℕ
+  linksFault = first (linkFault (t .probes) (t .low) (t .high)) (t .links)
 
-  abbrev needs-good : ℕ
-  needs-good = first (needFault t) (t .probes)
+  abbrev needsFault : ℕ
+  needsFault = first (needFault t) (t .probes)
 
-  none : orElse links-good needs-good ≡ 0
-  none = or-right (sizeFault pmax lmax (t .probes) (t .links)) (orElse links-good needs-good) good
+  none : orElse linksFault needsFault ≡ 0
+  none = or-right (sizeFault pmax lmax (t .probes) (t .links)) (orElse linksFault needsFault) good
 
   rise : (i j : ℕ) → i < j → j < t .links → After t i j
   rise i zero k l = absurd (omega arith)
   rise i (suc j) k l = go (rise i j) (ℕ-discrete i j)
     where
       next : After t j (suc j)
-      next = next-rises t j (first-all (linkFault (t .probes) (t .low) (t .high)) (t .links) (suc j) (or-left links-good needs-good none) l)
+      next = next-rises t j (first-all (linkFault (t .probes) (t .low) (t .high)) (t .links) (suc j) (or-left linksFault needsFault none) l)
 
       go : (i < j → j < t .links → After t i j) → Dec (i ≡ j) → After t i (suc j)
       go old (yes e) = rw e next
@@ -77,14 +77,14 @@ module _ (pmax lmax : ℕ) (t : Table) (good : tableFault pmax lmax t ≡ 0) whe
   sound =
       record {
         order = record { rising = rise };
-        ends = links-ends (t .probes) (t .links) (t .low) (t .high) (or-left links-good needs-good none);
+        ends = links-ends (t .probes) (t .links) (t .low) (t .high) (or-left linksFault needsFault none);
       }
 
   -- refusal 7
   pub enough : (v : ℕ) → v < t .probes → t .need v ≤ degree t v
   enough v l =
       ltb-false (degree t v) (t .need v)
-      (when-none (ltb (degree t v) (t .need v)) 6 (first-all (needFault t) (t .probes) v (or-right links-good needs-good none) l))
+      (when-none (ltb (degree t v) (t .need v)) 6 (first-all (needFault t) (t .probes) v (or-right linksFault needsFault none) l))
 
 -- dearer, as numbers
 abbrev pub Dear : Table → ℕ → ℕ → Type 0
@@ -115,7 +115,7 @@ module _ (t : Table) (r : Rising t) where
           rw (e, le-ltb j j (omega arith), le-ltb (t .low j) (t .low j) (omega arith), le-ltb (t .high j) (t .high j) (omega arith))
           (and-false (eqb (t .low j) (t .low j)))
 
-  -- "equal cost: larger index"
+  -- at equal cost the link with the larger place in the table is dearer
   pub dearer-by-place : (i j : ℕ) → i < t .links → j < t .links
       → dearer t i j ≡ (ltb (t .cost j) (t .cost i) || (eqb (t .cost i) (t .cost j) && ltb j i))
   unfolding dearer

@@ -22,7 +22,7 @@ Solves m before test r = (i : ℕ) → i < m → r i ≡ test (λ g. before g i 
 
 module _ (m : ℕ) (before : ℕ → ℕ → Bool) (o : Order m before) (test : (ℕ → Bool) → ℕ → Bool) where
   -- before its step a number is out
-  early : (k i : ℕ) → k ≤ place m before i → passAfter m before test k i ≡ false
+  pub early : (k i : ℕ) → k ≤ place m before i → passAfter m before test k i ≡ false
   unfolding passAfter
   early zero i l = refl
   early (suc k) i l = rw (ne-eqb (place m before i) k (λ e. omega arith)) (early k i (omega arith))

@@ -25,7 +25,7 @@ opposite o =
       total = λ i j li lj n. o .total j i lj li (λ e. n (sym e));
     }
 
--- where g stands, seen from e
+-- how g and e are ordered
 pub data Side (before : ℕ → ℕ → Bool) (g e : ℕ) : Type 0 where
   here : eqb g e ≡ true → before g e ≡ false → before e g ≡ false → Side before g e
   earlier : eqb g e ≡ false → before g e ≡ true → before e g ≡ false → Side before g e
@@ -82,7 +82,7 @@ module _ (m : ℕ) (before : ℕ → ℕ → Bool) (o : Order m before) where
       part x (earlier q f h) = rw (q, f, h) (omega arith)
       part x (later q f h) = rw (q, f, h) (omega arith)
 
-  -- e, some before it and some after it
+  -- e itself, members before it and members after it
   pub three : (p q r : ℕ → Bool) (e : ℕ) → e < m → p e ≡ true → ((g : ℕ) → g < m → q g ≡ true → (before g e && p g) ≡ true)
       → ((g : ℕ) → g < m → r g ≡ true → (before e g && p g) ≡ true) → count m q + count m r < count m p
   three p q r e l i hq hr =
@@ -180,12 +180,19 @@ module _ (m : ℕ) (before : ℕ → ℕ → Bool) (o : Order m before) where
       (λ f. and-intro f (o .transitive g i j l li lj f e))) in
       omega arith
 
+  -- the places from either side
+  pub place-opposite : (i : ℕ) → i < m → suc (place m before i + place m (λ g j. before j g) i) ≡ m
+  place-opposite i li =
+      let a = split (λ g. true) i li in
+      let b = weigh-same m (λ g. before g i && true) (λ g. before g i) (λ g. 1) (λ g l. and-true (before g i)) in
+      let c = weigh-same m (λ g. before i g && true) (λ g. before i g) (λ g. 1) (λ g l. and-true (before i g)) in
+      let d = count-all m in
+      omega arith
+
   pub place-last : (i : ℕ) → i < m → ((g : ℕ) → g < m → before i g ≡ false) → suc (place m before i) ≡ m
   place-last i li h =
-      let a = split (λ g. true) i li in
-      let b = none-count m (λ g. before i g && true) (λ g l f. true≢false (sym (and-left (before i g) true f) ∙ h g l)) in
-      let c = weigh-same m (λ g. before g i && true) (λ g. before g i) (λ g. 1) (λ g l. and-true (before g i)) in
-      let d = count-all m in
+      let a = place-opposite i li in
+      let b = none-count m (λ g. before i g) (λ g l e. true≢false (sym e ∙ h g l)) in
       omega arith
 
   -- a rising row of m numbers below m has them all by their places

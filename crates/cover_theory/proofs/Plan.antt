@@ -13,7 +13,7 @@ use Rattle.table.specs.Table.{Table, touches, degree, spare, dearer}
 use Rattle.table.specs.Legal.{Legal}
 use Rattle.cover_theory.specs.Plan.{linksAt, hasMore, rested, kept, Meets}
 use Rattle.cover_theory.proofs.Places.{bounded}
-use Rattle.cover_theory.proofs.Pass.{criterion, only-pass}
+use Rattle.cover_theory.proofs.Pass.{OnlyBelow, Solves, criterion, only-pass}
 use Rattle.cover_theory.proofs.Order.{Rising, sound, enough, dearer-order}
 
 -- how many links of r at v are dearer than i
@@ -63,14 +63,14 @@ module _ (t : Table) where
   under-more s v f = lt-ltb (t .need v) (degree t v - linksAt t s v) (omega arith)
 
   -- both ends of i have more links than they need, with s rested
-  abbrev pub test : (ℕ → Bool) → ℕ → Bool
-  test s i = hasMore t s (t .low i) && hasMore t s (t .high i)
+  abbrev pub bothMore : (ℕ → Bool) → ℕ → Bool
+  bothMore s i = hasMore t s (t .low i) && hasMore t s (t .high i)
 
-  test-below : (r s : ℕ → Bool) → ((g : ℕ) → g < t .links → r g ≡ s g) → (i : ℕ) → test r i ≡ test s i
-  test-below r s h i = rw (at-same r s h (t .low i), at-same r s h (t .high i))
+  more-below : OnlyBelow (t .links) bothMore
+  more-below r s h i = rw (at-same r s h (t .low i), at-same r s h (t .high i))
 
   -- the criterion is one test
-  test-under : (s : ℕ → Bool) (i : ℕ) → (test s i ≡ true) ↔ ((linksAt t s (t .low i) < spare t (t .low i)) × (linksAt t s (t .high i) < spare t (t .high i)))
+  test-under : (s : ℕ → Bool) (i : ℕ) → (bothMore s i ≡ true) ↔ ((linksAt t s (t .low i) < spare t (t .low i)) × (linksAt t s (t .high i) < spare t (t .high i)))
   test-under s i =
       let low = hasMore t s (t .low i) in
       let high = hasMore t s (t .high i) in (
@@ -78,7 +78,7 @@ module _ (t : Table) where
         λ f. and-intro (under-more s (t .low i) (f .0)) (under-more s (t .high i) (f .1)),
       )
 
-  pub by-test : (r : ℕ → Bool) → ((i : ℕ) → i < t .links → r i ≡ test (λ g. dearer t g i && r g) i) → Criterion t r
+  pub by-test : (r : ℕ → Bool) → Solves (t .links) (dearer t) bothMore r → Criterion t r
   by-test r h i l =
       let both = test-under (λ g. dearer t g i && r g) i in
       (λ e. both .0 (sym (h i l) ∙ e), λ f. h i l ∙ both .1 f)
@@ -86,15 +86,15 @@ module _ (t : Table) where
 module _ (t : Table) (rises : Rising t) where
   pub plan-criterion : Criterion t (rested t)
   unfolding rested
-  plan-criterion = by-test t (rested t) (criterion (t .links) (dearer t) (dearer-order t rises) (test t) (test-below t))
+  plan-criterion = by-test t (rested t) (criterion (t .links) (dearer t) (dearer-order t rises) (bothMore t) (more-below t))
 
   pub plan-unique : (r : ℕ → Bool) → Criterion t r → (i : ℕ) → i < t .links → r i ≡ rested t i
   unfolding rested
   plan-unique r c =
-      only-pass (t .links) (dearer t) (dearer-order t rises) (test t) (test-below t) r
+      only-pass (t .links) (dearer t) (dearer-order t rises) (bothMore t) (more-below t) r
       (λ i l.
       let both = test-under t (λ g. dearer t g i && r g) i in
-      same-bool (r i) (test t (λ g. dearer t g i && r g) i) (λ e. both .1 (c i l .0 e)) (λ e. c i l .1 (both .0 e)))
+      same-bool (r i) (bothMore t (λ g. dearer t g i && r g) i) (λ e. both .1 (c i l .0 e)) (λ e. c i l .1 (both .0 e)))
 
   -- a rested link has fewer dearer ones at each end than the spare
   pub rested-at : (i v : ℕ) → i < t .links → rested t i ≡ true → touches t v i ≡ true → UnderSpare t (rested t) i v

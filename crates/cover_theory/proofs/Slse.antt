@@ -12,9 +12,9 @@ use Rattle.range.proofs.Sums.{sum-same, sum-add, weigh-le, member}
 use Rattle.table.specs.Table.{Table, touches, degree, dearer}
 use Rattle.cover_theory.specs.Plan.{linksAt, hasMore, cheaper, isShort, added, hasMoreAdded, removed, slse, kept}
 use Rattle.cover_theory.proofs.Places.{Order, opposite, Side, here, earlier, later, side, three}
-use Rattle.cover_theory.proofs.Pass.{criterion}
+use Rattle.cover_theory.proofs.Pass.{Solves, criterion}
 use Rattle.cover_theory.proofs.Order.{Rising, dearer-order}
-use Rattle.cover_theory.proofs.Plan.{at-same, at-end, touches-low, touches-high, test, by-test, plan-unique}
+use Rattle.cover_theory.proofs.Plan.{at-same, at-end, touches-low, touches-high, bothMore, by-test, plan-unique}
 
 -- One link in five sets: at the probe, added, removed, dearer, cheaper.
 point : (at a r d u : Bool) → (r ≡ true → a ≡ true) → (a ≡ false → u ≡ not d)
@@ -37,15 +37,13 @@ module _ (t : Table) (rises : Rising t) where
   abbrev order : Order (t .links) (dearer t)
   order = dearer-order t rises
 
-  added-by : (i : ℕ) → i < t .links
-      → added t i ≡ (isShort t (λ g. dearer t i g && added t g) (t .low i) || isShort t (λ g. dearer t i g && added t g) (t .high i))
+  added-by : Solves (t .links) (cheaper t) (λ s g. isShort t s (t .low g) || isShort t s (t .high g)) (added t)
   unfolding added
   added-by =
       criterion (t .links) (cheaper t) (opposite order) (λ s g. isShort t s (t .low g) || isShort t s (t .high g))
       (λ r s h i. rw (at-same t r s h (t .low i), at-same t r s h (t .high i)))
 
-  removed-by : (i : ℕ) → i < t .links
-      → removed t i ≡ (added t i && (hasMoreAdded t (λ g. dearer t g i && removed t g) (t .low i) && hasMoreAdded t (λ g. dearer t g i && removed t g) (t .high i)))
+  removed-by : Solves (t .links) (dearer t) (λ r g. added t g && (hasMoreAdded t r (t .low g) && hasMoreAdded t r (t .high g))) (removed t)
   unfolding removed
   removed-by =
       criterion (t .links) (dearer t) order (λ r g. added t g && (hasMoreAdded t r (t .low g) && hasMoreAdded t r (t .high g)))
@@ -101,7 +99,7 @@ module _ (t : Table) (rises : Rising t) where
         drop true false c h = h
         drop false b c h = absurd (true≢false (sym h))
 
-    -- the links at v by turns
+    -- the links at v, counted in two ways
     counted : added t e ≡ true → degree t v + dearRemoved ≡ linksAt t (added t) v + (cheapLeft + dearDropped)
     unfolding dropped
     counted a =
@@ -159,7 +157,7 @@ module _ (t : Table) (rises : Rising t) where
             let same : linksAt t (added t) v - dearRemoved ≡ degree t v - dearDropped = omega arith in
             ap (ltb (t .need v)) same
 
-  dropped-by : (e : ℕ) → e < t .links → dropped e ≡ test t (λ g. dearer t g e && dropped g) e
+  dropped-by : Solves (t .links) (dearer t) (bothMore t) dropped
   unfolding dropped
   dropped-by e l = go (decided (added t e))
     where
@@ -169,7 +167,7 @@ module _ (t : Table) (rises : Rising t) where
           let room = around e v l at in
           lt-ltb (t .need v) (degree t v - linksAt t (λ g. dearer t g e && dropped g) v) (omega arith)
 
-      go : (added t e ≡ true) ⊎ (added t e ≡ false) → dropped e ≡ test t (λ g. dearer t g e && dropped g) e
+      go : (added t e ≡ true) ⊎ (added t e ≡ false) → dropped e ≡ bothMore t (λ g. dearer t g e && dropped g) e
       go (inl a) =
           rw a (Bool·not-not (removed t e))
           ∙ removed-by e l

@@ -1,12 +1,12 @@
 -- Laws of lists made over i < n.
 use Prim.Native.Nat.{ℕ, zero, suc, _+_, _*_, _≤_, _<_}
-use mathlib.Core.Path.{_≡_, refl, _∙_, ap}
+use mathlib.Core.Path.{_≡_, refl, sym, _∙_, ap}
 use mathlib.Core.List.{List, _++_}
 use native.Mathlib.Omega.{arith}
 use native.Mathlib.Numerals.{add-one}
-use native.Mathlib.Decide.{ℕ-discrete}
+use native.Mathlib.Decide.{decLt, ℕ-discrete}
 use lib.ListN.{length, getD, set, replicate, length-set, length-append}
-use lib.Seq.{getD-set-same, getD-set-other}
+use lib.Seq.{getD-set-same, getD-set-other, ext-getD}
 use Rattle.range.specs.Lists.{joined, stored}
 
 pub zeros-at : (n v : ℕ) → getD {A = ℕ} (replicate n 0) v 0 ≡ 0
@@ -65,3 +65,33 @@ stored-beyond f (suc n) d i l =
 
 pub same-length : (f : ℕ → ℕ) (n : ℕ) (d e : List ℕ) → e ≡ stored f n d → length e ≡ length d
 same-length f n d e q = ap length q ∙ length-stored f n d
+
+-- a list is d with f stored when its entries say so
+pub stored-ext : (f : ℕ → ℕ) (n : ℕ) (d e : List ℕ) → n ≤ length d → length e ≡ length d → ((j : ℕ) → j < n → getD e j 0 ≡ f j)
+    → ((j : ℕ) → n ≤ j → getD e j 0 ≡ getD d j 0) → e ≡ stored f n d
+stored-ext f n d e fits long own beyond =
+    ext-getD 0 e (stored f n d) (long ∙ sym (length-stored f n d)) (λ j l. go j (decLt j n))
+  where
+    go : (j : ℕ) → Dec (j < n) → getD e j 0 ≡ getD (stored f n d) j 0
+    go j (yes k) = own j k ∙ sym (stored-at f n d j fits k)
+    go j (no k) = beyond j (omega arith) ∙ sym (stored-beyond f n d j (omega arith))
+
+pub stored-self : (f : ℕ → ℕ) (n : ℕ) (d : List ℕ) → n ≤ length d → ((j : ℕ) → j < n → getD d j 0 ≡ f j) → d ≡ stored f n d
+stored-self f n d fits own = stored-ext f n d d fits refl own (λ j l. refl)
+
+pub stored-again : (f g : ℕ → ℕ) (n : ℕ) (d : List ℕ) → n ≤ length d → stored g n (stored f n d) ≡ stored g n d
+stored-again f g n d fits =
+    let l = length-stored f n d in
+    stored-ext g n d (stored g n (stored f n d)) fits (length-stored g n (stored f n d) ∙ l) (λ j k. stored-at g n (stored f n d) j (omega arith) k)
+    (λ j k. stored-beyond g n (stored f n d) j k ∙ stored-beyond f n d j k)
+
+-- one entry stored anew
+pub stored-update : (f g : ℕ → ℕ) (n : ℕ) (d : List ℕ) (i v : ℕ) → n ≤ length d → i < n → g i ≡ v → ((j : ℕ) → j < n → (j ≡ i → ⊥) → g j ≡ f j)
+    → set (stored f n d) i v ≡ stored g n d
+stored-update f g n d i v fits l here same =
+    stored-ext g n d (set (stored f n d) i v) fits (length-set (stored f n d) i v ∙ length-stored f n d) (λ j k. go j k (ℕ-discrete j i))
+    (λ j k. getD-set-other (stored f n d) i j v 0 (λ z. omega arith) ∙ stored-beyond f n d j k)
+  where
+    go : (j : ℕ) → j < n → Dec (j ≡ i) → getD (set (stored f n d) i v) j 0 ≡ g j
+    go j k (yes e) = rw e (getD-set-same (stored f n d) i v 0 (let m = length-stored f n d in omega arith) ∙ sym here)
+    go j k (no e) = getD-set-other (stored f n d) i j v 0 e ∙ stored-at f n d j fits k ∙ sym (same j k e)

@@ -198,3 +198,16 @@ pub count-all : (n : ℕ) → count n (λ i. true) ≡ n
 unfolding sum
 count-all zero = refl
 count-all (suc n) = let a = count-all n in omega arith
+
+-- a set with one member more
+pub weigh-more : (n : ℕ) (p q : ℕ → Bool) (c : ℕ → ℕ) (i : ℕ) → i < n → p i ≡ false → q i ≡ true → ((j : ℕ) → j < n → (j ≡ i → ⊥) → q j ≡ p j)
+    → weigh n q c ≡ weigh n p c + c i
+weigh-more n p q c i l out into same =
+    sum-same n (λ j. cond (q j) (c j) 0) (λ j. cond (p j) (c j) 0 + cond (eqb j i) (c j) 0) (λ j k. go j k (ℕ-discrete j i))
+    ∙ (let a = sum-add n (λ j. cond (p j) (c j) 0) (λ j. cond (eqb j i) (c j) 0) in
+    let b = sum-one n c i l in
+    omega arith)
+  where
+    go : (j : ℕ) → j < n → Dec (j ≡ i) → cond (q j) (c j) 0 ≡ cond (p j) (c j) 0 + cond (eqb j i) (c j) 0
+    go j k (yes e) = rw (e, into, out, eq-eqb i i refl) (omega arith)
+    go j k (no d) = rw (same j k d, ne-eqb j i d) (omega arith)

@@ -1,7 +1,7 @@
 -- Counting the links of each probe, one link at a time.
 use Prim.Native.Nat.{ℕ, _+_, _<_}
 use mathlib.Core.Path.{_≡_, _∙_, ap}
-use mathlib.Core.Bool.{cond, _||_}
+use mathlib.Core.Bool.{Bool, true, false, cond, _||_}
 use mathlib.Core.List.{List}
 use native.Mathlib.Omega.{arith}
 use native.Mathlib.Numerals.{add-one}
@@ -12,8 +12,28 @@ use lib.Seq.{getD-set-same, getD-set-other}
 use borrow.Author.Tests.{eq-eqb, ne-eqb}
 use Rattle.range.specs.Sum.{sum, count}
 
-abbrev bump : List ℕ → ℕ → List ℕ
-bump d v = set d v (getD d v 0 + 1)
+-- d with the entry at v changed by f
+abbrev pub changed : (ℕ → ℕ) → List ℕ → ℕ → List ℕ
+changed f d v = set d v (f (getD d v 0))
+
+-- d with the entries at the two ends of a link changed
+pub ends-changed : (f : ℕ → ℕ) (d : List ℕ) (l h : ℕ) → l < length d → h < length d → l < h → (v : ℕ)
+    → getD (changed f (changed f d l) h) v 0 ≡ cond (eqb v l || eqb v h) (f (getD d v 0)) (getD d v 0)
+ends-changed f d l h inl inh rises v = go (ℕ-discrete v l) (ℕ-discrete v h)
+  where
+    go : Dec (v ≡ l) → Dec (v ≡ h) → getD (changed f (changed f d l) h) v 0 ≡ cond (eqb v l || eqb v h) (f (getD d v 0)) (getD d v 0)
+    go (yes a) (yes b) = absurd (omega arith)
+    go (yes a) (no b) =
+        getD-set-other (changed f d l) h v _ 0 b
+        ∙ ap (λ (k : ℕ). getD (changed f d l) k 0) a
+        ∙ getD-set-same d l _ 0 inl
+        ∙ rw (eq-eqb v l a, a)
+    go (no a) (yes b) =
+        ap (λ (k : ℕ). getD (changed f (changed f d l) h) k 0) b
+        ∙ getD-set-same (changed f d l) h _ 0 (simp length-set inh)
+        ∙ ap f (getD-set-other d l h _ 0 (λ z. omega arith))
+        ∙ rw (ne-eqb v l a, eq-eqb v h b, b)
+    go (no a) (no b) = getD-set-other (changed f d l) h v _ 0 b ∙ getD-set-other d l v _ 0 a ∙ rw (ne-eqb v l a, ne-eqb v h b)
 
 module _ (low high : ℕ → ℕ) where
   -- how many of the first i links touch v
@@ -26,28 +46,12 @@ module _ (low high : ℕ → ℕ) where
 
   -- after one more at l and one more at h, the ends of the link i
   pub counted-next : (i l h : ℕ) (d e f : List ℕ) → l ≡ low i → h ≡ high i → low i < length d → high i < length d → low i < high i
-      → e ≡ bump d l → f ≡ bump e h → (v : ℕ) → getD d v 0 ≡ touched i v → getD f v 0 ≡ touched (i + 1) v
-  counted-next i l h d e f el eh inl inh rises one two v was = rw (two, one, el, eh) (go (ℕ-discrete v (low i)) (ℕ-discrete v (high i)))
+      → e ≡ changed (λ n. n + 1) d l → f ≡ changed (λ n. n + 1) e h → (v : ℕ) → getD d v 0 ≡ touched i v → getD f v 0 ≡ touched (i + 1) v
+  counted-next i l h d e f el eh inl inh rises one two v was =
+      rw (two, one, el, eh)
+      (ends-changed (λ n. n + 1) d (low i) (high i) inl inh rises v
+      ∙ go (eqb v (low i) || eqb v (high i)) (touched-next i v))
     where
-      go : Dec (v ≡ low i) → Dec (v ≡ high i)
-          → getD (bump (bump d (low i)) (high i)) v 0 ≡ touched (i + 1) v
-      go (yes a) (yes b) = absurd (omega arith)
-      go (yes a) (no b) =
-          getD-set-other (bump d (low i)) (high i) v _ 0 b
-          ∙ ap (λ (k : ℕ). getD (bump d (low i)) k 0) a
-          ∙ getD-set-same d (low i) _ 0 inl
-          ∙ (let t = rw (eq-eqb v (low i) a) at (touched-next i v) in
-          let w = ap (λ (k : ℕ). getD d k 0) a in
-          omega arith)
-      go (no a) (yes b) =
-          ap (λ (k : ℕ). getD (bump (bump d (low i)) (high i)) k 0) b
-          ∙ getD-set-same (bump d (low i)) (high i) _ 0 (simp length-set inh)
-          ∙ (let t = rw (ne-eqb v (low i) a, eq-eqb v (high i) b) at (touched-next i v) in
-          let o = getD-set-other d (low i) (high i) (getD d (low i) 0 + 1) 0 (λ z. omega arith) in
-          let w = ap (λ (k : ℕ). getD d k 0) b in
-          omega arith)
-      go (no a) (no b) =
-          getD-set-other (bump d (low i)) (high i) v _ 0 b
-          ∙ getD-set-other d (low i) v _ 0 a
-          ∙ (let t = rw (ne-eqb v (low i) a, ne-eqb v (high i) b) at (touched-next i v) in
-          omega arith)
+      go : (b : Bool) → touched (i + 1) v ≡ touched i v + cond b 1 0 → cond b (getD d v 0 + 1) (getD d v 0) ≡ touched (i + 1) v
+      go true t = omega arith
+      go false t = omega arith

@@ -94,7 +94,8 @@ fn links_fault(probes: usize, links: usize, lows: &[u16], highs: &[u16]) -> u8
     0
 }
 
-fn add_one(counts: &mut [u16], v: usize)
+// One more at a probe.
+pub fn add_one(counts: &mut [u16], v: usize)
     requires { ⌜ (v < length (now counts)) × (getD (now counts) v 0 < 65535) ⌝ }
     ensures { λ _. ⌜ now (counts .exit) ≡ set (now (counts .entry)) v (getD (now (counts .entry)) v 0 + 1) ⌝ }
 {
