@@ -4,6 +4,7 @@ use mathlib.Core.Path.{_≡_, refl, sym, _∙_, ap}
 use mathlib.Core.Logic.{_⊎_, inl, inr}
 use mathlib.Core.Bool.{Bool, true, false, cond, _&&_, not}
 use native.Mathlib.Omega.{arith}
+use native.Mathlib.Numerals.{add-one}
 use native.Mathlib.Decide.{decLt, ℕ-discrete}
 use native.Mathlib.Nat.{mul-le-mul-right}
 use lib.Dec.{ltb, eqb}
@@ -211,3 +212,17 @@ weigh-more n p q c i l out into same =
     go : (j : ℕ) → j < n → Dec (j ≡ i) → cond (q j) (c j) 0 ≡ cond (p j) (c j) 0 + cond (eqb j i) (c j) 0
     go j k (yes e) = rw (e, into, out, eq-eqb i i refl) (omega arith)
     go j k (no d) = rw (same j k d, ne-eqb j i d) (omega arith)
+
+pub weigh-next : (n : ℕ) (p : ℕ → Bool) (c : ℕ → ℕ) → weigh (n + 1) p c ≡ weigh n p c + cond (p n) (c n) 0
+unfolding sum
+weigh-next n p c = rw (add-one n)
+
+-- weights of 16 bits
+pub weigh-most : (n : ℕ) (p : ℕ → Bool) (c : ℕ → ℕ) → ((i : ℕ) → i < n → c i ≤ 65535) → weigh n p c ≤ 65535 * n
+unfolding sum
+weigh-most zero p c h = omega arith
+weigh-most (suc n) p c h = go (p n) (weigh-most n p c (λ i l. h i (omega arith))) (h n (omega arith))
+  where
+    go : (b : Bool) → weigh n p c ≤ 65535 * n → c n ≤ 65535 → weigh n p c + cond b (c n) 0 ≤ 65535 * suc n
+    go true a m = omega arith
+    go false a m = omega arith

@@ -26,7 +26,7 @@ use Rattle.cover_theory.proofs.Order.{Rising, Sound, sound, dearer-order}
 use Rattle.cover_theory.proofs.Plan.{at-same}
 use Rattle.cover_theory.proofs.Slse.{slse-is-plan}
 use Rattle.cover_theory.proofs.Pass.{early, pass-step}
-use Rattle.slse.specs.Ordered.{byteOf}
+use Rattle.slse.specs.Ordered.{planByte}
 use Rattle.slse.specs.Steps.{eitherShort, bothOver, oneMore, oneLess}
 
 and-false : (b : Bool) → (b && false) ≡ false
@@ -95,11 +95,11 @@ module _ (probes links : ℕ) (needs lows highs costs : List ℕ) where
   down k = passAfter links (dearer t) (λ r g. added t g && (hasMoreAdded t r (t .low g) && hasMoreAdded t r (t .high g))) k
 
   pub record Up (k : ℕ) (plan₀ plan counts : List ℕ) : Type 0 where
-    pub plans : plan ≡ stored (λ j. byteOf (up k j)) links plan₀
+    pub plans : plan ≡ stored (λ j. planByte (up k j)) links plan₀
     pub counted : (v : ℕ) → v < probes → item counts v ≡ linksAt t (up k) v
 
   pub record Down (k : ℕ) (plan₀ plan counts : List ℕ) : Type 0 where
-    pub plans : plan ≡ stored (λ j. byteOf (added t j && not (down k j))) links plan₀
+    pub plans : plan ≡ stored (λ j. planByte (added t j && not (down k j))) links plan₀
     pub counted : (v : ℕ) → v < probes → item counts v ≡ linksAt t (added t) v - linksAt t (down k) v
 
   module _ (rises : Rising t) (k i : ℕ) (plan₀ plan counts : List ℕ) (l : i < links) (ends : Ends probes (item lows i) (item highs i)) (wide : probes ≤ length counts) (room : links ≤ length plan₀) where
@@ -141,13 +141,13 @@ module _ (probes links : ℕ) (needs lows highs costs : List ℕ) where
               plans =
                   p
                   ∙ rw (y, was .plans)
-                  (stored-update (λ j. byteOf (up k j)) (λ j. byteOf (up (k + 1) j)) links plan₀ i 1 room l (ap byteOf (m .into)) (λ j n d. ap byteOf (m .same j n d)));
+                  (stored-update (λ j. planByte (up k j)) (λ j. planByte (up (k + 1) j)) links plan₀ i 1 room l (ap planByte (m .into)) (λ j n d. ap planByte (m .same j n d)));
               counted = λ v n. rw (c, y) (more-at (up k) (up (k + 1)) v m (was .counted v n));
             }
         go (inr n) =
             let s = step-same t (cheaper t) order (λ s g. isShort t s (t .low g) || isShort t s (t .high g)) k i l at (sym tested ∙ n) in
             record {
-              plans = p ∙ rw (n, was .plans) (stored-same (λ j. byteOf (up k j)) (λ j. byteOf (up (k + 1) j)) links plan₀ (λ j m. ap byteOf (sym (s j m))));
+              plans = p ∙ rw (n, was .plans) (stored-same (λ j. planByte (up k j)) (λ j. planByte (up (k + 1) j)) links plan₀ (λ j m. ap planByte (sym (s j m))));
               counted = λ v m. rw (c, n) (was .counted v m ∙ at-same t (up k) (up (k + 1)) (λ g h. sym (s g h)) v);
             }
 
@@ -155,10 +155,10 @@ module _ (probes links : ℕ) (needs lows highs costs : List ℕ) where
     added-byte : Down k plan₀ plan counts → place links (dearer t) i ≡ k → eqb (item plan i) 1 ≡ added t i
     added-byte was at =
         let e = early links (dearer t) (dearer-order t rises) (λ r g. added t g && (hasMoreAdded t r (t .low g) && hasMoreAdded t r (t .high g))) k i (omega arith) in
-        ap (λ (x : ℕ). eqb x 1) (ap (λ (x : List ℕ). item x i) (was .plans) ∙ stored-at (λ j. byteOf (added t j && not (down k j))) links plan₀ i room l)
+        ap (λ (x : ℕ). eqb x 1) (ap (λ (x : List ℕ). item x i) (was .plans) ∙ stored-at (λ j. planByte (added t j && not (down k j))) links plan₀ i room l)
         ∙ rw (e, and-true (added t i)) (go (added t i))
       where
-        go : (b : Bool) → eqb (byteOf b) 1 ≡ b
+        go : (b : Bool) → eqb (planByte b) 1 ≡ b
         go true = refl
         go false = refl
 
@@ -179,13 +179,13 @@ module _ (probes links : ℕ) (needs lows highs costs : List ℕ) where
             → Down (k + 1) plan₀ plan′ counts′
         go (inl y) =
             let m = step-more t (dearer t) order (λ r g. added t g && (hasMoreAdded t r (t .low g) && hasMoreAdded t r (t .high g))) k i l at (sym tested ∙ y) in
-            let gone : byteOf (added t i && not (down (k + 1) i)) ≡ 0 = rw (m .into) (ap byteOf (and-false (added t i))) in
+            let gone : planByte (added t i && not (down (k + 1) i)) ≡ 0 = rw (m .into) (ap planByte (and-false (added t i))) in
             record {
               plans =
                   p
                   ∙ rw (y, was .plans)
-                  (stored-update (λ j. byteOf (added t j && not (down k j))) (λ j. byteOf (added t j && not (down (k + 1) j))) links plan₀ i 0 room l gone
-                  (λ j n d. ap (λ (b : Bool). byteOf (added t j && not b)) (m .same j n d)));
+                  (stored-update (λ j. planByte (added t j && not (down k j))) (λ j. planByte (added t j && not (down (k + 1) j))) links plan₀ i 0 room l gone
+                  (λ j n d. ap (λ (b : Bool). planByte (added t j && not b)) (m .same j n d)));
               counted = λ v n. rw (c, y) (less-at (linksAt t (added t) v) (down k) (down (k + 1)) v m (was .counted v n));
             }
         go (inr n) =
@@ -194,8 +194,8 @@ module _ (probes links : ℕ) (needs lows highs costs : List ℕ) where
               plans =
                   p
                   ∙ rw (n, was .plans)
-                  (stored-same (λ j. byteOf (added t j && not (down k j))) (λ j. byteOf (added t j && not (down (k + 1) j))) links plan₀
-                  (λ j m. ap (λ (b : Bool). byteOf (added t j && not b)) (sym (s j m))));
+                  (stored-same (λ j. planByte (added t j && not (down k j))) (λ j. planByte (added t j && not (down (k + 1) j))) links plan₀
+                  (λ j m. ap (λ (b : Bool). planByte (added t j && not b)) (sym (s j m))));
               counted = λ v m. rw (c, n) (was .counted v m ∙ ap (λ (x : ℕ). linksAt t (added t) v - x) (at-same t (down k) (down (k + 1)) (λ g h. sym (s g h)) v));
             }
 
@@ -231,34 +231,34 @@ module _ (probes links : ℕ) (needs lows highs costs : List ℕ) where
         omega arith
 
     -- cleared, added, removed: the bytes are those of the plan
-    pub kept-bytes : (plan plan₁ plan₂ plan₃ : List ℕ) → links ≤ length plan → plan₁ ≡ stored (λ j. 0) links plan → plan₂ ≡ stored (λ j. byteOf (added t j)) links plan₁
-        → plan₃ ≡ stored (λ j. byteOf (slse t j)) links plan₂ → plan₃ ≡ stored (λ j. byteOf (kept t j)) links plan
+    pub kept-bytes : (plan plan₁ plan₂ plan₃ : List ℕ) → links ≤ length plan → plan₁ ≡ stored (λ j. 0) links plan → plan₂ ≡ stored (λ j. planByte (added t j)) links plan₁
+        → plan₃ ≡ stored (λ j. planByte (slse t j)) links plan₂ → plan₃ ≡ stored (λ j. planByte (kept t j)) links plan
     kept-bytes plan plan₁ plan₂ plan₃ room e₁ e₂ e₃ =
-        let all : ℕ → ℕ = λ j. byteOf (slse t j) in
-        let some : ℕ → ℕ = λ j. byteOf (added t j) in
+        let all : ℕ → ℕ = λ j. planByte (slse t j) in
+        let some : ℕ → ℕ = λ j. planByte (added t j) in
         let l = length-stored (λ j. 0) links plan in
         e₃
         ∙ ap (stored all links) e₂
         ∙ ap (λ (x : List ℕ). stored all links (stored some links x)) e₁
         ∙ stored-again some all links (stored (λ j. 0) links plan) (omega arith)
         ∙ stored-again (λ j. 0) all links plan room
-        ∙ stored-same all (λ j. byteOf (kept t j)) links plan (λ j k. ap byteOf (slse-is-plan t (whole .order) j k))
+        ∙ stored-same all (λ j. planByte (kept t j)) links plan (λ j k. ap planByte (slse-is-plan t (whole .order) j k))
 
-  pub up-end : (plan₀ plan counts : List ℕ) → Up links plan₀ plan counts → (plan ≡ stored (λ j. byteOf (added t j)) links plan₀) × ((v : ℕ) → v < probes → item counts v ≡ linksAt t (added t) v)
+  pub up-end : (plan₀ plan counts : List ℕ) → Up links plan₀ plan counts → (plan ≡ stored (λ j. planByte (added t j)) links plan₀) × ((v : ℕ) → v < probes → item counts v ≡ linksAt t (added t) v)
   unfolding added
   up-end plan₀ plan counts was = (was .plans, was .counted)
 
-  pub down-start : (plan counts : List ℕ) → links ≤ length plan → ((j : ℕ) → j < links → getD plan j 0 ≡ byteOf (added t j)) → ((v : ℕ) → v < probes → getD counts v 0 ≡ linksAt t (added t) v) → Down 0 plan plan counts
+  pub down-start : (plan counts : List ℕ) → links ≤ length plan → ((j : ℕ) → j < links → getD plan j 0 ≡ planByte (added t j)) → ((v : ℕ) → v < probes → getD counts v 0 ≡ linksAt t (added t) v) → Down 0 plan plan counts
   unfolding passAfter
   down-start plan counts room own all =
       record {
-        plans = stored-self (λ j. byteOf (added t j && true)) links plan room (λ j l. own j l ∙ ap byteOf (sym (and-true (added t j))));
+        plans = stored-self (λ j. planByte (added t j && true)) links plan room (λ j l. own j l ∙ ap planByte (sym (and-true (added t j))));
         counted = λ v l.
             let z = none-count links (λ j. touches t v j && false) (λ j m e. absurd (true≢false (sym e ∙ and-false (touches t v j)))) in
             let e = all v l in
             omega arith;
       }
 
-  pub down-end : (plan₀ plan counts : List ℕ) → Down links plan₀ plan counts → plan ≡ stored (λ j. byteOf (slse t j)) links plan₀
+  pub down-end : (plan₀ plan counts : List ℕ) → Down links plan₀ plan counts → plan ≡ stored (λ j. planByte (slse t j)) links plan₀
   unfolding removed
   down-end plan₀ plan counts was = was .plans

@@ -11,5 +11,5 @@ abbrev pub Ordered : Table → List ℕ → Type 0
 Ordered t order = (k : ℕ) → k < t .links → (item order k < t .links) × (place (t .links) (dearer t) (item order k) ≡ k)
 
 -- a plan buffer's byte: "1 kept and 0 rested"
-abbrev pub byteOf : Bool → ℕ
-byteOf b = cond b 1 0
+abbrev pub planByte : Bool → ℕ
+planByte b = cond b 1 0

@@ -8,7 +8,7 @@ ghost use Rattle.range.specs.Lists.{stored};
 ghost use Rattle.table.specs.Table.{item, ofSlices};
 ghost use Rattle.table.specs.Legal.{tableFault};
 ghost use Rattle.cover_theory.specs.Plan.{linksAt, added, slse, kept};
-ghost use Rattle.slse.specs.Ordered.{Ordered, byteOf};
+ghost use Rattle.slse.specs.Ordered.{Ordered, planByte};
 ghost use Rattle.slse.specs.Steps.{eitherShort, bothOver, oneMore, oneLess};
 
 // Whether an end has fewer links than it needs.
@@ -96,7 +96,7 @@ fn add_links(
         × (probes ≤ length (now needs)) × (links ≤ length (now lows)) × (links ≤ length (now highs))
         × Ordered (ofSlices 0 probes links (now needs) (now lows) (now highs) (now costs)) (now order)
         × ((j : ℕ) → j < links → getD (now plan) j 0 ≡ 0) × ((v : ℕ) → v < probes → getD (now counts) v 0 ≡ 0) ⌝ }
-    ensures { λ _. ⌜ (now (plan .exit) ≡ stored (λ j. byteOf (added (ofSlices 0 probes links (now (needs .entry)) (now (lows .entry)) (now (highs .entry)) (now (costs .entry))) j)) links (now (plan .entry)))
+    ensures { λ _. ⌜ (now (plan .exit) ≡ stored (λ j. planByte (added (ofSlices 0 probes links (now (needs .entry)) (now (lows .entry)) (now (highs .entry)) (now (costs .entry))) j)) links (now (plan .entry)))
         × ((v : ℕ) → v < probes → getD (now (counts .exit)) v 0 ≡ linksAt (ofSlices 0 probes links (now (needs .entry)) (now (lows .entry)) (now (highs .entry)) (now (costs .entry))) (added (ofSlices 0 probes links (now (needs .entry)) (now (lows .entry)) (now (highs .entry)) (now (costs .entry)))) v) ⌝ }
 {
     let mut k = links;
@@ -130,9 +130,9 @@ fn remove_links(
         × (links ≤ length (now plan)) × (probes ≤ length (now counts)) × (links ≤ length (now order))
         × (probes ≤ length (now needs)) × (links ≤ length (now lows)) × (links ≤ length (now highs))
         × Ordered (ofSlices 0 probes links (now needs) (now lows) (now highs) (now costs)) (now order)
-        × ((j : ℕ) → j < links → getD (now plan) j 0 ≡ byteOf (added (ofSlices 0 probes links (now needs) (now lows) (now highs) (now costs)) j))
+        × ((j : ℕ) → j < links → getD (now plan) j 0 ≡ planByte (added (ofSlices 0 probes links (now needs) (now lows) (now highs) (now costs)) j))
         × ((v : ℕ) → v < probes → getD (now counts) v 0 ≡ linksAt (ofSlices 0 probes links (now needs) (now lows) (now highs) (now costs)) (added (ofSlices 0 probes links (now needs) (now lows) (now highs) (now costs))) v) ⌝ }
-    ensures { λ _. ⌜ now (plan .exit) ≡ stored (λ j. byteOf (slse (ofSlices 0 probes links (now (needs .entry)) (now (lows .entry)) (now (highs .entry)) (now (costs .entry))) j)) links (now (plan .entry)) ⌝ }
+    ensures { λ _. ⌜ now (plan .exit) ≡ stored (λ j. planByte (slse (ofSlices 0 probes links (now (needs .entry)) (now (lows .entry)) (now (highs .entry)) (now (costs .entry))) j)) links (now (plan .entry)) ⌝ }
 {
     let mut k = 0;
     while k < links {
@@ -175,7 +175,7 @@ pub fn plan_in_order(
         × (links ≤ length (now plan)) × (links ≤ length (now order))
         × (probes ≤ length (now needs)) × (links ≤ length (now lows)) × (links ≤ length (now highs))
         × Ordered (ofSlices 0 probes links (now needs) (now lows) (now highs) (now costs)) (now order) ⌝ }
-    ensures { λ _. ⌜ now (plan .exit) ≡ stored (λ j. byteOf (kept (ofSlices 0 probes links (now (needs .entry)) (now (lows .entry)) (now (highs .entry)) (now (costs .entry))) j)) links (now (plan .entry)) ⌝ }
+    ensures { λ _. ⌜ now (plan .exit) ≡ stored (λ j. planByte (kept (ofSlices 0 probes links (now (needs .entry)) (now (lows .entry)) (now (highs .entry)) (now (costs .entry))) j)) links (now (plan .entry)) ⌝ }
 {
     let mut counts = [0u16; 256];
     clear(plan, links);

@@ -94,13 +94,20 @@ module _ (pmax lmax : ℕ) (more : Bool) (s : List ℕ) where
   pub text-legal : textFault pmax lmax more s ≡ 0 → tableFault pmax lmax (ofText s) ≡ 0
   text-legal e = text-good e .legal
 
--- a text that is read within some limits is read within wider ones
+-- a table that is legal within some limits is legal within wider ones
+pub table-wider : (pmax lmax pmax′ lmax′ : ℕ) (t : Table) → pmax ≤ pmax′ → lmax ≤ lmax′ → tableFault pmax lmax t ≡ 0 → tableFault pmax′ lmax′ t ≡ 0
+table-wider pmax lmax pmax′ lmax′ t p l e =
+    let rest = orElse (first (linkFault (t .probes) (t .low) (t .high)) (t .links)) (first (needFault t) (t .probes)) in
+    let size = size-good pmax lmax (t .probes) (t .links) (or-left (sizeFault pmax lmax (t .probes) (t .links)) rest e) in
+    or-none (sizeFault pmax′ lmax′ (t .probes) (t .links)) rest
+    (good-size pmax′ lmax′ (t .probes) (t .links)
+    record { some = size .some; few = le-trans (size .few) p; within = le-trans (size .within) l })
+    ∙ or-right (sizeFault pmax lmax (t .probes) (t .links)) rest e
+
+-- and so is a text
 pub text-wider : (pmax lmax pmax′ lmax′ : ℕ) (more : Bool) (s : List ℕ) → pmax ≤ pmax′ → lmax ≤ lmax′ → textFault pmax lmax more s ≡ 0 → textFault pmax′ lmax′ true s ≡ 0
 text-wider pmax lmax pmax′ lmax′ more s p l e =
     let g = text-good pmax lmax more s e in
-    let t = ofText s in
-    let rest = orElse (first (linkFault (t .probes) (t .low) (t .high)) (t .links)) (first (needFault t) (t .probes)) in
-    let size = size-good pmax lmax (t .probes) (t .links) (or-left (sizeFault pmax lmax (t .probes) (t .links)) rest (g .legal)) in
     good-text pmax′ lmax′ true s
     record {
       head = g .head;
@@ -108,9 +115,5 @@ text-wider pmax lmax pmax′ lmax′ more s p l e =
       link = g .link;
       closing = g .closing;
       end = refl;
-      legal =
-          or-none (sizeFault pmax′ lmax′ (t .probes) (t .links)) rest
-          (good-size pmax′ lmax′ (t .probes) (t .links)
-          record { some = size .some; few = le-trans (size .few) p; within = le-trans (size .within) l })
-          ∙ or-right (sizeFault pmax lmax (t .probes) (t .links)) rest (g .legal);
+      legal = table-wider pmax lmax pmax′ lmax′ (ofText s) p l (g .legal);
     }

@@ -1,0 +1,15 @@
+use borrow.Author.Needs.{needs}
+use Rattle.cover.proofs.core.counted.Statement.{statement}
+use Rattle.cover.proofs.core.counted.Tie as tie
+use Rattle.cover.proofs.core.counted.Reads as reads
+use Rattle.cover.proofs.core.counted.Lts as lts
+use borrow.Author.Tests.{eq-eqb, ne-eqb}
+
+returns : tie.Need-returns
+returns c = rw (eq-eqb _ _ (c .if1 .taken))
+
+returns-2 : tie.Need-returns-2
+returns-2 c = rw (ne-eqb _ _ (c .if1 .left))
+
+pub counted-spec : {M : Type 1} → statement M
+counted-spec = tie.close (tie.spec returns returns-2)

@@ -1,0 +1,114 @@
+// Planning within limits, and the answer that goes with a plan. The public planners call these.
+use super::Planning;
+ghost use mathlib.Core.Path.{_≡_};
+ghost use mathlib.Core.Bool.{cond};
+ghost use Prim.Native.Nat.{_≤_};
+ghost use lib.Dec.{eqb};
+ghost use lib.ListN.{length};
+ghost use Rattle.range.specs.Sum.{weigh, count};
+ghost use Rattle.range.specs.Lists.{stored};
+ghost use Rattle.table.specs.Table.{item, ofSlices};
+ghost use Rattle.table.specs.Legal.{tableFault, roomFault};
+ghost use Rattle.cover_theory.specs.Plan.{kept};
+ghost use Rattle.slse.specs.Ordered.{planByte};
+ghost use Rattle.cover.specs.Planning.{planFault, Plans};
+ghost use Rattle.cover.specs.declared.Planning.the-variants.{Plan};
+
+// What a link counts where its byte says that it is kept.
+fn counted(byte: u8, value: u16) -> u32
+    ensures { λ r. ⌜ r ≡ cond (eqb byte 1) value 0 ⌝ }
+{
+    if byte == 1 { value as u32 } else { 0 }
+}
+
+// The count of kept links.
+pub fn kept_count(plan: &[u8], links: usize) -> u32
+    requires { ⌜ (links ≤ length (now plan)) × (links ≤ 2048) ⌝ }
+    ensures { λ r. ⌜ r ≡ count links (λ i. eqb (item (now (plan .entry)) i) 1) ⌝ }
+{
+    let mut n: u32 = 0;
+    let mut i = 0;
+    while i < links {
+        n += counted(plan[i], 1);
+        i += 1;
+    }
+    n
+}
+
+// The total cost of the kept links.
+pub fn kept_cost(plan: &[u8], links: usize, costs: &[u16]) -> u32
+    requires { ⌜ (links ≤ length (now plan)) × (links ≤ length (now costs)) × (links ≤ 2048) ⌝ }
+    ensures { λ r. ⌜ r ≡ weigh links (λ i. eqb (item (now (plan .entry)) i) 1) (item (now (costs .entry))) ⌝ }
+{
+    let mut n: u32 = 0;
+    let mut i = 0;
+    while i < links {
+        n += counted(plan[i], costs[i]);
+        i += 1;
+    }
+    n
+}
+
+// The answer that goes with a plan.
+fn answer(plan: &[u8], links: usize, costs: &[u16]) -> Planning
+    requires { ⌜ (links ≤ length (now plan)) × (links ≤ length (now costs)) × (links ≤ 2048) ⌝ }
+    ensures { λ r. ⌜ r ≡ Plan (count links (λ i. eqb (item (now (plan .entry)) i) 1)) (weigh links (λ i. eqb (item (now (plan .entry)) i) 1) (item (now (costs .entry)))) ⌝ }
+{
+    let kept = kept_count(plan, links);
+    let cost = kept_cost(plan, links, costs);
+    Planning::Plan {
+        kept: kept as u16,
+        cost,
+    }
+}
+
+// The plan by S-LSE of a legal table.
+pub fn slse_plan(
+    plan: &mut [u8],
+    probes: usize,
+    links: usize,
+    needs: &[u16],
+    lows: &[u16],
+    highs: &[u16],
+    costs: &[u16],
+)
+    requires { ⌜ (tableFault 256 2048 (ofSlices 0 probes links (now needs) (now lows) (now highs) (now costs)) ≡ 0) × (links ≤ length (now plan))
+        × (roomFault probes links (length (now needs)) (length (now lows)) (length (now highs)) (length (now costs)) ≡ 0) ⌝ }
+    ensures { λ _. ⌜ now (plan .exit) ≡ stored (λ i. planByte (kept (ofSlices 0 probes links (now (needs .entry)) (now (lows .entry)) (now (highs .entry)) (now (costs .entry))) i)) links (now (plan .entry)) ⌝ }
+{
+    let mut order = [0u16; 2048];
+    link_order::core::order_links(&mut order, links, costs);
+    slse::core::plan_in_order(plan, probes, links, &order, needs, lows, highs, costs);
+}
+
+// The plan by S-LSE within the limits pmax and lmax.
+pub fn slse_limited(
+    pmax: usize,
+    lmax: usize,
+    number: u16,
+    probes: u16,
+    links: u16,
+    needs: &[u16],
+    lows: &[u16],
+    highs: &[u16],
+    costs: &[u16],
+    plan: &mut [u8],
+) -> Planning
+    requires { ⌜ (pmax ≤ 256) × (lmax ≤ 2048) ⌝ }
+    ensures { λ r. ⌜ Plans
+        (planFault pmax lmax number probes links (now (needs .entry)) (now (lows .entry)) (now (highs .entry)) (now (costs .entry)) (length (now (plan .entry))))
+        (ofSlices number probes links (now (needs .entry)) (now (lows .entry)) (now (highs .entry)) (now (costs .entry)))
+        r (now (plan .entry)) (now (plan .exit)) ⌝ }
+{
+    let n = probes as usize;
+    let m = links as usize;
+    if plan.len() < m {
+        return Planning::Refused(8);
+    }
+    let fault = table::core::slice_fault(pmax, lmax, n, m, needs, lows, highs, costs);
+    if fault != 0 {
+        return Planning::Refused(fault);
+    }
+    slse_plan(plan, n, m, needs, lows, highs, costs);
+    answer(plan, m, costs)
+}
