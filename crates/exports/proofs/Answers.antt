@@ -12,7 +12,9 @@ use Rattle.table_read.specs.declared.Reading.{Reading}
 use Rattle.table_write.specs.Writing.{Writes}
 use Rattle.table_write.specs.declared.Writing.{Writing}
 use Rattle.table_write.specs.declared.Writing.the-variants.{Length, Refused}
-use Rattle.exports.specs.Packed.{packedReading, packedWriting, ReadsPacked, WritesPacked}
+use Rattle.cover.specs.Planning.{Plans}
+use Rattle.cover.specs.declared.Planning.{Planning}
+use Rattle.exports.specs.Packed.{packedPlanning, PlansPacked, packedReading, packedWriting, ReadsPacked, WritesPacked}
 
 pub reads-packed : (fault : ℕ) (t : Site) (a : Reading) (r : ℕ) (needs needs′ lows lows′ highs highs′ costs costs′ : List ℕ)
     → Reads fault t a needs needs′ lows lows′ highs highs′ costs costs′ → r ≡ packedReading a → ReadsPacked fault t r needs needs′ lows lows′ highs highs′ costs costs′
@@ -21,6 +23,10 @@ reads-packed fault t a r needs needs′ lows lows′ highs highs′ costs costs�
       answer = e ∙ ap packedReading (g .answer);
       lent = record { answer = refl; need = g .need; low = g .low; high = g .high; cost = g .cost };
     }
+
+pub plans-packed : (fault : ℕ) (t : Site) (a : Planning) (r : ℕ) (before after : List ℕ) → Plans fault t a before after → r ≡ packedPlanning a → PlansPacked fault t r before after
+plans-packed fault t a r before after g e =
+    record { answer = e ∙ ap packedPlanning (g .answer); lent = record { answer = refl; plan = g .plan } }
 
 pub writes-packed : (fault : ℕ) (t : Site) (a b : Writing) (r : ℕ) (before after : List ℕ) → Writes fault t a before after → a ≡ b → r ≡ packedWriting b → WritesPacked fault t r before after
 writes-packed fault t a b r before after g e f =

@@ -7,6 +7,9 @@ use Rattle.table_read.specs.Reading.{readingOf, Reads}
 use Rattle.table_write.specs.Writing.{writingOf, Writes}
 use Rattle.table_read.specs.declared.Reading.{Reading}
 use Rattle.table_read.specs.declared.Reading.the-variants.{Table, Refused as Unread}
+use Rattle.cover.specs.Planning.{planningOf, Plans}
+use Rattle.cover.specs.declared.Planning.{Planning}
+use Rattle.cover.specs.declared.Planning.the-variants.{Plan, Refused as Unplanned}
 use Rattle.table_write.specs.declared.Writing.{Writing}
 use Rattle.table_write.specs.declared.Writing.the-variants.{Length, Refused as Unwritten}
 
@@ -14,6 +17,11 @@ use Rattle.table_write.specs.declared.Writing.the-variants.{Length, Refused as 
 abbrev pub packedReading : Reading → ℕ
 packedReading (Table number probes links rest) = 2 ^ 48 + number * 2 ^ 32 + probes * 2 ^ 16 + links
 packedReading (Unread refusal) = refusal
+
+-- the kept count, 16 bits, above the cost, 32 bits
+abbrev pub packedPlanning : Planning → ℕ
+packedPlanning (Plan kept cost) = 2 ^ 48 + kept * 2 ^ 32 + cost
+packedPlanning (Unplanned refusal) = refusal
 
 abbrev pub packedWriting : Writing → ℕ
 packedWriting (Length length) = 2 ^ 48 + length
@@ -28,3 +36,7 @@ pub record ReadsPacked (fault : ℕ) (t : Site) (r : ℕ) (needs needs′ lows l
 pub record WritesPacked (fault : ℕ) (t : Site) (r : ℕ) (before after : List ℕ) : Type 0 where
   pub answer : r ≡ packedWriting (writingOf fault t)
   pub lent : Writes fault t (writingOf fault t) before after
+
+pub record PlansPacked (fault : ℕ) (t : Site) (r : ℕ) (before after : List ℕ) : Type 0 where
+  pub answer : r ≡ packedPlanning (planningOf fault t)
+  pub lent : Plans fault t (planningOf fault t) before after

@@ -7,7 +7,9 @@ ghost use Rattle.table.specs.Legal.{sliceFault};
 ghost use Rattle.table.specs.Checking.{checkingOf, refusalOf};
 ghost use Rattle.table.specs.Text.{ofText, readFault};
 ghost use Rattle.table_write.specs.Writing.{writeFault};
-ghost use Rattle.exports.specs.Packed.{packedReading, ReadsPacked, WritesPacked};
+ghost use Rattle.cover.specs.Planning.{planFault};
+ghost use Rattle.exports.specs.Packed.{packedReading, packedPlanning, ReadsPacked, WritesPacked, PlansPacked};
+use cover::Planning;
 use table::Checking;
 use table_read::Reading;
 use table_write::Writing;
@@ -105,4 +107,35 @@ pub extern "C" fn planner_write_table(
         Writing::Length(length) => length as u64 + 281474976710656,
         Writing::Refused(refusal) => refusal as u64,
     }
+}
+
+fn packed_planning(r: Planning) -> u64
+    ensures { λ n. ⌜ n ≡ packedPlanning r ⌝ }
+{
+    match r {
+        Planning::Plan { kept, cost } => 281474976710656
+            + (kept as u64) * 4294967296
+            + (cost as u64),
+        Planning::Refused(refusal) => refusal as u64,
+    }
+}
+
+// `cover::plan_by_slse`, its answer packed.
+#[no_mangle]
+pub extern "C" fn planner_plan_slse(
+    number: u16,
+    probes: u16,
+    links: u16,
+    needs: &[u16],
+    lows: &[u16],
+    highs: &[u16],
+    costs: &[u16],
+    plan: &mut [u8],
+) -> u64
+    ensures { λ r. ⌜ PlansPacked
+        (planFault 256 2048 number probes links (now (needs .entry)) (now (lows .entry)) (now (highs .entry)) (now (costs .entry)) (length (now (plan .entry))))
+        (ofSlices number probes links (now (needs .entry)) (now (lows .entry)) (now (highs .entry)) (now (costs .entry)))
+        r (now (plan .entry)) (now (plan .exit)) ⌝ }
+{
+    packed_planning(cover::plan_by_slse(number, probes, links, needs, lows, highs, costs, plan))
 }

@@ -1,11 +1,7 @@
+-- `cover::core::answer` meets its contract.
 use borrow.Author.Needs.{needs}
 use Rattle.cover.proofs.core.answer.Statement.{statement}
 use Rattle.cover.proofs.core.answer.Tie as tie
-use Rattle.cover.proofs.core.answer.Reads as reads
-use Rattle.cover.proofs.core.answer.Lts as lts
-use Rattle.cover.proofs.core.kept_cost.Reads as kept-cost-reads
-use Rattle.cover.proofs.core.kept_count.Reads as kept-count-reads
-use mathlib.Core.List.{List}
 use native.Mathlib.Omega.{arith}
 use lib.Dec.{eqb}
 use Rattle.range.proofs.Sums.{count-le}

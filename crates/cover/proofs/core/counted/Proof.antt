@@ -1,8 +1,6 @@
-use borrow.Author.Needs.{needs}
+-- `cover::core::counted` meets its contract.
 use Rattle.cover.proofs.core.counted.Statement.{statement}
 use Rattle.cover.proofs.core.counted.Tie as tie
-use Rattle.cover.proofs.core.counted.Reads as reads
-use Rattle.cover.proofs.core.counted.Lts as lts
 use borrow.Author.Tests.{eq-eqb, ne-eqb}
 
 returns : tie.Need-returns

@@ -1,11 +1,9 @@
+-- `cover::core::kept_count` meets its contract.
 use borrow.Author.Needs.{needs}
 use Rattle.cover.proofs.core.kept_count.Statement.{statement}
 use Rattle.cover.proofs.core.kept_count.Tie as tie
-use Rattle.cover.proofs.core.kept_count.Reads as reads
-use Rattle.cover.proofs.core.kept_count.Lts as lts
-use Rattle.cover.proofs.core.counted.Reads as counted-reads
 use Prim.Native.Nat.{ℕ, _+_, _-_, _≤_}
-use mathlib.Core.Path.{_≡_, refl, sym, _∙_}
+use mathlib.Core.Path.{_≡_, refl}
 use mathlib.Core.Bool.{Bool}
 use mathlib.Core.List.{List}
 use native.Mathlib.Omega.{arith}

@@ -1,19 +1,14 @@
+-- `cover::core::slse_limited` meets its contract.
 use borrow.Author.Needs.{needs}
 use Rattle.cover.proofs.core.slse_limited.Statement.{statement}
 use Rattle.cover.proofs.core.slse_limited.Tie as tie
-use Rattle.cover.proofs.core.slse_limited.Reads as reads
-use Rattle.cover.proofs.core.slse_limited.Lts as lts
-use Rattle.cover.proofs.core.answer.Reads as answer-reads
-use Rattle.cover.proofs.core.slse_plan.Reads as slse-plan-reads
-use Rattle.table.proofs.core.slice_fault.Reads as slice-fault-reads
-use Prim.Native.Nat.{ℕ, _≤_}
-use mathlib.Core.Path.{_≡_, refl, sym, _∙_, ap}
+use mathlib.Core.Path.{sym, _∙_}
 use native.Mathlib.Omega.{arith}
 use lib.ListN.{length}
 use Rattle.range.proofs.Faults.{or-left, or-right}
 use Rattle.table.specs.Table.{ofSlices}
-use Rattle.table.specs.Legal.{sizeFault, tableFault, roomFault, sliceFault}
-use Rattle.table.proofs.Faults.{room-good, size-good}
+use Rattle.table.specs.Legal.{tableFault, roomFault}
+use Rattle.table.proofs.Faults.{room-good}
 use Rattle.table.proofs.Accepted.{table-wider}
 use Rattle.table_write.proofs.Answers.{room-short, room-enough}
 use Rattle.slse.proofs.Turns.{size}

@@ -1,15 +1,11 @@
+-- `cover::core::slse_plan` meets its contract.
 use borrow.Author.Needs.{needs}
 use Rattle.cover.proofs.core.slse_plan.Statement.{statement}
 use Rattle.cover.proofs.core.slse_plan.Tie as tie
-use Rattle.cover.proofs.core.slse_plan.Reads as reads
-use Rattle.cover.proofs.core.slse_plan.Lts as lts
-use Rattle.link_order.proofs.core.order_links.Reads as order-links-reads
-use Rattle.slse.proofs.core.plan_in_order.Reads as plan-in-order-reads
-use Prim.Native.Nat.{ℕ, _≤_}
-use mathlib.Core.Path.{_≡_, sym, _∙_, ap}
+use mathlib.Core.Path.{_∙_}
 use native.Mathlib.Omega.{arith}
 use lib.ListN.{length}
-use Rattle.table.specs.Table.{ofSlices, item}
+use Rattle.table.specs.Table.{ofSlices}
 use Rattle.table.proofs.Faults.{room-good}
 use Rattle.cover_theory.proofs.Order.{sound}
 use Rattle.link_order.proofs.Order.{place-later}
