@@ -1,0 +1,76 @@
+use borrow.Author.Needs.{needs}
+use Rattle.suitor.proofs.core.by_turns.Statement.{statement}
+use Rattle.suitor.proofs.core.by_turns.Tie as tie
+use Rattle.suitor.proofs.core.by_turns.Reads as reads
+use Rattle.suitor.proofs.core.by_turns.Lts as lts
+use Rattle.suitor.proofs.core.clear.Reads as clear-reads
+use Rattle.suitor.proofs.core.find_spares.Reads as find-spares-reads
+use Rattle.suitor.proofs.core.take_turns.Reads as take-turns-reads
+use Rattle.suitor.proofs.core.write_plan.Reads as write-plan-reads
+use Prim.Native.Nat.{ℕ, _≤_}
+use mathlib.Core.Path.{_≡_, _∙_, ap}
+use native.Mathlib.Omega.{arith}
+use lib.ListN.{length, replicate}
+use Rattle.range.proofs.Lists.{zeros-at}
+use Rattle.suitor.proofs.Plan.{small, ends, fits, plan-bytes, zeros-ready}
+
+clear-requires : tie.Need-clear-requires
+clear-requires c κs = search needs
+
+slice-aggregate-find-spares : tie.Need-slice-aggregate-find-spares
+slice-aggregate-find-spares c = search needs
+
+find-spares-requires : tie.Need-find-spares-requires
+find-spares-requires c κs =
+    let a = c .before .before .before .before .before .before .before .before .before .before .before .args in
+    let p = c .before .before .before .before .before .before .before .before .before .before .before .pre in
+    let s = small (a .probes) (a .links) (a .needs .now) (a .lows .now) (a .highs .now) (a .costs .now) (p .0) in
+    (search needs, search needs, omega (arith, s .1), omega (arith, s .0), search needs, ends (a .probes) (a .links) (a .needs .now) (a .lows .now) (a .highs .now) (a .costs .now) (p .0), zeros-at 256)
+
+slice-aggregate-take-turns : tie.Need-slice-aggregate-take-turns
+slice-aggregate-take-turns c = search needs
+
+take-turns-requires : tie.Need-take-turns-requires
+take-turns-requires c κs =
+    let a = c .before .before .before .before .before .before .before .before .before .before .before .before .before .before .before .args in
+    let p = c .before .before .before .before .before .before .before .before .before .before .before .before .before .before .before .pre in
+    let s = small (a .probes) (a .links) (a .needs .now) (a .lows .now) (a .highs .now) (a .costs .now) (p .0) in
+    let l : length (c .before .before .before .find-spares .last .0) ≡ 256 = c .before .before .before .find-spares .kept .0 in
+    (zeros-ready (a .links) (length (a .work .now)) (a .lows .now) (a .highs .now) (a .costs .now) (c .before .before .before .find-spares .last .0) _ (c .before .before .before .before .before .before .before .clear .ensures) (p .6)
+      (fits (a .probes) (a .links) (a .needs .now) (a .lows .now) (a .highs .now) (a .costs .now) (p .0) (c .before .before .before .find-spares .last .0) l (p .2) (p .3) (p .4)), omega (arith, s .0))
+
+write-plan-requires : tie.Need-write-plan-requires
+write-plan-requires c κs = (search needs, c .before .before .before .before .take-turns .ensures .ready .paired .room)
+
+clear-requires-2 : tie.Need-clear-requires-2
+clear-requires-2 c κs = search needs
+
+same-length : tie.Need-same-length
+same-length c = search needs
+
+same-length-2 : tie.Need-same-length-2
+same-length-2 c = search needs
+
+returns : tie.Need-returns
+returns c =
+    let a = c .before .before .before .before .before .before .before .before .before .before .before .before .before .before .before .before .before .before .before .before .before .before .before .before .before .before .before .args in
+    let p = c .before .before .before .before .before .before .before .before .before .before .before .before .before .before .before .before .before .before .before .before .before .before .before .before .before .before .before .pre in
+    let f = c .before .before .before .before .before .before .before .before .before .before .before .before .before .before .before .find-spares in
+    let n : length (c .before .before .before .before .before .before .before .before .before .before .before .take-turns .last .0) ≡ length (a .work .now) = c .before .before .before .before .before .before .before .before .before .before .before .take-turns .kept .0 ∙ c .before .before .before .before .before .before .before .before .before .before .before .before .before .before .before .before .before .before .before .clear .kept .0 in
+    (c .before .before .before .before .before .before .write-plan .ensures ∙ plan-bytes (a .probes) (a .links) (a .needs .now) (a .lows .now) (a .highs .now) (a .costs .now) (p .0) (f .last .0) (c .before .before .before .before .before .before .before .before .before .before .before .take-turns .last .0) (f .ensures) (c .before .before .before .before .before .before .before .before .before .before .before .take-turns .ensures) (a .plan .now),
+      c .before .before .clear2 .ensures ∙ ap (λ (k : ℕ). replicate k 0) n)
+
+pub by-turns-spec : {M : Type 1} → statement M
+by-turns-spec =
+    tie.close
+    (tie.spec
+    clear-requires
+    slice-aggregate-find-spares
+    find-spares-requires
+    slice-aggregate-take-turns
+    take-turns-requires
+    write-plan-requires
+    clear-requires-2
+    same-length
+    same-length-2
+    returns)

@@ -1,0 +1,85 @@
+-- Offers by turn, over directions: what an offer, an end that takes none, and a turn mean. Document 01, "Two ways to one plan".
+use Prim.Native.Nat.{ℕ, _+_, _≤_, _<_}
+use mathlib.Core.Path.{_≡_}
+use mathlib.Core.Logic.{_⊎_}
+use mathlib.Core.Bool.{Bool, cond, _&&_}
+use lib.Dec.{ltb, eqb}
+use Rattle.range.specs.Sum.{count}
+
+-- A direction is a link from one of its ends, the source, to the other, the target. A dearer link has the larger key.
+pub record Site : Type 0 where
+  pub dirs : ℕ
+  pub source : ℕ → ℕ
+  pub target : ℕ → ℕ
+  pub key : ℕ → ℕ
+  pub spare : ℕ → ℕ
+
+-- The offers are o : 0 untried, 1 standing at the source and held at the target, 2 refused.
+
+-- how many directions of q are standing
+abbrev pub on : Site → (ℕ → ℕ) → (ℕ → Bool) → ℕ
+on s o q = count (s .dirs) (λ f. q f && eqb (o f) 1)
+
+abbrev pub stands : Site → (ℕ → ℕ) → ℕ → ℕ
+stands s o u = on s o (λ f. eqb (s .source f) u)
+
+abbrev pub holds : Site → (ℕ → ℕ) → ℕ → ℕ
+holds s o v = on s o (λ f. eqb (s .target f) v)
+
+-- f ends at the target of d and is dearer
+abbrev pub beats : Site → ℕ → ℕ → Bool
+beats s d f = eqb (s .target f) (s .target d) && ltb (s .key d) (s .key f)
+
+-- how many dearer ones the target of d holds
+abbrev pub rivals : Site → (ℕ → ℕ) → ℕ → ℕ
+rivals s o d = on s o (beats s d)
+
+-- the target of d would not take it: "An end takes an offer if it holds fewer than its spare, or if the offer is dearer than its cheapest held"
+abbrev pub Shut : Site → (ℕ → ℕ) → ℕ → Type 0
+Shut s o d = s .spare (s .target d) ≤ rivals s o d
+
+-- "none is left to make"
+abbrev pub NoneLeft : Site → (ℕ → ℕ) → ℕ → Type 0
+NoneLeft s o u = (d : ℕ) → d < s .dirs → s .source d ≡ u → o d ≡ 0 → Shut s o d
+
+-- "until its offers standing equal its spare or none is left to make"
+abbrev pub Satisfied : Site → (ℕ → ℕ) → ℕ → Type 0
+Satisfied s o u = (s .spare u ≤ stands s o u) ⊎ NoneLeft s o u
+
+-- what holds of the offers at each moment
+pub record Inv (s : Site) (o : ℕ → ℕ) : Type 0 where
+  pub standing : (u : ℕ) → stands s o u ≤ s .spare u
+  pub holding : (v : ℕ) → holds s o v ≤ s .spare v
+  pub refused : (d : ℕ) → d < s .dirs → (o d ≡ 0 → ⊥) → (o d ≡ 1 → ⊥) → Shut s o d
+  pub order : (f g : ℕ) → f < s .dirs → g < s .dirs → s .source f ≡ s .source g → o f ≡ 1 → o g ≡ 0 → (s .key g < s .key f) ⊎ Shut s o g
+
+-- no offer is untried again, and no target would take again
+pub record Grows (s : Site) (o o′ : ℕ → ℕ) : Type 0 where
+  pub tried : (d : ℕ) → o′ d ≡ 0 → o d ≡ 0
+  pub shut : (d : ℕ) → d < s .dirs → Shut s o d → Shut s o′ d
+
+-- an offer of u was made, and each probe displaced on the way offered again
+pub record Made (s : Site) (o o′ : ℕ → ℕ) (u : ℕ) : Type 0 where
+  pub inv : Inv s o′
+  pub grows : Grows s o o′
+  pub more : (w : ℕ) → (stands s o w + cond (eqb u w) 1 0 ≤ stands s o′ w) ⊎ NoneLeft s o′ w
+
+-- "its dearest link not yet tried whose other end would take it"
+pub record Next (s : Site) (o : ℕ → ℕ) (u d : ℕ) : Type 0 where
+  pub below : d < s .dirs
+  pub own : s .source d ≡ u
+  pub untried : o d ≡ 0
+  pub wanted : rivals s o d < s .spare (s .target d)
+  pub dearest : (g : ℕ) → g < s .dirs → s .source g ≡ u → o g ≡ 0 → s .key d < s .key g → Shut s o g
+
+-- what the search answers: the next offer of u, or a number past all directions
+pub record Sought (s : Site) (o : ℕ → ℕ) (u r : ℕ) : Type 0 where
+  pub some : r < s .dirs → Next s o u r
+  pub none : s .dirs ≤ r → NoneLeft s o u
+
+-- "its cheapest held"
+pub record Cheapest (s : Site) (o : ℕ → ℕ) (v c : ℕ) : Type 0 where
+  pub below : c < s .dirs
+  pub own : s .target c ≡ v
+  pub held : o c ≡ 1
+  pub least : (f : ℕ) → f < s .dirs → s .target f ≡ v → o f ≡ 1 → s .key c ≤ s .key f

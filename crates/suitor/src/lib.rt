@@ -1,0 +1,2 @@
+// Offers by turn: the plan by the b-Suitor method.
+pub mod core;
