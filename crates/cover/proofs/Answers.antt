@@ -4,7 +4,7 @@ use mathlib.Core.Path.{_≡_, refl, _∙_, ap}
 use mathlib.Core.Bool.{Bool, true, false}
 use mathlib.Core.List.{List}
 use lib.Dec.{eqb}
-use lib.ListN.{length}
+use lib.ListN.{length, replicate}
 use borrow.Author.Tests.{ne-eqb}
 use Rattle.range.specs.Sum.{weigh, count}
 use Rattle.range.specs.Lists.{stored}
@@ -13,7 +13,7 @@ use Rattle.range.proofs.Lists.{stored-at}
 use Rattle.table.specs.Table.{Table, item, ofSlices, dearer}
 use Rattle.cover_theory.specs.Plan.{kept, rested}
 use Rattle.slse.specs.Ordered.{planByte}
-use Rattle.cover.specs.Planning.{Plans}
+use Rattle.cover.specs.Planning.{Plans, PlansByTurns}
 use Rattle.cover.specs.declared.Planning.{Planning}
 use Rattle.cover.specs.declared.Planning.the-variants.{Plan, Refused}
 
@@ -49,3 +49,11 @@ pub numbered : (number probes links : ℕ) (needs lows highs costs plan plan′ 
     → plan′ ≡ stored (λ i. planByte (kept (ofSlices number probes links needs lows highs costs) i)) links plan
 unfolding rested dearer
 numbered number probes links needs lows highs costs plan plan′ e = e
+
+pub turns-refused : (fault r : ℕ) (t : Table) (plan work : List ℕ) → r ≡ fault → (r ≡ 0 → ⊥) → PlansByTurns fault t (Refused r) plan plan work work
+turns-refused fault r t plan work e n =
+    record { plans = plans-refused fault r t plan e n; cleared = rw (ne-eqb fault 0 (λ z. n (e ∙ z))) }
+
+pub turns-made : (fault : ℕ) (t : Table) (r : Planning) (plan plan′ work work′ : List ℕ) → fault ≡ 0 → Plans fault t r plan plan′ → work′ ≡ replicate (length work) 0
+    → PlansByTurns fault t r plan plan′ work work′
+turns-made fault t r plan plan′ work work′ z p w = record { plans = p; cleared = rw z w }

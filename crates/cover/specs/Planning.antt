@@ -44,3 +44,8 @@ clearedOf fault d = cond (eqb fault 0) (replicate (length d) 0) d
 pub record Plans (fault : ℕ) (t : Table) (r : Planning) (before after : List ℕ) : Type 0 where
   pub answer : r ≡ planningOf fault t
   pub plan : after ≡ plannedOf fault t before
+
+-- and in the working bytes
+pub record PlansByTurns (fault : ℕ) (t : Table) (r : Planning) (before after work work′ : List ℕ) : Type 0 where
+  pub plans : Plans fault t r before after
+  pub cleared : work′ ≡ clearedOf fault work

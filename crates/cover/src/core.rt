@@ -11,7 +11,7 @@ ghost use Rattle.table.specs.Table.{item, ofSlices};
 ghost use Rattle.table.specs.Legal.{tableFault, roomFault};
 ghost use Rattle.cover_theory.specs.Plan.{kept};
 ghost use Rattle.slse.specs.Ordered.{planByte};
-ghost use Rattle.cover.specs.Planning.{planFault, Plans};
+ghost use Rattle.cover.specs.Planning.{planFault, turnsFault, Plans, PlansByTurns};
 ghost use Rattle.cover.specs.declared.Planning.the-variants.{Plan};
 
 // What a link counts where its byte says that it is kept.
@@ -110,5 +110,41 @@ pub fn slse_limited(
         return Planning::Refused(fault);
     }
     slse_plan(plan, n, m, needs, lows, highs, costs);
+    answer(plan, m, costs)
+}
+
+// The plan by offers in turn within the limits pmax and lmax.
+pub fn turns_limited(
+    pmax: usize,
+    lmax: usize,
+    number: u16,
+    probes: u16,
+    links: u16,
+    needs: &[u16],
+    lows: &[u16],
+    highs: &[u16],
+    costs: &[u16],
+    plan: &mut [u8],
+    work: &mut [u8],
+) -> Planning
+    requires { ⌜ (pmax ≤ 256) × (lmax ≤ 2048) ⌝ }
+    ensures { λ r. ⌜ PlansByTurns
+        (turnsFault pmax lmax number probes links (now (needs .entry)) (now (lows .entry)) (now (highs .entry)) (now (costs .entry)) (length (now (plan .entry))) (length (now (work .entry))))
+        (ofSlices number probes links (now (needs .entry)) (now (lows .entry)) (now (highs .entry)) (now (costs .entry)))
+        r (now (plan .entry)) (now (plan .exit)) (now (work .entry)) (now (work .exit)) ⌝ }
+{
+    let n = probes as usize;
+    let m = links as usize;
+    if work.len() < 4 * m {
+        return Planning::Refused(8);
+    }
+    if plan.len() < m {
+        return Planning::Refused(8);
+    }
+    let fault = table::core::slice_fault(pmax, lmax, n, m, needs, lows, highs, costs);
+    if fault != 0 {
+        return Planning::Refused(fault);
+    }
+    suitor::core::by_turns(plan, work, n, m, needs, lows, highs, costs);
     answer(plan, m, costs)
 }

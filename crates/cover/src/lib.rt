@@ -1,7 +1,7 @@
 // The plan of a table in slices, by two methods.
 ghost use lib.ListN.{length};
 ghost use Rattle.table.specs.Table.{ofSlices};
-ghost use Rattle.cover.specs.Planning.{planFault, Plans};
+ghost use Rattle.cover.specs.Planning.{planFault, turnsFault, Plans, PlansByTurns};
 
 pub mod core;
 
@@ -38,5 +38,37 @@ pub fn plan_by_slse(
         highs,
         costs,
         plan,
+    )
+}
+
+// The plan by offers in turn, with working bytes lent, at least four a link.
+pub fn plan_by_turns(
+    number: u16,
+    probes: u16,
+    links: u16,
+    needs: &[u16],
+    lows: &[u16],
+    highs: &[u16],
+    costs: &[u16],
+    plan: &mut [u8],
+    work: &mut [u8],
+) -> Planning
+    ensures { λ r. ⌜ PlansByTurns
+        (turnsFault 256 2048 number probes links (now (needs .entry)) (now (lows .entry)) (now (highs .entry)) (now (costs .entry)) (length (now (plan .entry))) (length (now (work .entry))))
+        (ofSlices number probes links (now (needs .entry)) (now (lows .entry)) (now (highs .entry)) (now (costs .entry)))
+        r (now (plan .entry)) (now (plan .exit)) (now (work .entry)) (now (work .exit)) ⌝ }
+{
+    core::turns_limited(
+        256,
+        2048,
+        number,
+        probes,
+        links,
+        needs,
+        lows,
+        highs,
+        costs,
+        plan,
+        work,
     )
 }

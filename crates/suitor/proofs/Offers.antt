@@ -90,14 +90,17 @@ module _ (s : Site) (laws : Distinct s) (o : ℕ → ℕ) (i : Inv s o) (u d : �
         where
           g-was : o g ≡ 0
           g-was = t .tried g g0 .0
+
           kept : (s .key g < s .key f) ⊎ Shut s o g → (s .key g < s .key f) ⊎ Shut s o′ g
           kept (inl a) = inl a
           kept (inr a) = inr (t .shut g lg a)
+
           own : f ≡ d → Dec (s .key g < s .key d) → Dec (s .key d < s .key g) → (s .key g < s .key f) ⊎ Shut s o′ g
           own q (yes a) b = inl (rw q a)
           own q (no a) (yes b) = inr (t .shut g lg (next .dearest g lg (sym e ∙ ap (s .source) q ∙ next .own) g-was b))
           own q (no a) (no b) =
               absurd (t .tried g g0 .1 (sym (laws .sources d g (next .below) lg (ap (s .source) (sym q) ∙ e) (omega arith))))
+
           go : (f ≡ d) ⊎ (o f ≡ 1) → (s .key g < s .key f) ⊎ Shut s o′ g
           go (inl q) = own q (decLt (s .key g) (s .key d)) (decLt (s .key d) (s .key g))
           go (inr q) = kept (i .order f g lf lg e q g-was)
@@ -107,7 +110,7 @@ module _ (s : Site) (laws : Distinct s) (o : ℕ → ℕ) (i : Inv s o) (u d : �
     pub on-take : (q : ℕ → Bool) → on s o′ q ≡ on s o q + cond (q d) 1 0
     on-take q =
         let a = sum-same (s .dirs) (λ f. cond (q f && eqb (o′ f) 1) 1 0)
-            (λ f. cond (q f && eqb (o f) 1) 1 0 + cond (eqb f d) (cond (q f) 1 0) 0) (λ f k. part f (ℕ-discrete f d)) in
+        (λ f. cond (q f && eqb (o f) 1) 1 0 + cond (eqb f d) (cond (q f) 1 0) 0) (λ f k. part f (ℕ-discrete f d)) in
         let b = sum-add (s .dirs) (λ f. cond (q f && eqb (o f) 1) 1 0) (λ f. cond (eqb f d) (cond (q f) 1 0) 0) in
         let c = sum-one (s .dirs) (λ f. cond (q f) 1 0) d (next .below) in
         omega arith
@@ -125,14 +128,17 @@ module _ (s : Site) (laws : Distinct s) (o : ℕ → ℕ) (i : Inv s o) (u d : �
             go : Dec (e ≡ d) → (o e ≡ 0) × (e ≡ d → ⊥)
             go (yes q) = let a = ap o′ q in absurd (omega arith)
             go (no n) = (sym (rest e n) ∙ z, n)
+
         taken : (e : ℕ) → o′ e ≡ 1 → (e ≡ d) ⊎ (o e ≡ 1)
         taken e z = go (ℕ-discrete e d)
           where
             go : Dec (e ≡ d) → (e ≡ d) ⊎ (o e ≡ 1)
             go (yes q) = inl q
             go (no n) = inr (sym (rest e n) ∙ z)
+
         shut : (e : ℕ) → e < s .dirs → Shut s o e → Shut s o′ e
         shut e l h = let a = on-take (beats s e) in omega arith
+
         refused : (e : ℕ) → e < s .dirs → (o′ e ≡ 0 → ⊥) → (o′ e ≡ 1 → ⊥) → Shut s o′ e
         refused e l n0 n1 = go (ℕ-discrete e d)
           where
@@ -158,6 +164,7 @@ module _ (s : Site) (laws : Distinct s) (o : ℕ → ℕ) (i : Inv s o) (u d : �
             let a = rw (ne-eqb (s .source d) w n) at (on-take (λ f. eqb (s .source f) w)) in
             let b = i .standing w in
             omega arith
+
         holding : (w : ℕ) → Dec (s .target d ≡ w) → holds s o′ w ≤ s .spare w
         holding w (yes e) =
             let a = rw (eq-eqb (s .target d) w e) at (on-take (λ f. eqb (s .target f) w)) in
@@ -177,7 +184,7 @@ module _ (s : Site) (laws : Distinct s) (o : ℕ → ℕ) (i : Inv s o) (u d : �
     on-swap : (q : ℕ → Bool) → on s o′ q + cond (q c) 1 0 ≡ on s o q + cond (q d) 1 0
     on-swap q =
         let p = sum-same (s .dirs) (λ f. cond (q f && eqb (o′ f) 1) 1 0 + cond (eqb f c) (cond (q f) 1 0) 0)
-            (λ f. cond (q f && eqb (o f) 1) 1 0 + cond (eqb f d) (cond (q f) 1 0) 0) (λ f k. part f (ℕ-discrete f d) (ℕ-discrete f c)) in
+        (λ f. cond (q f && eqb (o f) 1) 1 0 + cond (eqb f d) (cond (q f) 1 0) 0) (λ f k. part f (ℕ-discrete f d) (ℕ-discrete f c)) in
         let a = sum-add (s .dirs) (λ f. cond (q f && eqb (o′ f) 1) 1 0) (λ f. cond (eqb f c) (cond (q f) 1 0) 0) in
         let b = sum-add (s .dirs) (λ f. cond (q f && eqb (o f) 1) 1 0) (λ f. cond (eqb f d) (cond (q f) 1 0) 0) in
         let x = sum-one (s .dirs) (λ f. cond (q f) 1 0) c (low .below) in
@@ -203,8 +210,10 @@ module _ (s : Site) (laws : Distinct s) (o : ℕ → ℕ) (i : Inv s o) (u d : �
           where
             at : eqb (s .target f) (s .target d) ≡ true
             at = and-left (eqb (s .target f) (s .target d)) (eqb (o f) 1) h
+
             byte : eqb (o f) 1 ≡ true
             byte = and-right (eqb (s .target f) (s .target d)) (eqb (o f) 1) h
+
             last : (ltb (s .key d) (s .key f) ≡ true) ⊎ (ltb (s .key d) (s .key f) ≡ false) → s .key c < s .key d
             last (inl a) = absurd (true≢false (sym (and-intro (and-intro at a) byte) ∙ n))
             last (inr a) =
@@ -220,10 +229,10 @@ module _ (s : Site) (laws : Distinct s) (o : ℕ → ℕ) (i : Inv s o) (u d : �
     shut-kept e l h =
         let a = on-swap (beats s e) in
         let b = bit-le (beats s e c) (beats s e d) (λ z.
-            let x = and-left (eqb (s .target c) (s .target e)) (ltb (s .key e) (s .key c)) z in
-            let y = ltb-true (s .key e) (s .key c) (and-right (eqb (s .target c) (s .target e)) (ltb (s .key e) (s .key c)) z) in
-            let k = cheaper in
-            and-intro (rw (low .own) at x) (lt-ltb (s .key e) (s .key d) (omega arith))) in
+        let x = and-left (eqb (s .target c) (s .target e)) (ltb (s .key e) (s .key c)) z in
+        let y = ltb-true (s .key e) (s .key c) (and-right (eqb (s .target c) (s .target e)) (ltb (s .key e) (s .key c)) z) in
+        let k = cheaper in
+        and-intro (rw (low .own) at x) (lt-ltb (s .key e) (s .key d) (omega arith))) in
         omega arith
 
     -- all that the target holds then is dearer than c
@@ -242,10 +251,13 @@ module _ (s : Site) (laws : Distinct s) (o : ℕ → ℕ) (i : Inv s o) (u d : �
           where
             at-d : eqb (s .target f) (s .target d) ≡ true
             at-d = and-left (eqb (s .target f) (s .target d)) (eqb (o′ f) 1) h
+
             byte : eqb (o′ f) 1 ≡ true
             byte = and-right (eqb (s .target f) (s .target d)) (eqb (o′ f) 1) h
+
             at : s .target f ≡ s .target d
             at = eqb-true (s .target f) (s .target d) at-d
+
             go : Dec (f ≡ d) → Dec (f ≡ c) → s .key c < s .key f
             go (yes e) n = rw e cheaper
             go (no m) (yes e) = absurd (gone (sym (ap o′ e) ∙ eqb-true (o′ f) 1 byte))
@@ -262,10 +274,12 @@ module _ (s : Site) (laws : Distinct s) (o : ℕ → ℕ) (i : Inv s o) (u d : �
         tried e z (yes q) m = let a = ap o′ q in absurd (omega arith)
         tried e z (no n) (yes q) = absurd (tried₂ (sym (ap o′ q) ∙ z))
         tried e z (no n) (no m) = (sym (rest e n m) ∙ z, n)
+
         taken : (e : ℕ) → o′ e ≡ 1 → Dec (e ≡ d) → Dec (e ≡ c) → (e ≡ d) ⊎ (o e ≡ 1)
         taken e z (yes q) m = inl q
         taken e z (no n) (yes q) = absurd (gone (sym (ap o′ q) ∙ z))
         taken e z (no n) (no m) = inr (sym (rest e n m) ∙ z)
+
         refused : (e : ℕ) → e < s .dirs → (o′ e ≡ 0 → ⊥) → (o′ e ≡ 1 → ⊥) → Dec (e ≡ d) → Dec (e ≡ c) → Shut s o′ e
         refused e l n0 n1 (yes q) m = absurd (n1 (ap o′ q ∙ here))
         refused e l n0 n1 (no n) (yes q) = rw q shut-gone
@@ -284,6 +298,7 @@ module _ (s : Site) (laws : Distinct s) (o : ℕ → ℕ) (i : Inv s o) (u d : �
             let a = rw (ne-eqb (s .source d) w n) at (on-swap (λ f. eqb (s .source f) w)) in
             let b = i .standing w in
             omega arith
+
         holding : (w : ℕ) → holds s o′ w ≤ s .spare w
         holding w =
             let a = on-swap (λ f. eqb (s .target f) w) in
@@ -297,6 +312,7 @@ module _ (s : Site) (laws : Distinct s) (o : ℕ → ℕ) (i : Inv s o) (u d : �
       where
         law : on s o′ (λ f. eqb (s .source f) (s .source c)) + 1 ≡ stands s o (s .source c) + cond (eqb (s .source d) (s .source c)) 1 0
         law = rw (eq-eqb (s .source c) (s .source c) refl) at (on-swap (λ f. eqb (s .source f) (s .source c)))
+
         go : Dec (s .source d ≡ s .source c) → stands s o′ (s .source c) < s .spare (s .source c)
         go (yes e) =
             let a = rw (eq-eqb (s .source d) (s .source c) e) at law in
@@ -340,11 +356,11 @@ explained s o i d l end n1 = go end (ℕ-discrete (o d) 0) (decLe (s .spare (s .
     go (inl e) (yes z) (no h) =
         let q : ℕ → Bool = λ f. eqb (s .source f) (s .source d) in
         let k = weigh-le (s .dirs) (λ f. q f && eqb (o f) 1) (λ f. (q f && ltb (s .key d) (s .key f)) && eqb (o f) 1) (λ f. 1)
-            (λ f m a.
-              let x = and-left (q f) (eqb (o f) 1) a in
-              let y = and-right (q f) (eqb (o f) 1) a in
-              and-intro (and-intro x (lt-ltb (s .key d) (s .key f)
-                (sure (s .key d < s .key f) (i .order f d m l (eqb-true (s .source f) (s .source d) x) (eqb-true (o f) 1 y) z)))) y) in
+        (λ f m a.
+        let x = and-left (q f) (eqb (o f) 1) a in
+        let y = and-right (q f) (eqb (o f) 1) a in
+        and-intro (and-intro x (lt-ltb (s .key d) (s .key f)
+        (sure (s .key d < s .key f) (i .order f d m l (eqb-true (s .source f) (s .source d) x) (eqb-true (o f) 1 y) z)))) y) in
         inl (omega arith)
       where
         sure : (P : Type 0) → P ⊎ Shut s o d → P

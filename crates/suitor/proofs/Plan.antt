@@ -69,9 +69,9 @@ module _ (links : ℕ) (a b r : List ℕ) (v : ℕ) (t q : ℕ → Bool) (apart 
       sides (λ f. (eqb (endOf a b f) v && q (f / 2)) && eqb (outbound r f) 1) links
       ∙ sum-same links _ (λ i. cond (t i && (q i && byteOf a r v i)) 1 0)
       (λ i l.
-        let e : 2 * i / 2 ≡ i = omega arith in
-        let f : (2 * i + 1) / 2 ≡ i = omega arith in
-        rw (end-from a b i, end-back a b i, e, f) (point i l (ℕ-discrete v (item a i)) (ℕ-discrete v (item b i))))
+      let e : 2 * i / 2 ≡ i = omega arith in
+      let f : (2 * i + 1) / 2 ≡ i = omega arith in
+      rw (end-from a b i, end-back a b i, e, f) (point i l (ℕ-discrete v (item a i)) (ℕ-discrete v (item b i))))
 
 or-turn : (a b : Bool) → (a || b) ≡ (b || a)
 or-turn true true = refl
@@ -103,7 +103,9 @@ module _ (probes links : ℕ) (needs lows highs costs : List ℕ) (legal : Legal
   fits spares e a b d =
       record {
         few = let s = small in omega (arith, s .1);
-        in-lows = a; in-highs = b; in-costs = d;
+        in-lows = a;
+        in-highs = b;
+        in-costs = d;
         rises = λ i l. ends i l .rises;
         ends = λ i l. let s = small in let k = ends i l .below in omega (arith, s .0);
       }
@@ -144,9 +146,11 @@ module _ (probes links : ℕ) (needs lows highs costs : List ℕ) (legal : Legal
       where
         few : links ≤ 2048
         few = small .1
+
         more : item costs (d / 2) * 65536 + d / 2 < item costs (f / 2) * 65536 + f / 2 → Dec (item costs (d / 2) < item costs (f / 2)) → Dear table (f / 2) (d / 2)
         more l (yes a) = inl a
         more l (no a) = let k = few in inr (omega arith)
+
         less : Dear table (f / 2) (d / 2) → item costs (d / 2) * 65536 + d / 2 < item costs (f / 2) * 65536 + f / 2
         less (inl a) = let k = few in omega arith
         less (inr a) = omega arith
@@ -192,6 +196,7 @@ module _ (probes links : ℕ) (needs lows highs costs : List ℕ) (legal : Legal
         same : (i u w : ℕ) → i < links → Across table i u w → stand u i ≡ held w i
         same i u w l up = rw (eq-eqb (item lows i) (item lows i) refl, eq-eqb (item highs i) (item highs i) refl)
         same i u w l down = rw (ne-eqb (item highs i) (item lows i) (apart-back i l), ne-eqb (item lows i) (item highs i) (apart i l))
+
         standing : (v : ℕ) → linksAt table (stand v) v ≤ spare table v
         standing v =
             let a = over .ready .inv .standing v in
@@ -199,6 +204,7 @@ module _ (probes links : ℕ) (needs lows highs costs : List ℕ) (legal : Legal
             let k = standing-at v (λ i. true) in
             let e = right v in
             omega arith
+
         holding : (v : ℕ) → linksAt table (held v) v ≤ spare table v
         holding v =
             let a = over .ready .inv .holding v in
@@ -206,6 +212,7 @@ module _ (probes links : ℕ) (needs lows highs costs : List ℕ) (legal : Legal
             let k = held-at v (λ i. true) in
             let e = right v in
             omega arith
+
         reason : (i u w : ℕ) → i < links → Across table i u w → stand u i ≡ false
             → (spare table u ≤ dearerAt table (stand u) i u) ⊎ (spare table w ≤ dearerAt table (held w) i w)
         reason i u w l up e =
@@ -244,6 +251,7 @@ zeros-ready links n lows highs costs spares r e m f =
   where
     none : (j : ℕ) → item r j ≡ 0
     none j = rw e (zeros-at n j)
+
     nothing : (q : ℕ → Bool) → count (2 * links) (λ f. q f && eqb (outbound r f) 1) ≡ 0
     nothing q = none-count (2 * links) (λ f. q f && eqb (outbound r f) 1) (λ f l h. let a = none (2 * f) in let b = eqb-true (outbound r f) 1 (and-right (q f) (eqb (outbound r f) 1) h) in omega arith)
 
@@ -259,6 +267,7 @@ spares-right probes links needs lows highs counts spares ends right room e v = r
         end : (i : ℕ) → i < links → (eqb v (item lows i) ≡ true) ⊎ (eqb v (item highs i) ≡ true) → ⊥
         end i l (inl h) = let a = eqb-true v (item lows i) h in let b = ends i l .rises in let k = ends i l .below in omega arith
         end i l (inr h) = let a = eqb-true v (item highs i) h in let k = ends i l .below in omega arith
+
     go : Dec (v < probes) → item (stored (λ k. item counts k - item needs k) probes counts) v ≡ spare (ofSlices 0 probes links needs lows highs []) v
     go (yes l) = stored-at (λ k. item counts k - item needs k) probes counts v room l ∙ ap (λ (x : ℕ). x - item needs v) (right v)
     go (no n) =

@@ -76,6 +76,7 @@ same-direction links a b costs few apart f g lf lg e k = go (ℕ-discrete (f % 2
   where
     place : f / 2 ≡ g / 2
     place = omega arith
+
     go : Dec (f % 2 ≡ 0) → Dec (g % 2 ≡ 0) → f ≡ g
     go (yes x) (yes y) = let p = place in omega arith
     go (yes x) (no y) =

@@ -90,11 +90,14 @@ module _ (s : Site) (o : ℕ → ℕ) (u : ℕ) where
   sought-done best floor n h l =
       record {
         some = λ m.
-          let p = h .some m in
-          record {
-            below = m; own = p .0; untried = p .1; wanted = p .2;
-            dearest = λ g k a b d. let e = p .3 in h .top g (omega arith) a b (omega arith);
-          };
+            let p = h .some m in
+            record {
+              below = m;
+              own = p .0;
+              untried = p .1;
+              wanted = p .2;
+              dearest = λ g k a b d. let e = p .3 in h .top g (omega arith) a b (omega arith);
+            };
         none = λ m d k a b. let z = h .none m in h .top d (omega arith) a b (omega arith);
       }
 
@@ -121,10 +124,12 @@ module _ (s : Site) (o : ℕ → ℕ) (v : ℕ) where
       let m = member (s .dirs) (λ f. eqb (s .target f) v && eqb (o f) 1) some in
       let i = m .0 in
       let q = h .low i (omega (arith, m .1)) (eqb-true (s .target i) v (and-left (eqb (s .target i) v) (eqb (o i) 1) (m .2)))
-          (eqb-true (o i) 1 (and-right (eqb (s .target i) v) (eqb (o i) 1) (m .2))) in
+      (eqb-true (o i) 1 (and-right (eqb (s .target i) v) (eqb (o i) 1) (m .2))) in
       let p = h .some (omega (arith, q .0, q .1)) in
       record {
-        below = p .0; own = p .1; held = p .2;
+        below = p .0;
+        own = p .1;
+        held = p .2;
         least = λ f k a b. let e = p .3 in let w = h .low f (omega arith) a b in omega (arith, w .0);
       }
 

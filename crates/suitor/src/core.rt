@@ -68,7 +68,15 @@ fn ones_at(rec: &[u8], links: usize, firsts: &[u16], seconds: &[u16], v: usize, 
 }
 
 // Whether d is an untried direction of u with a key of at least `floor`.
-fn is_open(rec: &[u8], lows: &[u16], highs: &[u16], costs: &[u16], d: usize, u: usize, floor: usize) -> bool
+fn is_open(
+    rec: &[u8],
+    lows: &[u16],
+    highs: &[u16],
+    costs: &[u16],
+    d: usize,
+    u: usize,
+    floor: usize,
+) -> bool
     requires { ⌜ (d < 2 * length (now lows)) × (d < 2 * length (now highs)) × (d < 2 * length (now costs)) × (d < 131072) × (2 * d < length (now rec)) ⌝ }
     ensures { λ r. ⌜ r ≡ (eqb (endOf (now (lows .entry)) (now (highs .entry)) d) u && (eqb (outbound (now (rec .entry)) d) 0 && leb floor (keyOf (now (costs .entry)) d))) ⌝ }
 {

@@ -124,9 +124,13 @@ displace-make-offer-requires t c κs =
     let worst = c .before .before .before .before .before .before .before .before .before .before .cheapest in
     let e = c .before .before .before .put2 .ensures ∙ ap (λ (x : List ℕ). put x (a .d) 1) (c .before .before .before .before .before .before .before .put .ensures) in
     let f = displaced-fewer (a .links) (a .lows .now) (a .highs .now) (a .costs .now) (a .spares .now) (a .rec .now) (a .d) (v .result) p (v .ensures) (worst .result) (worst .ensures) _ (λ z. omega arith) (λ z. omega arith) _ e in
-    let m = c .before .before .before .before .before .before .before .before .before .before .before .before .before .before .before .before .before .before .pre .0 in
-    (omega arith, (displaced-ready (a .links) (a .lows .now) (a .highs .now) (a .costs .now) (a .spares .now) (a .rec .now) (a .d) (v .result) p (v .ensures) (worst .result) (worst .ensures) _ (λ z. omega arith) (λ z. omega arith) _ e,
-      displaced-room (a .links) (a .lows .now) (a .highs .now) (a .costs .now) (a .spares .now) (a .rec .now) (a .d) (v .result) p (v .ensures) (worst .result) (worst .ensures) _ (λ z. omega arith) (λ z. omega arith) _ e (c .before .before .before .before .before .before .before .before .before .end-of2 .result) (c .before .before .before .before .before .before .before .before .before .end-of2 .ensures)))
+    let m = c .before .before .before .before .before .before .before .before .before .before .before .before .before .before .before .before .before .before .pre .0 in (
+      omega arith,
+      (
+        displaced-ready (a .links) (a .lows .now) (a .highs .now) (a .costs .now) (a .spares .now) (a .rec .now) (a .d) (v .result) p (v .ensures) (worst .result) (worst .ensures) _ (λ z. omega arith) (λ z. omega arith) _ e,
+        displaced-room (a .links) (a .lows .now) (a .highs .now) (a .costs .now) (a .spares .now) (a .rec .now) (a .d) (v .result) p (v .ensures) (worst .result) (worst .ensures) _ (λ z. omega arith) (λ z. omega arith) _ e (c .before .before .before .before .before .before .before .before .before .end-of2 .result) (c .before .before .before .before .before .before .before .before .before .end-of2 .ensures),
+      ),
+    )
 
 displace-same-length : (t : ℕ) → displace-lts.Need-same-length (
   end-of-reads.Asked,
@@ -324,7 +328,7 @@ make-offer-returns-2 t c =
     let a = c .before .before .before .before .before .before .before .before .before .before .before .before .before .before .before .before .before .args in
     let p = c .before .before .before .before .before .before .before .before .before .before .before .before .before .before .before .before .before .pre .1 in
     offered-take (a .links) (a .lows .now) (a .highs .now) (a .costs .now) (a .spares .now) (a .rec .now) (a .u) (c .before .before .before .before .before .before .before .before .before .before .next-offer .result) (c .before .before .before .before .before .before .before .before .end-of .result) (c .before .before .before .before .before .before .ones-at .result) (c .before .before .before .before .before .spare-of .result) (p .0) (p .1) (c .before .before .before .before .before .before .before .before .before .before .next-offer .ensures) (c .before .before .before .before .before .before .before .before .before .if1 .left)
-      (c .before .before .before .before .before .before .before .before .end-of .ensures) (c .before .before .before .before .before .before .ones-at .ensures) (c .before .before .before .before .before .spare-of .ensures) (c .before .before .before .before .if2 .taken) _ (c .before .before .put .ensures)
+    (c .before .before .before .before .before .before .before .before .end-of .ensures) (c .before .before .before .before .before .before .ones-at .ensures) (c .before .before .before .before .before .spare-of .ensures) (c .before .before .before .before .if2 .taken) _ (c .before .before .put .ensures)
 
 make-offer-displace-requires : (t : ℕ) → make-offer-lts.Need-displace-requires (
   next-offer-reads.Asked,
@@ -343,9 +347,11 @@ make-offer-displace-requires : (t : ℕ) → make-offer-lts.Need-displace-requir
 make-offer-displace-requires t c κs =
     let a = c .before .before .before .before .before .before .before .before .before .before .before .before .before .before .args in
     let p = c .before .before .before .before .before .before .before .before .before .before .before .before .before .before .pre .1 in
-    let m = c .before .before .before .before .before .before .before .before .before .before .before .before .before .before .pre .0 in
-    (omega arith, displaces (a .links) (a .lows .now) (a .highs .now) (a .costs .now) (a .spares .now) (a .rec .now) (a .u) (c .before .before .before .before .before .before .before .next-offer .result) (c .before .before .before .before .before .end-of .result) (p .0) (p .1) (c .before .before .before .before .before .before .before .next-offer .ensures) (c .before .before .before .before .before .before .if1 .left) (c .before .before .before .before .before .end-of .ensures)
-      (c .before .before .before .ones-at .result) (c .before .before .spare-of .result) (c .before .before .before .ones-at .ensures) (c .before .before .spare-of .ensures) (c .before .if2 .left))
+    let m = c .before .before .before .before .before .before .before .before .before .before .before .before .before .before .pre .0 in (
+      omega arith,
+      displaces (a .links) (a .lows .now) (a .highs .now) (a .costs .now) (a .spares .now) (a .rec .now) (a .u) (c .before .before .before .before .before .before .before .next-offer .result) (c .before .before .before .before .before .end-of .result) (p .0) (p .1) (c .before .before .before .before .before .before .before .next-offer .ensures) (c .before .before .before .before .before .before .if1 .left) (c .before .before .before .before .before .end-of .ensures)
+          (c .before .before .before .ones-at .result) (c .before .before .spare-of .result) (c .before .before .before .ones-at .ensures) (c .before .before .spare-of .ensures) (c .before .if2 .left),
+    )
 
 make-offer-same-length-3 : (t : ℕ) → make-offer-lts.Need-same-length-3 (
   next-offer-reads.Asked,

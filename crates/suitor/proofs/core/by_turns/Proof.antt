@@ -35,9 +35,11 @@ take-turns-requires c κs =
     let a = c .before .before .before .before .before .before .before .before .before .before .before .before .before .before .before .args in
     let p = c .before .before .before .before .before .before .before .before .before .before .before .before .before .before .before .pre in
     let s = small (a .probes) (a .links) (a .needs .now) (a .lows .now) (a .highs .now) (a .costs .now) (p .0) in
-    let l : length (c .before .before .before .find-spares .last .0) ≡ 256 = c .before .before .before .find-spares .kept .0 in
-    (zeros-ready (a .links) (length (a .work .now)) (a .lows .now) (a .highs .now) (a .costs .now) (c .before .before .before .find-spares .last .0) _ (c .before .before .before .before .before .before .before .clear .ensures) (p .6)
-      (fits (a .probes) (a .links) (a .needs .now) (a .lows .now) (a .highs .now) (a .costs .now) (p .0) (c .before .before .before .find-spares .last .0) l (p .2) (p .3) (p .4)), omega (arith, s .0))
+    let l : length (c .before .before .before .find-spares .last .0) ≡ 256 = c .before .before .before .find-spares .kept .0 in (
+      zeros-ready (a .links) (length (a .work .now)) (a .lows .now) (a .highs .now) (a .costs .now) (c .before .before .before .find-spares .last .0) _ (c .before .before .before .before .before .before .before .clear .ensures) (p .6)
+          (fits (a .probes) (a .links) (a .needs .now) (a .lows .now) (a .highs .now) (a .costs .now) (p .0) (c .before .before .before .find-spares .last .0) l (p .2) (p .3) (p .4)),
+      omega (arith, s .0),
+    )
 
 write-plan-requires : tie.Need-write-plan-requires
 write-plan-requires c κs = (search needs, c .before .before .before .before .take-turns .ensures .ready .paired .room)
@@ -56,9 +58,10 @@ returns c =
     let a = c .before .before .before .before .before .before .before .before .before .before .before .before .before .before .before .before .before .before .before .before .before .before .before .before .before .before .before .args in
     let p = c .before .before .before .before .before .before .before .before .before .before .before .before .before .before .before .before .before .before .before .before .before .before .before .before .before .before .before .pre in
     let f = c .before .before .before .before .before .before .before .before .before .before .before .before .before .before .before .find-spares in
-    let n : length (c .before .before .before .before .before .before .before .before .before .before .before .take-turns .last .0) ≡ length (a .work .now) = c .before .before .before .before .before .before .before .before .before .before .before .take-turns .kept .0 ∙ c .before .before .before .before .before .before .before .before .before .before .before .before .before .before .before .before .before .before .before .clear .kept .0 in
-    (c .before .before .before .before .before .before .write-plan .ensures ∙ plan-bytes (a .probes) (a .links) (a .needs .now) (a .lows .now) (a .highs .now) (a .costs .now) (p .0) (f .last .0) (c .before .before .before .before .before .before .before .before .before .before .before .take-turns .last .0) (f .ensures) (c .before .before .before .before .before .before .before .before .before .before .before .take-turns .ensures) (a .plan .now),
-      c .before .before .clear2 .ensures ∙ ap (λ (k : ℕ). replicate k 0) n)
+    let n : length (c .before .before .before .before .before .before .before .before .before .before .before .take-turns .last .0) ≡ length (a .work .now) = c .before .before .before .before .before .before .before .before .before .before .before .take-turns .kept .0 ∙ c .before .before .before .before .before .before .before .before .before .before .before .before .before .before .before .before .before .before .before .clear .kept .0 in (
+      c .before .before .before .before .before .before .write-plan .ensures ∙ plan-bytes (a .probes) (a .links) (a .needs .now) (a .lows .now) (a .highs .now) (a .costs .now) (p .0) (f .last .0) (c .before .before .before .before .before .before .before .before .before .before .before .take-turns .last .0) (f .ensures) (c .before .before .before .before .before .before .before .before .before .before .before .take-turns .ensures) (a .plan .now),
+      c .before .before .clear2 .ensures ∙ ap (λ (k : ℕ). replicate k 0) n,
+    )
 
 pub by-turns-spec : {M : Type 1} → statement M
 by-turns-spec =

@@ -56,9 +56,11 @@ search-again : tie.Need-search-again Inv-loop μ-loop Inv-search μ-search
 search-again c =
     let a = c .before .before .before .before .before .before .before .before .before .args in
     let l = c .before .before .before .search in
-    let b = c .before .is-open in
-    (search needs, sought-past (siteOf (a .links) (a .lows .now) (a .highs .now) (a .costs .now) (a .spares .now)) (outbound (a .rec .now)) (a .u) (l .best) (l .floor) (l .d) (l .inv .1)
-      (λ x y z. absurd (open-not (endOf (a .lows .now) (a .highs .now) (l .d)) (a .u) (outbound (a .rec .now) (l .d)) (l .floor) (keyOf (a .costs .now) (l .d)) (b .result) (b .ensures) (not-true (b .result) (c .if1 .taken)) x y z)))
+    let b = c .before .is-open in (
+      search needs,
+      sought-past (siteOf (a .links) (a .lows .now) (a .highs .now) (a .costs .now) (a .spares .now)) (outbound (a .rec .now)) (a .u) (l .best) (l .floor) (l .d) (l .inv .1)
+          (λ x y z. absurd (open-not (endOf (a .lows .now) (a .highs .now) (l .d)) (a .u) (outbound (a .rec .now) (l .d)) (l .floor) (keyOf (a .costs .now) (l .d)) (b .result) (b .ensures) (not-true (b .result) (c .if1 .taken)) x y z)),
+    )
 
 end-of-requires : tie.Need-end-of-requires Inv-loop μ-loop Inv-search μ-search
 end-of-requires c κs = search needs
@@ -79,9 +81,11 @@ search-again-2 : tie.Need-search-again-2 Inv-loop μ-loop Inv-search μ-search
 search-again-2 c =
     let a = c .before .before .before .before .before .before .before .before .before .before .before .before .before .before .args in
     let l = c .before .before .before .before .before .before .before .before .search in
-    let k = c .before .before .loop in
-    (search needs, sought-past (siteOf (a .links) (a .lows .now) (a .highs .now) (a .costs .now) (a .spares .now)) (outbound (a .rec .now)) (a .u) (l .best) (l .floor) (l .d) (l .inv .1)
-      (λ x y z. shut-by-count (a .links) (a .lows .now) (a .highs .now) (a .costs .now) (a .spares .now) (a .rec .now) (c .before .before .before .before .before .before .before .before .before .before .before .before .before .before .pre .1) (l .d) (c .before .before .before .before .end-of .result) (c .before .before .before .spare-of .result) (k .n) (k .f) (c .before .before .before .before .end-of .ensures) (c .before .before .before .spare-of .ensures) (k .inv .1) (k .inv .0) (c .if2 .taken)))
+    let k = c .before .before .loop in (
+      search needs,
+      sought-past (siteOf (a .links) (a .lows .now) (a .highs .now) (a .costs .now) (a .spares .now)) (outbound (a .rec .now)) (a .u) (l .best) (l .floor) (l .d) (l .inv .1)
+          (λ x y z. shut-by-count (a .links) (a .lows .now) (a .highs .now) (a .costs .now) (a .spares .now) (a .rec .now) (c .before .before .before .before .before .before .before .before .before .before .before .before .before .before .pre .1) (l .d) (c .before .before .before .before .end-of .result) (c .before .before .before .spare-of .result) (k .n) (k .f) (c .before .before .before .before .end-of .ensures) (c .before .before .before .spare-of .ensures) (k .inv .1) (k .inv .0) (c .if2 .taken)),
+    )
 
 rival-requires : tie.Need-rival-requires Inv-loop μ-loop Inv-search μ-search
 rival-requires c κs = search needs
@@ -114,9 +118,11 @@ search-again-3 : tie.Need-search-again-3 Inv-loop μ-loop Inv-search μ-search
 search-again-3 c =
     let a = c .before .before .before .before .before .before .before .before .before .before .before .before .before .before .args in
     let l = c .before .before .before .before .before .before .before .before .search in
-    let k = c .before .before .loop in
-    (search needs, sought-past (siteOf (a .links) (a .lows .now) (a .highs .now) (a .costs .now) (a .spares .now)) (outbound (a .rec .now)) (a .u) (l .best) (l .floor) (l .d) (l .inv .1)
-      (λ x y z. shut-by-count (a .links) (a .lows .now) (a .highs .now) (a .costs .now) (a .spares .now) (a .rec .now) (c .before .before .before .before .before .before .before .before .before .before .before .before .before .before .pre .1) (l .d) (c .before .before .before .before .end-of .result) (c .before .before .before .spare-of .result) (k .n) (k .f) (c .before .before .before .before .end-of .ensures) (c .before .before .before .spare-of .ensures) (k .inv .1) (k .inv .0) (c .if3 .taken)))
+    let k = c .before .before .loop in (
+      search needs,
+      sought-past (siteOf (a .links) (a .lows .now) (a .highs .now) (a .costs .now) (a .spares .now)) (outbound (a .rec .now)) (a .u) (l .best) (l .floor) (l .d) (l .inv .1)
+          (λ x y z. shut-by-count (a .links) (a .lows .now) (a .highs .now) (a .costs .now) (a .spares .now) (a .rec .now) (c .before .before .before .before .before .before .before .before .before .before .before .before .before .before .pre .1) (l .d) (c .before .before .before .before .end-of .result) (c .before .before .before .spare-of .result) (k .n) (k .f) (c .before .before .before .before .end-of .ensures) (c .before .before .before .spare-of .ensures) (k .inv .1) (k .inv .0) (c .if3 .taken)),
+    )
 
 key-of-requires : tie.Need-key-of-requires Inv-loop μ-loop Inv-search μ-search
 key-of-requires c κs = search needs
@@ -133,10 +139,12 @@ search-again-4 c =
     let l = c .before .before .before .before .before .before .before .before .before .search in
     let k = c .before .before .before .loop in
     let b = c .before .before .before .before .before .before .before .is-open in
-    let op = open-is (endOf (a .lows .now) (a .highs .now) (l .d)) (a .u) (outbound (a .rec .now) (l .d)) (l .floor) (keyOf (a .costs .now) (l .d)) (b .result) (b .ensures) (not-false (b .result) (c .before .before .before .before .before .before .if1 .left)) in
-    (search needs, sought-new (siteOf (a .links) (a .lows .now) (a .highs .now) (a .costs .now) (a .spares .now)) (outbound (a .rec .now)) (a .u) (l .best) (l .floor) (l .d) (c .key-of .result) (l .inv .1) (c .before .before .before .before .before .before .before .before .search-test .taken) (op .0) (op .1) (op .2)
-      (free-by-count (a .links) (a .lows .now) (a .highs .now) (a .costs .now) (a .spares .now) (a .rec .now) (c .before .before .before .before .before .before .before .before .before .before .before .before .before .before .before .pre .1) (l .d) (c .before .before .before .before .before .end-of .result) (c .before .before .before .before .spare-of .result) (k .n) (k .f) (c .before .before .before .before .before .end-of .ensures) (c .before .before .before .before .spare-of .ensures) (k .inv .1) (k .inv .0) (c .before .before .loop-test .left) (c .before .if3 .left))
-      (c .key-of .ensures .0))
+    let op = open-is (endOf (a .lows .now) (a .highs .now) (l .d)) (a .u) (outbound (a .rec .now) (l .d)) (l .floor) (keyOf (a .costs .now) (l .d)) (b .result) (b .ensures) (not-false (b .result) (c .before .before .before .before .before .before .if1 .left)) in (
+      search needs,
+      sought-new (siteOf (a .links) (a .lows .now) (a .highs .now) (a .costs .now) (a .spares .now)) (outbound (a .rec .now)) (a .u) (l .best) (l .floor) (l .d) (c .key-of .result) (l .inv .1) (c .before .before .before .before .before .before .before .before .search-test .taken) (op .0) (op .1) (op .2)
+          (free-by-count (a .links) (a .lows .now) (a .highs .now) (a .costs .now) (a .spares .now) (a .rec .now) (c .before .before .before .before .before .before .before .before .before .before .before .before .before .before .before .pre .1) (l .d) (c .before .before .before .before .before .end-of .result) (c .before .before .before .before .spare-of .result) (k .n) (k .f) (c .before .before .before .before .before .end-of .ensures) (c .before .before .before .before .spare-of .ensures) (k .inv .1) (k .inv .0) (c .before .before .loop-test .left) (c .before .if3 .left))
+          (c .key-of .ensures .0),
+    )
 
 returns : tie.Need-returns Inv-loop μ-loop Inv-search μ-search
 returns c =
