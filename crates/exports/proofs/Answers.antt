@@ -12,9 +12,9 @@ use Rattle.table_read.specs.declared.Reading.{Reading}
 use Rattle.table_write.specs.Writing.{Writes}
 use Rattle.table_write.specs.declared.Writing.{Writing}
 use Rattle.table_write.specs.declared.Writing.the-variants.{Length, Refused}
-use Rattle.cover.specs.Planning.{Plans}
+use Rattle.cover.specs.Planning.{Plans, PlansByTurns}
 use Rattle.cover.specs.declared.Planning.{Planning}
-use Rattle.exports.specs.Packed.{packedPlanning, PlansPacked, packedReading, packedWriting, ReadsPacked, WritesPacked}
+use Rattle.exports.specs.Packed.{packedPlanning, PlansPacked, TurnsPacked, packedReading, packedWriting, ReadsPacked, WritesPacked}
 
 pub reads-packed : (fault : ℕ) (t : Site) (a : Reading) (r : ℕ) (needs needs′ lows lows′ highs highs′ costs costs′ : List ℕ)
     → Reads fault t a needs needs′ lows lows′ highs highs′ costs costs′ → r ≡ packedReading a → ReadsPacked fault t r needs needs′ lows lows′ highs highs′ costs costs′
@@ -27,6 +27,11 @@ reads-packed fault t a r needs needs′ lows lows′ highs highs′ costs costs�
 pub plans-packed : (fault : ℕ) (t : Site) (a : Planning) (r : ℕ) (before after : List ℕ) → Plans fault t a before after → r ≡ packedPlanning a → PlansPacked fault t r before after
 plans-packed fault t a r before after g e =
     record { answer = e ∙ ap packedPlanning (g .answer); lent = record { answer = refl; plan = g .plan } }
+
+pub turns-packed : (fault : ℕ) (t : Site) (a : Planning) (r : ℕ) (before after work work′ : List ℕ) → PlansByTurns fault t a before after work work′ → r ≡ packedPlanning a
+    → TurnsPacked fault t r before after work work′
+turns-packed fault t a r before after work work′ g e =
+    record { answer = e ∙ ap packedPlanning (g .plans .answer); lent = record { plans = record { answer = refl; plan = g .plans .plan }; cleared = g .cleared } }
 
 pub writes-packed : (fault : ℕ) (t : Site) (a b : Writing) (r : ℕ) (before after : List ℕ) → Writes fault t a before after → a ≡ b → r ≡ packedWriting b → WritesPacked fault t r before after
 writes-packed fault t a b r before after g e f =

@@ -7,7 +7,7 @@ use Rattle.table_read.specs.Reading.{readingOf, Reads}
 use Rattle.table_write.specs.Writing.{writingOf, Writes}
 use Rattle.table_read.specs.declared.Reading.{Reading}
 use Rattle.table_read.specs.declared.Reading.the-variants.{Table, Refused as Unread}
-use Rattle.cover.specs.Planning.{planningOf, Plans}
+use Rattle.cover.specs.Planning.{planningOf, Plans, PlansByTurns}
 use Rattle.cover.specs.declared.Planning.{Planning}
 use Rattle.cover.specs.declared.Planning.the-variants.{Plan, Refused as Unplanned}
 use Rattle.table_write.specs.declared.Writing.{Writing}
@@ -40,3 +40,7 @@ pub record WritesPacked (fault : ℕ) (t : Site) (r : ℕ) (before after : List 
 pub record PlansPacked (fault : ℕ) (t : Site) (r : ℕ) (before after : List ℕ) : Type 0 where
   pub answer : r ≡ packedPlanning (planningOf fault t)
   pub lent : Plans fault t (planningOf fault t) before after
+
+pub record TurnsPacked (fault : ℕ) (t : Site) (r : ℕ) (before after work work′ : List ℕ) : Type 0 where
+  pub answer : r ≡ packedPlanning (planningOf fault t)
+  pub lent : PlansByTurns fault t (planningOf fault t) before after work work′

@@ -7,8 +7,8 @@ ghost use Rattle.table.specs.Legal.{sliceFault};
 ghost use Rattle.table.specs.Checking.{checkingOf, refusalOf};
 ghost use Rattle.table.specs.Text.{ofText, readFault};
 ghost use Rattle.table_write.specs.Writing.{writeFault};
-ghost use Rattle.cover.specs.Planning.{planFault};
-ghost use Rattle.exports.specs.Packed.{packedReading, packedPlanning, ReadsPacked, WritesPacked, PlansPacked};
+ghost use Rattle.cover.specs.Planning.{planFault, turnsFault};
+ghost use Rattle.exports.specs.Packed.{packedReading, packedPlanning, ReadsPacked, WritesPacked, PlansPacked, TurnsPacked};
 use cover::Planning;
 use table::Checking;
 use table_read::Reading;
@@ -138,4 +138,35 @@ pub extern "C" fn planner_plan_slse(
         r (now (plan .entry)) (now (plan .exit)) ⌝ }
 {
     packed_planning(cover::plan_by_slse(number, probes, links, needs, lows, highs, costs, plan))
+}
+
+// `cover::plan_by_turns`, its answer packed.
+#[no_mangle]
+pub extern "C" fn planner_plan_turns(
+    number: u16,
+    probes: u16,
+    links: u16,
+    needs: &[u16],
+    lows: &[u16],
+    highs: &[u16],
+    costs: &[u16],
+    plan: &mut [u8],
+    work: &mut [u8],
+) -> u64
+    ensures { λ r. ⌜ TurnsPacked
+        (turnsFault 256 2048 number probes links (now (needs .entry)) (now (lows .entry)) (now (highs .entry)) (now (costs .entry)) (length (now (plan .entry))) (length (now (work .entry))))
+        (ofSlices number probes links (now (needs .entry)) (now (lows .entry)) (now (highs .entry)) (now (costs .entry)))
+        r (now (plan .entry)) (now (plan .exit)) (now (work .entry)) (now (work .exit)) ⌝ }
+{
+    packed_planning(cover::plan_by_turns(
+        number,
+        probes,
+        links,
+        needs,
+        lows,
+        highs,
+        costs,
+        plan,
+        work,
+    ))
 }

@@ -1,9 +1,9 @@
 -- A slice cleared.
-use Prim.Native.Nat.{ℕ, _≤_, _<_}
+use Prim.Native.Nat.{ℕ}
 use mathlib.Core.Path.{_≡_, sym, _∙_}
 use mathlib.Core.List.{List}
 use native.Mathlib.Omega.{arith}
-use lib.ListN.{length, getD, replicate, length-replicate}
+use lib.ListN.{length, replicate, length-replicate}
 use lib.Seq.{ext-getD}
 use Rattle.range.specs.Lists.{stored}
 use Rattle.range.proofs.Lists.{zeros-at, length-stored, stored-at}

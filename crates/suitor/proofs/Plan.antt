@@ -1,5 +1,5 @@
 -- The offers at the end of all turns are the plan.
-use Prim.Native.Nat.{ℕ, zero, suc, _+_, _-_, _*_, _/_, _%_, _≤_, _<_}
+use Prim.Native.Nat.{ℕ, zero, suc, _+_, _-_, _*_, _/_, _≤_, _<_}
 use mathlib.Core.Path.{_≡_, refl, sym, _∙_, ap}
 use mathlib.Core.Logic.{_⊎_, inl, inr}
 use mathlib.Core.Bool.{Bool, true, false, cond, not, _&&_, _||_, and-true, true≢false}
@@ -12,7 +12,7 @@ use lib.ListN.{length, replicate, length-replicate}
 use borrow.Author.Tests.{ltb-true, lt-ltb, eqb-true, eq-eqb, ne-eqb}
 use Rattle.range.specs.Sum.{sum, count}
 use Rattle.range.specs.Lists.{stored}
-use Rattle.range.proofs.Bools.{and-right, decided, same-bool, or-cases}
+use Rattle.range.proofs.Bools.{and-right, same-bool, or-cases}
 use Rattle.range.proofs.Sums.{sum-same, weigh-same, none-count}
 use Rattle.range.proofs.Lists.{zeros-at, stored-same, stored-at, stored-beyond}
 use Rattle.table.specs.Table.{Table, item, ofSlices, touches, degree, spare, dearer}
@@ -24,8 +24,8 @@ use Rattle.cover_theory.specs.Plan.{linksAt, rested, kept}
 use Rattle.cover_theory.proofs.Order.{Sound, sound, dear, on-dear, Dear}
 use Rattle.cover_theory.proofs.Plan.{dearerAt}
 use Rattle.cover_theory.proofs.Settled.{Across, up, down, Settled, settled-is-plan}
-use Rattle.suitor.specs.Offers.{Site, on, stands, holds, rivals, Shut, Inv, Satisfied}
-use Rattle.suitor.specs.Record.{endOf, keyOf, siteOf, outbound, inbound, keptByte, Fits, Paired, Ready, Over}
+use Rattle.suitor.specs.Offers.{Site, on, Shut}
+use Rattle.suitor.specs.Record.{endOf, keyOf, siteOf, outbound, inbound, keptByte, Fits, Ready, Over}
 use Rattle.suitor.proofs.Offers.{explained}
 use Rattle.suitor.proofs.Record.{end-even, end-odd}
 

@@ -6,13 +6,13 @@ use mathlib.Core.List.{List}
 use native.Mathlib.Omega.{arith}
 use native.Mathlib.Numerals.{add-one}
 use native.Mathlib.Decide.{decLt, ℕ-discrete}
-use lib.Dec.{ltb, leb, eqb}
+use lib.Dec.{leb, eqb}
 use borrow.Author.Tests.{eqb-true, eq-eqb, leb-true, le-leb}
 use Rattle.range.specs.Sum.{sum, count}
 use Rattle.range.proofs.Bools.{and-left, and-right, and-intro}
 use Rattle.range.proofs.Sums.{weigh-same, member}
 use Rattle.table.specs.Table.{item}
-use Rattle.suitor.specs.Offers.{Site, holds, beats, rivals, Shut, Next, Sought, Cheapest}
+use Rattle.suitor.specs.Offers.{Site, holds, beats, rivals, Shut, Sought, Cheapest}
 use Rattle.suitor.specs.Record.{endOf, siteOf, outbound, inbound, Paired}
 
 pub count-next : (p : ℕ → Bool) (n : ℕ) → count (n + 1) p ≡ count n p + cond (p n) 1 0

@@ -1,7 +1,6 @@
 -- What each way through the offer and the displacement does to the working bytes.
 use Prim.Native.Nat.{ℕ, _+_, _*_, _≤_, _<_}
-use mathlib.Core.Path.{_≡_, refl, sym, _∙_, ap}
-use mathlib.Core.Logic.{_⊎_, inl, inr}
+use mathlib.Core.Path.{_≡_, sym, _∙_, ap}
 use mathlib.Core.Bool.{Bool, true, false, _&&_, true≢false}
 use mathlib.Core.List.{List}
 use native.Mathlib.Omega.{arith}
@@ -11,9 +10,9 @@ use lib.ListN.{length}
 use Rattle.range.specs.Sum.{count}
 use Rattle.range.proofs.Sums.{weigh-same}
 use Rattle.table.specs.Table.{item}
-use Rattle.suitor.specs.Offers.{Site, stands, holds, NoneLeft, Satisfied, Inv, Made, Next, Sought, Cheapest}
-use Rattle.suitor.specs.Record.{endOf, siteOf, outbound, inbound, put, untriedCount, Fits, Paired, Ready, Offered, Displaces, Turned, Over}
-use Rattle.suitor.proofs.Offers.{made-none, take-made, swap-inv, swap-room, swap-made, apart, satisfied-made}
+use Rattle.suitor.specs.Offers.{Site, stands, holds, Sought, Cheapest}
+use Rattle.suitor.specs.Record.{endOf, siteOf, outbound, inbound, put, untriedCount, Paired, Ready, Offered, Displaces}
+use Rattle.suitor.proofs.Offers.{made-none, take-made, swap-inv, swap-room, swap-made}
 use Rattle.suitor.proofs.Record.{length-put, put-here, put-other, put-paired, untried-most, untried-less, distinct}
 
 -- the held offers, counted by their inbound bytes

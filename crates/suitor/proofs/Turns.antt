@@ -1,6 +1,6 @@
 -- A probe's turn, and the turns of all.
 use Prim.Native.Nat.{ℕ, _+_, _*_, _≤_, _<_}
-use mathlib.Core.Path.{_≡_, refl, sym, _∙_}
+use mathlib.Core.Path.{_≡_, refl}
 use mathlib.Core.Logic.{inl, inr}
 use mathlib.Core.Bool.{true, false, _&&_}
 use mathlib.Core.List.{List}

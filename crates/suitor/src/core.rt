@@ -6,7 +6,6 @@ ghost use Prim.Native.Nat.{ℕ, _+_, _*_, _-_, _<_, _≤_};
 ghost use lib.Dec.{eqb, ltb, leb};
 ghost use lib.ListN.{length, replicate, getD, set};
 ghost use Rattle.range.specs.Sum.{count};
-ghost use Rattle.range.specs.First.{first};
 ghost use Rattle.range.specs.Lists.{stored};
 ghost use Rattle.table.specs.Table.{item, ofSlices, degree, spare};
 ghost use Rattle.table.specs.Legal.{tableFault};

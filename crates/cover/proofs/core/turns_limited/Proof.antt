@@ -1,13 +1,9 @@
+-- `cover::core::turns_limited` meets its contract.
 use borrow.Author.Needs.{needs}
 use Rattle.cover.proofs.core.turns_limited.Statement.{statement}
 use Rattle.cover.proofs.core.turns_limited.Tie as tie
-use Rattle.cover.proofs.core.turns_limited.Reads as reads
-use Rattle.cover.proofs.core.turns_limited.Lts as lts
-use Rattle.cover.proofs.core.answer.Reads as answer-reads
-use Rattle.suitor.proofs.core.by_turns.Reads as by-turns-reads
-use Rattle.table.proofs.core.slice_fault.Reads as slice-fault-reads
-use Prim.Native.Nat.{ℕ, _*_, _≤_}
-use mathlib.Core.Path.{_≡_, refl, sym, _∙_, ap}
+use Prim.Native.Nat.{_*_}
+use mathlib.Core.Path.{sym, _∙_}
 use native.Mathlib.Omega.{arith}
 use lib.ListN.{length}
 use Rattle.range.proofs.Faults.{or-left, or-right}

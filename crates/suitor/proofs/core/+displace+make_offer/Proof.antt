@@ -1,5 +1,6 @@
+-- `suitor::core::+displace+make_offer` meets its contract.
 use borrow.Author.Needs.{needs}
-use Prim.Native.Nat.{ℕ, _<_, _+_, _*_}
+use Prim.Native.Nat.{ℕ, _+_, _*_}
 use borrow.Fn.Kinds.{In}
 use borrow.Fn.PlainCycle.{Measures, is, falls, and}
 use Rattle.suitor.proofs.core.displace.Reads as displace
@@ -16,7 +17,7 @@ use Rattle.suitor.proofs.core.put.Reads as put-reads
 use Rattle.suitor.proofs.core.spare_of.Reads as spare-of-reads
 use Rattle.suitor.proofs.core.+displace+make_offer.{statement}
 use Rattle.suitor.proofs.core.+displace+make_offer.Tie.{close}
-use mathlib.Core.Path.{_≡_, _∙_, ap}
+use mathlib.Core.Path.{_∙_, ap}
 use mathlib.Core.List.{List}
 use native.Mathlib.Omega.{arith}
 use Rattle.suitor.specs.Record.{put, untriedCount}

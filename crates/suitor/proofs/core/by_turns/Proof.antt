@@ -1,13 +1,8 @@
+-- `suitor::core::by_turns` meets its contract.
 use borrow.Author.Needs.{needs}
 use Rattle.suitor.proofs.core.by_turns.Statement.{statement}
 use Rattle.suitor.proofs.core.by_turns.Tie as tie
-use Rattle.suitor.proofs.core.by_turns.Reads as reads
-use Rattle.suitor.proofs.core.by_turns.Lts as lts
-use Rattle.suitor.proofs.core.clear.Reads as clear-reads
-use Rattle.suitor.proofs.core.find_spares.Reads as find-spares-reads
-use Rattle.suitor.proofs.core.take_turns.Reads as take-turns-reads
-use Rattle.suitor.proofs.core.write_plan.Reads as write-plan-reads
-use Prim.Native.Nat.{ℕ, _≤_}
+use Prim.Native.Nat.{ℕ}
 use mathlib.Core.Path.{_≡_, _∙_, ap}
 use native.Mathlib.Omega.{arith}
 use lib.ListN.{length, replicate}

@@ -1,12 +1,9 @@
+-- `suitor::core::cheapest` meets its contract.
 use borrow.Author.Needs.{needs}
 use Rattle.suitor.proofs.core.cheapest.Statement.{statement}
 use Rattle.suitor.proofs.core.cheapest.Tie as tie
-use Rattle.suitor.proofs.core.cheapest.Reads as reads
-use Rattle.suitor.proofs.core.cheapest.Lts as lts
-use Rattle.suitor.proofs.core.end_of.Reads as end-of-reads
-use Rattle.suitor.proofs.core.key_of.Reads as key-of-reads
-use Prim.Native.Nat.{ℕ, _+_, _*_, _-_, _≤_, _<_}
-use mathlib.Core.Path.{_≡_, refl, sym, _∙_}
+use Prim.Native.Nat.{_*_, _-_, _≤_}
+use mathlib.Core.Path.{sym, _∙_}
 use native.Mathlib.Omega.{arith}
 use Rattle.suitor.specs.Record.{siteOf, outbound}
 use Rattle.suitor.proofs.Searches.{CheapestTo, cheapest-start, cheapest-past, cheapest-new, cheapest-done}

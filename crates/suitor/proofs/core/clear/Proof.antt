@@ -1,8 +1,7 @@
+-- `suitor::core::clear` meets its contract.
 use borrow.Author.Needs.{needs}
 use Rattle.suitor.proofs.core.clear.Statement.{statement}
 use Rattle.suitor.proofs.core.clear.Tie as tie
-use Rattle.suitor.proofs.core.clear.Reads as reads
-use Rattle.suitor.proofs.core.clear.Lts as lts
 use Prim.Native.Nat.{_-_, _≤_}
 use mathlib.Core.Path.{_≡_, refl, sym, _∙_}
 use native.Mathlib.Omega.{arith}

@@ -2,7 +2,7 @@
 use borrow.Author.Needs.{needs}
 use Rattle.suitor.proofs.core.count_degrees.Statement.{statement}
 use Rattle.suitor.proofs.core.count_degrees.Tie as tie
-use Prim.Native.Nat.{ℕ, _-_, _≤_, _<_}
+use Prim.Native.Nat.{ℕ, _-_, _≤_}
 use mathlib.Core.Path.{_≡_, refl, _∙_, ap}
 use native.Mathlib.Omega.{arith}
 use lib.ListN.{length, getD, length-set}

@@ -1,9 +1,7 @@
+-- `suitor::core::end_of` meets its contract.
 use borrow.Author.Needs.{needs}
 use Rattle.suitor.proofs.core.end_of.Statement.{statement}
 use Rattle.suitor.proofs.core.end_of.Tie as tie
-use Rattle.suitor.proofs.core.end_of.Reads as reads
-use Rattle.suitor.proofs.core.end_of.Lts as lts
-use Rattle.table.proofs.core.wide.Reads as wide-reads
 use mathlib.Core.Path.{sym, _∙_}
 use Rattle.suitor.proofs.Record.{end-even, end-odd}
 

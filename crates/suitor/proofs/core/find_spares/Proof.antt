@@ -1,10 +1,7 @@
+-- `suitor::core::find_spares` meets its contract.
 use borrow.Author.Needs.{needs}
 use Rattle.suitor.proofs.core.find_spares.Statement.{statement}
 use Rattle.suitor.proofs.core.find_spares.Tie as tie
-use Rattle.suitor.proofs.core.find_spares.Reads as reads
-use Rattle.suitor.proofs.core.find_spares.Lts as lts
-use Rattle.suitor.proofs.core.count_degrees.Reads as count-degrees-reads
-use Rattle.suitor.proofs.core.take_needs.Reads as take-needs-reads
 use native.Mathlib.Omega.{arith}
 use Rattle.suitor.proofs.Plan.{spares-right}
 

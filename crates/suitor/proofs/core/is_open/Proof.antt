@@ -1,10 +1,7 @@
+-- `suitor::core::is_open` meets its contract.
 use borrow.Author.Needs.{needs}
 use Rattle.suitor.proofs.core.is_open.Statement.{statement}
 use Rattle.suitor.proofs.core.is_open.Tie as tie
-use Rattle.suitor.proofs.core.is_open.Reads as reads
-use Rattle.suitor.proofs.core.is_open.Lts as lts
-use Rattle.suitor.proofs.core.end_of.Reads as end-of-reads
-use Rattle.suitor.proofs.core.key_of.Reads as key-of-reads
 use borrow.Author.Tests.{eq-eqb, ne-eqb}
 
 end-of-requires : tie.Need-end-of-requires

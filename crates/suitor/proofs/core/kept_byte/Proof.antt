@@ -1,11 +1,9 @@
+-- `suitor::core::kept_byte` meets its contract.
 use borrow.Author.Needs.{needs}
 use Rattle.suitor.proofs.core.kept_byte.Statement.{statement}
 use Rattle.suitor.proofs.core.kept_byte.Tie as tie
-use Rattle.suitor.proofs.core.kept_byte.Reads as reads
-use Rattle.suitor.proofs.core.kept_byte.Lts as lts
 use Prim.Native.Nat.{_+_, _*_}
 use mathlib.Core.Path.{_≡_}
-use mathlib.Core.Bool.{and-false}
 use native.Mathlib.Omega.{arith}
 use borrow.Author.Tests.{eq-eqb, ne-eqb}
 

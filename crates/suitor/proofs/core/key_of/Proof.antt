@@ -1,9 +1,7 @@
+-- `suitor::core::key_of` meets its contract.
 use borrow.Author.Needs.{needs}
 use Rattle.suitor.proofs.core.key_of.Statement.{statement}
 use Rattle.suitor.proofs.core.key_of.Tie as tie
-use Rattle.suitor.proofs.core.key_of.Reads as reads
-use Rattle.suitor.proofs.core.key_of.Lts as lts
-use Rattle.table.proofs.core.wide.Reads as wide-reads
 use native.Mathlib.Omega.{arith}
 use Prim.Native.Nat.{_/_}
 use Rattle.suitor.specs.Record.{keyOf}

@@ -1,14 +1,8 @@
+-- `suitor::core::next_offer` meets its contract.
 use borrow.Author.Needs.{needs}
 use Rattle.suitor.proofs.core.next_offer.Statement.{statement}
 use Rattle.suitor.proofs.core.next_offer.Tie as tie
-use Rattle.suitor.proofs.core.next_offer.Reads as reads
-use Rattle.suitor.proofs.core.next_offer.Lts as lts
-use Rattle.suitor.proofs.core.end_of.Reads as end-of-reads
-use Rattle.suitor.proofs.core.is_open.Reads as is-open-reads
-use Rattle.suitor.proofs.core.key_of.Reads as key-of-reads
-use Rattle.suitor.proofs.core.rival.Reads as rival-reads
-use Rattle.suitor.proofs.core.spare_of.Reads as spare-of-reads
-use Prim.Native.Nat.{ℕ, _+_, _*_, _-_, _≤_, _<_}
+use Prim.Native.Nat.{ℕ, _*_, _-_, _≤_}
 use mathlib.Core.Path.{_≡_, refl}
 use mathlib.Core.Bool.{Bool, _&&_}
 use mathlib.Core.List.{List}

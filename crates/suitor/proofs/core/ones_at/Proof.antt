@@ -2,9 +2,6 @@
 use borrow.Author.Needs.{needs}
 use Rattle.suitor.proofs.core.ones_at.Statement.{statement}
 use Rattle.suitor.proofs.core.ones_at.Tie as tie
-use Rattle.suitor.proofs.core.ones_at.Reads as reads
-use Rattle.suitor.proofs.core.ones_at.Lts as lts
-use Rattle.suitor.proofs.core.end_of.Reads as end-of-reads
 use Prim.Native.Nat.{ℕ, _+_, _*_, _-_, _≤_}
 use mathlib.Core.Path.{_≡_, refl, sym, _∙_}
 use mathlib.Core.Bool.{Bool, _&&_}

@@ -1,8 +1,7 @@
+-- `suitor::core::put` meets its contract.
 use borrow.Author.Needs.{needs}
 use Rattle.suitor.proofs.core.put.Statement.{statement}
 use Rattle.suitor.proofs.core.put.Tie as tie
-use Rattle.suitor.proofs.core.put.Reads as reads
-use Rattle.suitor.proofs.core.put.Lts as lts
 use mathlib.Core.Path.{refl}
 use native.Mathlib.Omega.{arith}
 use lib.ListN.{length-set}

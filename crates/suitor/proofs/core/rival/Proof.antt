@@ -1,10 +1,7 @@
+-- `suitor::core::rival` meets its contract.
 use borrow.Author.Needs.{needs}
 use Rattle.suitor.proofs.core.rival.Statement.{statement}
 use Rattle.suitor.proofs.core.rival.Tie as tie
-use Rattle.suitor.proofs.core.rival.Reads as reads
-use Rattle.suitor.proofs.core.rival.Lts as lts
-use Rattle.suitor.proofs.core.end_of.Reads as end-of-reads
-use Rattle.suitor.proofs.core.key_of.Reads as key-of-reads
 use borrow.Author.Tests.{eq-eqb, ne-eqb, lt-ltb, le-ltb}
 
 end-of-requires : tie.Need-end-of-requires

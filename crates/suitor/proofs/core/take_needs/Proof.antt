@@ -1,9 +1,7 @@
+-- `suitor::core::take_needs` meets its contract.
 use borrow.Author.Needs.{needs}
 use Rattle.suitor.proofs.core.take_needs.Statement.{statement}
 use Rattle.suitor.proofs.core.take_needs.Tie as tie
-use Rattle.suitor.proofs.core.take_needs.Reads as reads
-use Rattle.suitor.proofs.core.take_needs.Lts as lts
-use Rattle.suitor.proofs.core.less.Reads as less-reads
 use Prim.Native.Nat.{ℕ, _-_, _≤_}
 use mathlib.Core.Path.{_≡_, refl, sym, _∙_, ap}
 use mathlib.Core.List.{List}

@@ -1,10 +1,8 @@
+-- `suitor::core::take_turns` meets its contract.
 use borrow.Author.Needs.{needs}
 use Rattle.suitor.proofs.core.take_turns.Statement.{statement}
 use Rattle.suitor.proofs.core.take_turns.Tie as tie
-use Rattle.suitor.proofs.core.take_turns.Reads as reads
-use Rattle.suitor.proofs.core.take_turns.Lts as lts
-use Rattle.suitor.proofs.core.turn.Reads as turn-reads
-use Prim.Native.Nat.{ℕ, _-_, _≤_}
+use Prim.Native.Nat.{_-_, _≤_}
 use mathlib.Core.Path.{_≡_, refl, _∙_}
 use native.Mathlib.Omega.{arith}
 use lib.ListN.{length}

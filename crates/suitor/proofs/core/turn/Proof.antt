@@ -1,12 +1,7 @@
+-- `suitor::core::turn` meets its contract.
 use borrow.Author.Needs.{needs}
 use Rattle.suitor.proofs.core.turn.Statement.{statement}
 use Rattle.suitor.proofs.core.turn.Tie as tie
-use Rattle.suitor.proofs.core.turn.Reads as reads
-use Rattle.suitor.proofs.core.turn.Lts as lts
-use Rattle.suitor.proofs.core.make_offer.Reads as make-offer-reads
-use Rattle.suitor.proofs.core.ones_at.Reads as ones-at-reads
-use Rattle.suitor.proofs.core.spare_of.Reads as spare-of-reads
-use Prim.Native.Nat.{ℕ}
 use mathlib.Core.Path.{_≡_, refl, _∙_}
 use native.Mathlib.Omega.{arith}
 use lib.ListN.{length}

@@ -1,10 +1,8 @@
+-- `suitor::core::write_plan` meets its contract.
 use borrow.Author.Needs.{needs}
 use Rattle.suitor.proofs.core.write_plan.Statement.{statement}
 use Rattle.suitor.proofs.core.write_plan.Tie as tie
-use Rattle.suitor.proofs.core.write_plan.Reads as reads
-use Rattle.suitor.proofs.core.write_plan.Lts as lts
-use Rattle.suitor.proofs.core.kept_byte.Reads as kept-byte-reads
-use Prim.Native.Nat.{ℕ, _-_, _≤_}
+use Prim.Native.Nat.{_-_, _≤_}
 use mathlib.Core.Path.{_≡_, refl, sym}
 use native.Mathlib.Omega.{arith}
 use lib.ListN.{length, length-set}
