@@ -1,6 +1,6 @@
 -- `suitor::core::+displace+make_offer` meets its contract.
 use borrow.Author.Needs.{needs}
-use Prim.Native.Nat.{ℕ, _+_, _*_}
+use Prim.Native.Nat.{_<_, ℕ, _+_, _*_}
 use borrow.Fn.Kinds.{In}
 use borrow.Fn.PlainCycle.{Measures, is, falls, and}
 use Rattle.suitor.proofs.core.displace.Reads as displace
