@@ -5,3 +5,5 @@ pub mod Searches
 pub mod Turns
 pub mod Bytes
 pub mod Plan
+pub mod Chain
+pub mod Build

@@ -74,12 +74,12 @@ module _ (links : ℕ) (lows highs costs spares r : List ℕ) where
     pub offered-displacing : (r′ : List ℕ) → Offered links lows highs costs spares r r′ (endOf lows highs d) true → Offered links lows highs costs spares r r′ u true
     offered-displacing r′ o = rw (s .some l .own) at o
 
-  -- d is taken in place of c, whose byte becomes b, and r becomes r₂
+  -- d is taken in place of c, whose byte is stored, and r becomes r₂
   module _ (d v : ℕ) (at : Displaces links lows highs costs spares r d) (ev : v ≡ endOf highs lows d) where
     pub some-held : 0 < holds site (outbound r) v
     some-held = rw ev (let a = at .full in let b = at .next .wanted in omega arith)
 
-    module _ (c : ℕ) (low : Cheapest site (outbound r) v c) (b : ℕ) (tried : b ≡ 0 → ⊥) (down : b ≡ 1 → ⊥) (r₂ : List ℕ) (e : r₂ ≡ put (put r c b) d 1) where
+    module _ (c : ℕ) (low : Cheapest site (outbound r) v c) (byte : ℕ) (tried : byte ≡ 0 → ⊥) (down : byte ≡ 1 → ⊥) (r₂ : List ℕ) (e : r₂ ≡ put (put r c byte) d 1) where
       low-d : Cheapest site (outbound r) (endOf highs lows d) c
       low-d = rw ev at low
 
@@ -89,23 +89,23 @@ module _ (links : ℕ) (lows highs costs spares r : List ℕ) where
       room-c : 2 * c + 1 < length r
       room-c = let a = low .below in let b = at .ready .paired .room in omega arith
 
-      room-d : 2 * d + 1 < length (put r c b)
-      room-d = let a = at .next .below in let q = at .ready .paired .room in let k = length-put r c b in omega arith
+      room-d : 2 * d + 1 < length (put r c byte)
+      room-d = let a = at .next .below in let b = at .ready .paired .room in let k = length-put r c byte in omega arith
 
       here : outbound r₂ d ≡ 1
-      here = rw e (put-here (put r c b) d 1 room-d)
+      here = rw e (put-here (put r c byte) d 1 room-d)
 
-      gone : outbound r₂ c ≡ b
-      gone = rw e (put-other (put r c b) d 1 room-d c (λ z. differ (sym z)) ∙ put-here r c b room-c)
+      gone : outbound r₂ c ≡ byte
+      gone = rw e (put-other (put r c byte) d 1 room-d c (λ z. differ (sym z)) ∙ put-here r c byte room-c)
 
       rest : (x : ℕ) → (x ≡ d → ⊥) → (x ≡ c → ⊥) → outbound r₂ x ≡ outbound r x
-      rest x n m = rw e (put-other (put r c b) d 1 room-d x n ∙ put-other r c b room-c x m)
+      rest x n m = rw e (put-other (put r c byte) d 1 room-d x n ∙ put-other r c byte room-c x m)
 
       pub displaced-ready : Ready links lows highs costs spares r₂
       displaced-ready =
           record {
             fits = at .ready .fits;
-            paired = rw e (put-paired (put r c b) d 1 room-d links (put-paired r c b room-c links (at .ready .paired)));
+            paired = rw e (put-paired (put r c byte) d 1 room-d links (put-paired r c byte room-c links (at .ready .paired)));
             inv = swap-inv site (distinct links lows highs costs spares (at .ready .fits)) (outbound r) (at .ready .inv) (endOf lows highs d) d (at .next) c low-d (at .room) (at .full) (outbound r₂) here (λ z. tried (sym gone ∙ z)) (λ z. down (sym gone ∙ z)) rest;
           }
 

@@ -1,2 +1,3 @@
 pub mod Offers
 pub mod Record
+pub mod Chain

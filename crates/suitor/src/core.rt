@@ -3,7 +3,7 @@ ghost use mathlib.Core.Path.{_≡_};
 ghost use mathlib.Core.Bool.{true, cond, _&&_};
 ghost use mathlib.Core.List.{[]};
 ghost use Prim.Native.Nat.{ℕ, _+_, _*_, _-_, _<_, _≤_};
-ghost use lib.Dec.{eqb, ltb, leb};
+ghost use lib.Dec.{eqb};
 ghost use lib.ListN.{length, replicate, getD, set};
 ghost use Rattle.range.specs.Sum.{count};
 ghost use Rattle.range.specs.Lists.{stored};
@@ -11,6 +11,7 @@ ghost use Rattle.table.specs.Table.{item, ofSlices, degree, spare};
 ghost use Rattle.table.specs.Legal.{tableFault};
 ghost use Rattle.table.proofs.Faults.{Ends};
 ghost use Rattle.cover_theory.specs.Plan.{kept};
+ghost use Rattle.suitor.specs.Chain.{opposite, Chain, FromFloor};
 ghost use Rattle.suitor.specs.Offers.{Sought, Cheapest, stands, holds};
 ghost use Rattle.suitor.specs.Record.{endOf, keyOf, siteOf, outbound, inbound, put, keptByte, Fits, Paired, Ready, Offered, Displaces, Turned, Over};
 
@@ -66,48 +67,29 @@ fn ones_at(rec: &[u8], links: usize, firsts: &[u16], seconds: &[u16], v: usize, 
     n
 }
 
-// Whether d is an untried direction of u with a key of at least `floor`.
-fn is_open(
-    rec: &[u8],
-    lows: &[u16],
-    highs: &[u16],
-    costs: &[u16],
-    d: usize,
-    u: usize,
-    floor: usize,
-) -> bool
-    requires { ⌜ (d < 2 * length (now lows)) × (d < 2 * length (now highs)) × (d < 2 * length (now costs)) × (d < 131072) × (2 * d < length (now rec)) ⌝ }
-    ensures { λ r. ⌜ r ≡ (eqb (endOf (now (lows .entry)) (now (highs .entry)) d) u && (eqb (outbound (now (rec .entry)) d) 0 && leb floor (keyOf (now (costs .entry)) d))) ⌝ }
+// The same link the other way.
+fn opposite(d: usize) -> usize
+    requires { ⌜ d < 131072 ⌝ }
+    ensures { λ r. ⌜ r ≡ opposite d ⌝ }
 {
-    if end_of(lows, highs, d) != u {
-        return false;
+    if d % 2 == 0 {
+        return d + 1;
     }
-    if rec[2 * d] != 0 {
-        return false;
-    }
-    floor <= key_of(costs, d)
+    d - 1
 }
 
-// 1 where the target of d holds f, and f is dearer; else 0.
-fn rival(rec: &[u8], lows: &[u16], highs: &[u16], costs: &[u16], d: usize, f: usize) -> usize
-    requires { ⌜ (d < 2 * length (now lows)) × (d < 2 * length (now highs)) × (d < 2 * length (now costs)) × (d < 131072)
-        × (f < 2 * length (now lows)) × (f < 2 * length (now highs)) × (f < 2 * length (now costs)) × (f < 131072) × (2 * f + 1 < length (now rec)) ⌝ }
-    ensures { λ r. ⌜ r ≡ cond ((eqb (endOf (now (highs .entry)) (now (lows .entry)) f) (endOf (now (highs .entry)) (now (lows .entry)) d)
-        && ltb (keyOf (now (costs .entry)) d) (keyOf (now (costs .entry)) f)) && eqb (inbound (now (rec .entry)) f) 1) 1 0 ⌝ }
+// 1 where d's target holds it, else 0.
+fn held_one(rec: &[u8], d: usize) -> usize
+    requires { ⌜ 2 * d + 1 < length (now rec) ⌝ }
+    ensures { λ r. ⌜ r ≡ cond (eqb (inbound (now (rec .entry)) d) 1) 1 0 ⌝ }
 {
-    if end_of(highs, lows, f) != end_of(highs, lows, d) {
-        return 0;
+    if rec[2 * d + 1] == 1 {
+        return 1;
     }
-    if key_of(costs, f) <= key_of(costs, d) {
-        return 0;
-    }
-    if rec[2 * f + 1] != 1 {
-        return 0;
-    }
-    1
+    0
 }
 
-fn spare_of(spares: &[u16], v: usize) -> usize
+fn entry(spares: &[u16], v: usize) -> usize
     requires { ⌜ v < length (now spares) ⌝ }
     ensures { λ r. ⌜ r ≡ item (now (spares .entry)) v ⌝ }
 {
@@ -122,38 +104,38 @@ fn next_offer(
     highs: &[u16],
     costs: &[u16],
     spares: &[u16],
+    heads: &[u16],
+    nexts: &[u16],
     u: usize,
 ) -> usize
-    requires { ⌜ (Fits links (now lows) (now highs) (now costs) (now spares)) × (Paired links (now rec)) ⌝ }
+    requires { ⌜ (Fits links (now lows) (now highs) (now costs) (now spares)) × (Paired links (now rec)) × (Chain links (now lows) (now highs) (now costs) (now heads) (now nexts)) × (u < length (now heads)) ⌝ }
     ensures { λ r. ⌜ Sought (siteOf links (now (lows .entry)) (now (highs .entry)) (now (costs .entry)) (now (spares .entry))) (outbound (now (rec .entry))) u r ⌝ }
 {
     let dirs = 2 * links;
-    let mut best = dirs;
-    let mut floor = 0;
-    let mut d = 0;
-    'search: while d < dirs {
-        let e = d;
-        d += 1;
-        if !is_open(rec, lows, highs, costs, e, u, floor) {
+    let mut e = entry(heads, u);
+    'search: while e < dirs {
+        let d = e;
+        e = entry(nexts, d);
+        if rec[2 * d] != 0 {
             continue 'search;
         }
-        let spare = spare_of(spares, end_of(highs, lows, e));
+        let v = end_of(highs, lows, d);
+        let spare = entry(spares, v);
+        let back = opposite(d);
         let mut n = 0;
-        let mut f = 0;
-        while f < dirs {
+        let mut f = entry(heads, v);
+        while f != back {
             if spare <= n {
                 continue 'search;
             }
-            n += rival(rec, lows, highs, costs, e, f);
-            f += 1;
+            n += held_one(rec, opposite(f));
+            f = entry(nexts, f);
         }
-        if spare <= n {
-            continue 'search;
+        if n < spare {
+            return d;
         }
-        best = e;
-        floor = key_of(costs, e) + 1;
     }
-    best
+    dirs
 }
 
 // The cheapest offer that v holds.
@@ -200,22 +182,24 @@ fn make_offer(
     highs: &[u16],
     costs: &[u16],
     spares: &[u16],
+    heads: &[u16],
+    nexts: &[u16],
     u: usize,
 ) -> bool
-    requires { ⌜ (Ready links (now lows) (now highs) (now costs) (now spares) (now rec)) × (stands (siteOf links (now lows) (now highs) (now costs) (now spares)) (outbound (now rec)) u < item (now spares) u) ⌝ }
+    requires { ⌜ (Ready links (now lows) (now highs) (now costs) (now spares) (now rec)) × (stands (siteOf links (now lows) (now highs) (now costs) (now spares)) (outbound (now rec)) u < item (now spares) u) × (Chain links (now lows) (now highs) (now costs) (now heads) (now nexts)) × (u < length (now heads)) ⌝ }
     ensures { λ r. ⌜ Offered links (now (lows .entry)) (now (highs .entry)) (now (costs .entry)) (now (spares .entry)) (now (rec .entry)) (now (rec .exit)) u r ⌝ }
 {
-    let d = next_offer(rec, links, lows, highs, costs, spares, u);
+    let d = next_offer(rec, links, lows, highs, costs, spares, heads, nexts, u);
     if 2 * links <= d {
         return false;
     }
     let v = end_of(highs, lows, d);
     let held = ones_at(rec, links, highs, lows, v, 1);
-    if held < spare_of(spares, v) {
+    if held < entry(spares, v) {
         put(rec, d, 1);
         return true;
     }
-    displace(rec, links, lows, highs, costs, spares, d);
+    displace(rec, links, lows, highs, costs, spares, heads, nexts, d);
     true
 }
 
@@ -227,9 +211,11 @@ fn displace(
     highs: &[u16],
     costs: &[u16],
     spares: &[u16],
+    heads: &[u16],
+    nexts: &[u16],
     d: usize,
 )
-    requires { ⌜ Displaces links (now lows) (now highs) (now costs) (now spares) (now rec) d ⌝ }
+    requires { ⌜ (Displaces links (now lows) (now highs) (now costs) (now spares) (now rec) d) × (Chain links (now lows) (now highs) (now costs) (now heads) (now nexts)) ⌝ }
     ensures { λ _. ⌜ Offered links (now (lows .entry)) (now (highs .entry)) (now (costs .entry)) (now (spares .entry)) (now (rec .entry)) (now (rec .exit)) (endOf (now (lows .entry)) (now (highs .entry)) d) true ⌝ }
 {
     let v = end_of(highs, lows, d);
@@ -237,7 +223,7 @@ fn displace(
     let loser = end_of(lows, highs, worst);
     put(rec, worst, 2);
     put(rec, d, 1);
-    let _again = make_offer(rec, links, lows, highs, costs, spares, loser);
+    let _again = make_offer(rec, links, lows, highs, costs, spares, heads, nexts, loser);
 }
 
 // The turn of probe p: it offers until its offers standing equal its spare or none is left to make.
@@ -248,18 +234,20 @@ fn turn(
     highs: &[u16],
     costs: &[u16],
     spares: &[u16],
+    heads: &[u16],
+    nexts: &[u16],
     p: usize,
 )
-    requires { ⌜ (Ready links (now lows) (now highs) (now costs) (now spares) (now rec)) × (p < length (now spares)) ⌝ }
+    requires { ⌜ (Ready links (now lows) (now highs) (now costs) (now spares) (now rec)) × (p < length (now spares)) × (Chain links (now lows) (now highs) (now costs) (now heads) (now nexts)) × (p < length (now heads)) ⌝ }
     ensures { λ _. ⌜ Turned links (now (lows .entry)) (now (highs .entry)) (now (costs .entry)) (now (spares .entry)) (now (rec .entry)) (now (rec .exit)) p ⌝ }
 {
-    let spare = spare_of(spares, p);
+    let spare = entry(spares, p);
     loop {
         let standing = ones_at(rec, links, lows, highs, p, 0);
         if spare <= standing {
             return;
         }
-        let made = make_offer(rec, links, lows, highs, costs, spares, p);
+        let made = make_offer(rec, links, lows, highs, costs, spares, heads, nexts, p);
         if !made {
             return;
         }
@@ -275,14 +263,76 @@ fn take_turns(
     highs: &[u16],
     costs: &[u16],
     spares: &[u16],
+    heads: &[u16],
+    nexts: &[u16],
 )
-    requires { ⌜ (Ready links (now lows) (now highs) (now costs) (now spares) (now rec)) × (probes ≤ length (now spares)) ⌝ }
+    requires { ⌜ (Ready links (now lows) (now highs) (now costs) (now spares) (now rec)) × (probes ≤ length (now spares)) × (Chain links (now lows) (now highs) (now costs) (now heads) (now nexts)) × (probes ≤ length (now heads)) ⌝ }
     ensures { λ _. ⌜ Over links (now (lows .entry)) (now (highs .entry)) (now (costs .entry)) (now (spares .entry)) (now (rec .exit)) probes ⌝ }
 {
     let mut p = 0;
     while p < probes {
-        turn(rec, links, lows, highs, costs, spares, p);
+        turn(rec, links, lows, highs, costs, spares, heads, nexts, p);
         p += 1;
+    }
+}
+
+// The link with the smallest key from `floor` on, or a number past all.
+fn next_link(costs: &[u16], links: usize, floor: usize) -> usize
+    requires { ⌜ (links ≤ 2048) × (links ≤ length (now costs)) ⌝ }
+    ensures { λ r. ⌜ FromFloor links (now (costs .entry)) floor r ⌝ }
+{
+    let mut best = links;
+    let mut ceiling = 4294967296;
+    let mut j = 0;
+    while j < links {
+        let i = j;
+        j += 1;
+        let key = key_of(costs, 2 * i);
+        if key < floor {
+            continue;
+        }
+        if ceiling <= key {
+            continue;
+        }
+        best = i;
+        ceiling = key;
+    }
+    best
+}
+
+// Puts the two directions of the link i at the heads of its ends' chains.
+fn push(heads: &mut [u16], nexts: &mut [u16], i: usize, low: usize, high: usize)
+    requires { ⌜ (i < 2048) × (low < high) × (high < length (now heads)) × (2 * i + 1 < length (now nexts)) ⌝ }
+    ensures { λ _. ⌜ (now (heads .exit) ≡ set (set (now (heads .entry)) low (2 * i)) high (2 * i + 1))
+        × (now (nexts .exit) ≡ set (set (now (nexts .entry)) (2 * i) (item (now (heads .entry)) low)) (2 * i + 1) (item (now (heads .entry)) high)) ⌝ }
+{
+    nexts[2 * i] = heads[low];
+    nexts[2 * i + 1] = heads[high];
+    heads[low] = (2 * i) as u16;
+    heads[high] = (2 * i + 1) as u16;
+}
+
+// Builds the chains, from the cheapest link up.
+fn link_up(
+    heads: &mut [u16],
+    nexts: &mut [u16],
+    links: usize,
+    lows: &[u16],
+    highs: &[u16],
+    costs: &[u16],
+)
+    requires { ⌜ (links ≤ 2048) × (Fits links (now lows) (now highs) (now costs) (now heads)) × (2 * links ≤ length (now nexts))
+        × ((v : ℕ) → v < length (now heads) → 2 * links ≤ item (now heads) v) ⌝ }
+    ensures { λ _. ⌜ Chain links (now (lows .entry)) (now (highs .entry)) (now (costs .entry)) (now (heads .exit)) (now (nexts .exit)) ⌝ }
+{
+    let mut floor = 0;
+    loop {
+        let i = next_link(costs, links, floor);
+        if links <= i {
+            return;
+        }
+        floor = key_of(costs, 2 * i) + 1;
+        push(heads, nexts, i, entry(lows, i), entry(highs, i));
     }
 }
 
@@ -404,7 +454,20 @@ pub fn by_turns(
     clear(work);
     let mut spares = [0u16; 256];
     find_spares(&mut spares, probes, links, needs, lows, highs);
-    take_turns(work, probes, links, lows, highs, costs, &spares);
+    let mut heads = [65535u16; 256];
+    let mut nexts = [0u16; 4096];
+    link_up(&mut heads, &mut nexts, links, lows, highs, costs);
+    take_turns(
+        work,
+        probes,
+        links,
+        lows,
+        highs,
+        costs,
+        &spares,
+        &heads,
+        &nexts,
+    );
     write_plan(plan, work, links);
     clear(work);
 }

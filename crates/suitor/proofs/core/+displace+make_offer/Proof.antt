@@ -1,6 +1,6 @@
 -- `suitor::core::+displace+make_offer` meets its contract.
 use borrow.Author.Needs.{needs}
-use Prim.Native.Nat.{_<_, ℕ, _+_, _*_}
+use Prim.Native.Nat.{ℕ, _<_, _+_, _*_}
 use borrow.Fn.Kinds.{In}
 use borrow.Fn.PlainCycle.{Measures, is, falls, and}
 use Rattle.suitor.proofs.core.displace.Reads as displace
@@ -11,10 +11,10 @@ use Rattle.suitor.proofs.core.make_offer.Kinds as make-offer-kinds
 use Rattle.suitor.proofs.core.+displace+make_offer.Lts-make_offer as make-offer-lts
 use Rattle.suitor.proofs.core.cheapest.Reads as cheapest-reads
 use Rattle.suitor.proofs.core.end_of.Reads as end-of-reads
+use Rattle.suitor.proofs.core.entry.Reads as entry-reads
 use Rattle.suitor.proofs.core.next_offer.Reads as next-offer-reads
 use Rattle.suitor.proofs.core.ones_at.Reads as ones-at-reads
 use Rattle.suitor.proofs.core.put.Reads as put-reads
-use Rattle.suitor.proofs.core.spare_of.Reads as spare-of-reads
 use Rattle.suitor.proofs.core.+displace+make_offer.{statement}
 use Rattle.suitor.proofs.core.+displace+make_offer.Tie.{close}
 use mathlib.Core.Path.{_∙_, ap}
@@ -24,26 +24,26 @@ use Rattle.suitor.specs.Record.{put, untriedCount}
 use Rattle.suitor.proofs.Record.{target-below}
 use Rattle.suitor.proofs.Steps.{offered-none, offered-take, displaces, offered-displacing, some-held, displaced-ready, displaced-room, displaced-fewer, displaced-offered}
 
-abbrev μ-displace : Measures 5 displace-kinds.ps ℕ
+abbrev μ-displace : Measures 7 displace-kinds.ps ℕ
 μ-displace κs a = 2 * untriedCount (a .1 .0) (a .0 .now)
 
-abbrev μ-make-offer : Measures 5 make-offer-kinds.ps ℕ
+abbrev μ-make-offer : Measures 7 make-offer-kinds.ps ℕ
 μ-make-offer κs a = 2 * untriedCount (a .1 .0) (a .0 .now) + 1
 
-abbrev displace-at : ℕ → In 5 displace-kinds.ps
-displace-at t = and 5 displace-kinds.ps (is 5 displace-kinds.ps μ-displace t) displace.Pre
+abbrev displace-at : ℕ → In 7 displace-kinds.ps
+displace-at t = and 7 displace-kinds.ps (is 7 displace-kinds.ps μ-displace t) displace.Pre
 
-abbrev displace-below : ℕ → In 5 displace-kinds.ps
+abbrev displace-below : ℕ → In 7 displace-kinds.ps
 displace-below t =
-    and 5 displace-kinds.ps (falls 5 displace-kinds.ps _<_ μ-displace t) displace.Pre
+    and 7 displace-kinds.ps (falls 7 displace-kinds.ps _<_ μ-displace t) displace.Pre
 
-abbrev make-offer-at : ℕ → In 5 make-offer-kinds.ps
+abbrev make-offer-at : ℕ → In 7 make-offer-kinds.ps
 make-offer-at t =
-    and 5 make-offer-kinds.ps (is 5 make-offer-kinds.ps μ-make-offer t) make-offer.Pre
+    and 7 make-offer-kinds.ps (is 7 make-offer-kinds.ps μ-make-offer t) make-offer.Pre
 
-abbrev make-offer-below : ℕ → In 5 make-offer-kinds.ps
+abbrev make-offer-below : ℕ → In 7 make-offer-kinds.ps
 make-offer-below t =
-    and 5 make-offer-kinds.ps (falls 5 make-offer-kinds.ps _<_ μ-make-offer t) make-offer.Pre
+    and 7 make-offer-kinds.ps (falls 7 make-offer-kinds.ps _<_ μ-make-offer t) make-offer.Pre
 
 displace-end-of-requires : (t : ℕ) → displace-lts.Need-end-of-requires (
   end-of-reads.Asked,
@@ -68,8 +68,8 @@ displace-cheapest-requires : (t : ℕ) → displace-lts.Need-cheapest-requires (
   make-offer.Post,
 ) (displace-at t) displace.Post
 displace-cheapest-requires t c κs =
-    let a = c .before .before .before .before .before .before .before .args in
-    let p = c .before .before .before .before .before .before .before .pre .1 in
+    let a = c .before .before .before .before .before .before .before .before .before .args in
+    let p = c .before .before .before .before .before .before .before .before .before .pre .1 .0 in
     (p .ready .fits, p .ready .paired, some-held (a .links) (a .lows .now) (a .highs .now) (a .costs .now) (a .spares .now) (a .rec .now) (a .d) (c .before .end-of .result) p (c .before .end-of .ensures))
 
 displace-end-of-requires-2 : (t : ℕ) → displace-lts.Need-end-of-requires-2 (
@@ -119,17 +119,19 @@ displace-make-offer-requires : (t : ℕ) → displace-lts.Need-make-offer-requir
   make-offer.Post,
 ) (displace-at t) displace.Post
 displace-make-offer-requires t c κs =
-    let a = c .before .before .before .before .before .before .before .before .before .before .before .before .before .before .before .before .before .before .args in
-    let p = c .before .before .before .before .before .before .before .before .before .before .before .before .before .before .before .before .before .before .pre .1 in
+    let a = c .before .before .before .before .before .before .before .before .before .before .before .before .before .before .before .before .before .before .before .before .args in
+    let p = c .before .before .before .before .before .before .before .before .before .before .before .before .before .before .before .before .before .before .before .before .pre .1 .0 in
     let v = c .before .before .before .before .before .before .before .before .before .before .before .before .end-of in
     let worst = c .before .before .before .before .before .before .before .before .before .before .cheapest in
     let e = c .before .before .before .put2 .ensures ∙ ap (λ (x : List ℕ). put x (a .d) 1) (c .before .before .before .before .before .before .before .put .ensures) in
     let f = displaced-fewer (a .links) (a .lows .now) (a .highs .now) (a .costs .now) (a .spares .now) (a .rec .now) (a .d) (v .result) p (v .ensures) (worst .result) (worst .ensures) _ (λ z. omega arith) (λ z. omega arith) _ e in
-    let m = c .before .before .before .before .before .before .before .before .before .before .before .before .before .before .before .before .before .before .pre .0 in (
+    let m = c .before .before .before .before .before .before .before .before .before .before .before .before .before .before .before .before .before .before .before .before .pre .0 in (
       omega arith,
       (
         displaced-ready (a .links) (a .lows .now) (a .highs .now) (a .costs .now) (a .spares .now) (a .rec .now) (a .d) (v .result) p (v .ensures) (worst .result) (worst .ensures) _ (λ z. omega arith) (λ z. omega arith) _ e,
         displaced-room (a .links) (a .lows .now) (a .highs .now) (a .costs .now) (a .spares .now) (a .rec .now) (a .d) (v .result) p (v .ensures) (worst .result) (worst .ensures) _ (λ z. omega arith) (λ z. omega arith) _ e (c .before .before .before .before .before .before .before .before .before .end-of2 .result) (c .before .before .before .before .before .before .before .before .before .end-of2 .ensures),
+        c .before .before .before .before .before .before .before .before .before .before .before .before .before .before .before .before .before .before .before .before .pre .1 .1,
+        rw (c .before .before .before .before .before .before .before .before .before .end-of2 .ensures) (c .before .before .before .before .before .before .before .before .before .before .before .before .before .before .before .before .before .before .before .before .pre .1 .1 .wide (worst .result) (worst .ensures .below)),
       ),
     )
 
@@ -156,8 +158,8 @@ displace-returns : (t : ℕ) → displace-lts.Need-returns (
   make-offer.Post,
 ) (displace-at t) displace.Post
 displace-returns t c =
-    let a = c .before .before .before .before .before .before .before .before .before .before .before .before .before .before .before .before .before .before .before .before .before .args in
-    let p = c .before .before .before .before .before .before .before .before .before .before .before .before .before .before .before .before .before .before .before .before .before .pre .1 in
+    let a = c .before .before .before .before .before .before .before .before .before .before .before .before .before .before .before .before .before .before .before .before .before .before .before .args in
+    let p = c .before .before .before .before .before .before .before .before .before .before .before .before .before .before .before .before .before .before .before .before .before .before .before .pre .1 .0 in
     let v = c .before .before .before .before .before .before .before .before .before .before .before .before .before .before .before .end-of in
     let worst = c .before .before .before .before .before .before .before .before .before .before .before .before .before .cheapest in
     let e = c .before .before .before .before .before .before .put2 .ensures ∙ ap (λ (x : List ℕ). put x (a .d) 1) (c .before .before .before .before .before .before .before .before .before .before .put .ensures) in
@@ -170,14 +172,14 @@ make-offer-next-offer-requires : (t : ℕ) → make-offer-lts.Need-next-offer-re
   end-of-reads.Learnt,
   ones-at-reads.Asked,
   ones-at-reads.Learnt,
-  spare-of-reads.Asked,
-  spare-of-reads.Learnt,
+  entry-reads.Asked,
+  entry-reads.Learnt,
   put-reads.Asked,
   put-reads.Learnt,
   displace-below t,
   displace.Post,
 ) (make-offer-at t) make-offer.Post
-make-offer-next-offer-requires t c κs = let p = c .before .before .before .before .before .before .pre .1 .0 in (p .fits, p .paired)
+make-offer-next-offer-requires t c κs = let p = c .before .before .before .before .before .before .before .before .pre .1 in (p .0 .fits, p .0 .paired, p .2, p .3)
 
 make-offer-mul-if1 : (t : ℕ) → make-offer-lts.Need-mul-if1 (
   next-offer-reads.Asked,
@@ -186,8 +188,8 @@ make-offer-mul-if1 : (t : ℕ) → make-offer-lts.Need-mul-if1 (
   end-of-reads.Learnt,
   ones-at-reads.Asked,
   ones-at-reads.Learnt,
-  spare-of-reads.Asked,
-  spare-of-reads.Learnt,
+  entry-reads.Asked,
+  entry-reads.Learnt,
   put-reads.Asked,
   put-reads.Learnt,
   displace-below t,
@@ -202,8 +204,8 @@ make-offer-same-length : (t : ℕ) → make-offer-lts.Need-same-length (
   end-of-reads.Learnt,
   ones-at-reads.Asked,
   ones-at-reads.Learnt,
-  spare-of-reads.Asked,
-  spare-of-reads.Learnt,
+  entry-reads.Asked,
+  entry-reads.Learnt,
   put-reads.Asked,
   put-reads.Learnt,
   displace-below t,
@@ -218,16 +220,16 @@ make-offer-returns : (t : ℕ) → make-offer-lts.Need-returns (
   end-of-reads.Learnt,
   ones-at-reads.Asked,
   ones-at-reads.Learnt,
-  spare-of-reads.Asked,
-  spare-of-reads.Learnt,
+  entry-reads.Asked,
+  entry-reads.Learnt,
   put-reads.Asked,
   put-reads.Learnt,
   displace-below t,
   displace.Post,
 ) (make-offer-at t) make-offer.Post
 make-offer-returns t c =
-    let a = c .before .before .before .before .before .before .before .before .args in
-    offered-none (a .links) (a .lows .now) (a .highs .now) (a .costs .now) (a .spares .now) (a .rec .now) (a .u) (c .before .next-offer .result) (c .before .before .before .before .before .before .before .before .pre .1 .0) (c .before .next-offer .ensures) (c .if1 .taken)
+    let a = c .before .before .before .before .before .before .before .before .before .before .args in
+    offered-none (a .links) (a .lows .now) (a .highs .now) (a .costs .now) (a .spares .now) (a .rec .now) (a .u) (c .before .next-offer .result) (c .before .before .before .before .before .before .before .before .before .before .pre .1 .0) (c .before .next-offer .ensures) (c .if1 .taken)
 
 make-offer-end-of-requires : (t : ℕ) → make-offer-lts.Need-end-of-requires (
   next-offer-reads.Asked,
@@ -236,8 +238,8 @@ make-offer-end-of-requires : (t : ℕ) → make-offer-lts.Need-end-of-requires (
   end-of-reads.Learnt,
   ones-at-reads.Asked,
   ones-at-reads.Learnt,
-  spare-of-reads.Asked,
-  spare-of-reads.Learnt,
+  entry-reads.Asked,
+  entry-reads.Learnt,
   put-reads.Asked,
   put-reads.Learnt,
   displace-below t,
@@ -252,8 +254,8 @@ make-offer-ones-at-requires : (t : ℕ) → make-offer-lts.Need-ones-at-requires
   end-of-reads.Learnt,
   ones-at-reads.Asked,
   ones-at-reads.Learnt,
-  spare-of-reads.Asked,
-  spare-of-reads.Learnt,
+  entry-reads.Asked,
+  entry-reads.Learnt,
   put-reads.Asked,
   put-reads.Learnt,
   displace-below t,
@@ -261,23 +263,23 @@ make-offer-ones-at-requires : (t : ℕ) → make-offer-lts.Need-ones-at-requires
 ) (make-offer-at t) make-offer.Post
 make-offer-ones-at-requires t c κs = search needs
 
-make-offer-spare-of-requires : (t : ℕ) → make-offer-lts.Need-spare-of-requires (
+make-offer-entry-requires : (t : ℕ) → make-offer-lts.Need-entry-requires (
   next-offer-reads.Asked,
   next-offer-reads.Learnt,
   end-of-reads.Asked,
   end-of-reads.Learnt,
   ones-at-reads.Asked,
   ones-at-reads.Learnt,
-  spare-of-reads.Asked,
-  spare-of-reads.Learnt,
+  entry-reads.Asked,
+  entry-reads.Learnt,
   put-reads.Asked,
   put-reads.Learnt,
   displace-below t,
   displace.Post,
 ) (make-offer-at t) make-offer.Post
-make-offer-spare-of-requires t c κs =
-    let a = c .before .before .before .before .before .before .before .before .before .before .before .args in
-    rw (c .before .before .end-of .ensures) (target-below (a .links) (a .lows .now) (a .highs .now) (a .costs .now) (a .spares .now) (c .before .before .before .before .before .before .before .before .before .before .before .pre .1 .0 .fits) (c .before .before .before .before .next-offer .result) (c .before .before .before .if1 .left))
+make-offer-entry-requires t c κs =
+    let a = c .before .before .before .before .before .before .before .before .before .before .before .before .before .args in
+    rw (c .before .before .end-of .ensures) (target-below (a .links) (a .lows .now) (a .highs .now) (a .costs .now) (a .spares .now) (c .before .before .before .before .before .before .before .before .before .before .before .before .before .pre .1 .0 .fits) (c .before .before .before .before .next-offer .result) (c .before .before .before .if1 .left))
 
 make-offer-put-requires : (t : ℕ) → make-offer-lts.Need-put-requires (
   next-offer-reads.Asked,
@@ -286,8 +288,8 @@ make-offer-put-requires : (t : ℕ) → make-offer-lts.Need-put-requires (
   end-of-reads.Learnt,
   ones-at-reads.Asked,
   ones-at-reads.Learnt,
-  spare-of-reads.Asked,
-  spare-of-reads.Learnt,
+  entry-reads.Asked,
+  entry-reads.Learnt,
   put-reads.Asked,
   put-reads.Learnt,
   displace-below t,
@@ -302,8 +304,8 @@ make-offer-same-length-2 : (t : ℕ) → make-offer-lts.Need-same-length-2 (
   end-of-reads.Learnt,
   ones-at-reads.Asked,
   ones-at-reads.Learnt,
-  spare-of-reads.Asked,
-  spare-of-reads.Learnt,
+  entry-reads.Asked,
+  entry-reads.Learnt,
   put-reads.Asked,
   put-reads.Learnt,
   displace-below t,
@@ -318,18 +320,18 @@ make-offer-returns-2 : (t : ℕ) → make-offer-lts.Need-returns-2 (
   end-of-reads.Learnt,
   ones-at-reads.Asked,
   ones-at-reads.Learnt,
-  spare-of-reads.Asked,
-  spare-of-reads.Learnt,
+  entry-reads.Asked,
+  entry-reads.Learnt,
   put-reads.Asked,
   put-reads.Learnt,
   displace-below t,
   displace.Post,
 ) (make-offer-at t) make-offer.Post
 make-offer-returns-2 t c =
-    let a = c .before .before .before .before .before .before .before .before .before .before .before .before .before .before .before .before .before .args in
-    let p = c .before .before .before .before .before .before .before .before .before .before .before .before .before .before .before .before .before .pre .1 in
-    offered-take (a .links) (a .lows .now) (a .highs .now) (a .costs .now) (a .spares .now) (a .rec .now) (a .u) (c .before .before .before .before .before .before .before .before .before .before .next-offer .result) (c .before .before .before .before .before .before .before .before .end-of .result) (c .before .before .before .before .before .before .ones-at .result) (c .before .before .before .before .before .spare-of .result) (p .0) (p .1) (c .before .before .before .before .before .before .before .before .before .before .next-offer .ensures) (c .before .before .before .before .before .before .before .before .before .if1 .left)
-    (c .before .before .before .before .before .before .before .before .end-of .ensures) (c .before .before .before .before .before .before .ones-at .ensures) (c .before .before .before .before .before .spare-of .ensures) (c .before .before .before .before .if2 .taken) _ (c .before .before .put .ensures)
+    let a = c .before .before .before .before .before .before .before .before .before .before .before .before .before .before .before .before .before .before .before .args in
+    let p = c .before .before .before .before .before .before .before .before .before .before .before .before .before .before .before .before .before .before .before .pre .1 in
+    offered-take (a .links) (a .lows .now) (a .highs .now) (a .costs .now) (a .spares .now) (a .rec .now) (a .u) (c .before .before .before .before .before .before .before .before .before .before .next-offer .result) (c .before .before .before .before .before .before .before .before .end-of .result) (c .before .before .before .before .before .before .ones-at .result) (c .before .before .before .before .before .entry .result) (p .0) (p .1) (c .before .before .before .before .before .before .before .before .before .before .next-offer .ensures) (c .before .before .before .before .before .before .before .before .before .if1 .left)
+    (c .before .before .before .before .before .before .before .before .end-of .ensures) (c .before .before .before .before .before .before .ones-at .ensures) (c .before .before .before .before .before .entry .ensures) (c .before .before .before .before .if2 .taken) _ (c .before .before .put .ensures)
 
 make-offer-displace-requires : (t : ℕ) → make-offer-lts.Need-displace-requires (
   next-offer-reads.Asked,
@@ -338,20 +340,23 @@ make-offer-displace-requires : (t : ℕ) → make-offer-lts.Need-displace-requir
   end-of-reads.Learnt,
   ones-at-reads.Asked,
   ones-at-reads.Learnt,
-  spare-of-reads.Asked,
-  spare-of-reads.Learnt,
+  entry-reads.Asked,
+  entry-reads.Learnt,
   put-reads.Asked,
   put-reads.Learnt,
   displace-below t,
   displace.Post,
 ) (make-offer-at t) make-offer.Post
 make-offer-displace-requires t c κs =
-    let a = c .before .before .before .before .before .before .before .before .before .before .before .before .before .before .args in
-    let p = c .before .before .before .before .before .before .before .before .before .before .before .before .before .before .pre .1 in
-    let m = c .before .before .before .before .before .before .before .before .before .before .before .before .before .before .pre .0 in (
+    let a = c .before .before .before .before .before .before .before .before .before .before .before .before .before .before .before .before .args in
+    let p = c .before .before .before .before .before .before .before .before .before .before .before .before .before .before .before .before .pre .1 in
+    let m = c .before .before .before .before .before .before .before .before .before .before .before .before .before .before .before .before .pre .0 in (
       omega arith,
-      displaces (a .links) (a .lows .now) (a .highs .now) (a .costs .now) (a .spares .now) (a .rec .now) (a .u) (c .before .before .before .before .before .before .before .next-offer .result) (c .before .before .before .before .before .end-of .result) (p .0) (p .1) (c .before .before .before .before .before .before .before .next-offer .ensures) (c .before .before .before .before .before .before .if1 .left) (c .before .before .before .before .before .end-of .ensures)
-          (c .before .before .before .ones-at .result) (c .before .before .spare-of .result) (c .before .before .before .ones-at .ensures) (c .before .before .spare-of .ensures) (c .before .if2 .left),
+      (
+        displaces (a .links) (a .lows .now) (a .highs .now) (a .costs .now) (a .spares .now) (a .rec .now) (a .u) (c .before .before .before .before .before .before .before .next-offer .result) (c .before .before .before .before .before .end-of .result) (p .0) (p .1) (c .before .before .before .before .before .before .before .next-offer .ensures) (c .before .before .before .before .before .before .if1 .left) (c .before .before .before .before .before .end-of .ensures)
+            (c .before .before .before .ones-at .result) (c .before .before .entry .result) (c .before .before .before .ones-at .ensures) (c .before .before .entry .ensures) (c .before .if2 .left),
+        p .2,
+      ),
     )
 
 make-offer-same-length-3 : (t : ℕ) → make-offer-lts.Need-same-length-3 (
@@ -361,8 +366,8 @@ make-offer-same-length-3 : (t : ℕ) → make-offer-lts.Need-same-length-3 (
   end-of-reads.Learnt,
   ones-at-reads.Asked,
   ones-at-reads.Learnt,
-  spare-of-reads.Asked,
-  spare-of-reads.Learnt,
+  entry-reads.Asked,
+  entry-reads.Learnt,
   put-reads.Asked,
   put-reads.Learnt,
   displace-below t,
@@ -377,16 +382,16 @@ make-offer-returns-3 : (t : ℕ) → make-offer-lts.Need-returns-3 (
   end-of-reads.Learnt,
   ones-at-reads.Asked,
   ones-at-reads.Learnt,
-  spare-of-reads.Asked,
-  spare-of-reads.Learnt,
+  entry-reads.Asked,
+  entry-reads.Learnt,
   put-reads.Asked,
   put-reads.Learnt,
   displace-below t,
   displace.Post,
 ) (make-offer-at t) make-offer.Post
 make-offer-returns-3 t c =
-    let a = c .before .before .before .before .before .before .before .before .before .before .before .before .before .before .before .before .before .args in
-    let p = c .before .before .before .before .before .before .before .before .before .before .before .before .before .before .before .before .before .pre .1 in
+    let a = c .before .before .before .before .before .before .before .before .before .before .before .before .before .before .before .before .before .before .before .args in
+    let p = c .before .before .before .before .before .before .before .before .before .before .before .before .before .before .before .before .before .before .before .pre .1 in
     offered-displacing (a .links) (a .lows .now) (a .highs .now) (a .costs .now) (a .spares .now) (a .rec .now) (a .u) (c .before .before .before .before .before .before .before .before .before .before .next-offer .result) (c .before .before .before .before .before .before .before .before .end-of .result) (p .0) (p .1) (c .before .before .before .before .before .before .before .before .before .before .next-offer .ensures) (c .before .before .before .before .before .before .before .before .before .if1 .left) (c .before .before .before .before .before .before .before .before .end-of .ensures) _ (c .before .before .displace .ensures)
 
 pub +displace+make-offer-spec : {M : Type 1} → statement M
@@ -417,8 +422,8 @@ pub +displace+make-offer-spec : {M : Type 1} → statement M
       end-of-reads.Learnt,
       ones-at-reads.Asked,
       ones-at-reads.Learnt,
-      spare-of-reads.Asked,
-      spare-of-reads.Learnt,
+      entry-reads.Asked,
+      entry-reads.Learnt,
       put-reads.Asked,
       put-reads.Learnt,
       displace-below t,
@@ -432,7 +437,7 @@ pub +displace+make-offer-spec : {M : Type 1} → statement M
     (make-offer-returns t)
     (make-offer-end-of-requires t)
     (make-offer-ones-at-requires t)
-    (make-offer-spare-of-requires t)
+    (make-offer-entry-requires t)
     (make-offer-put-requires t)
     (make-offer-same-length-2 t)
     (make-offer-returns-2 t)

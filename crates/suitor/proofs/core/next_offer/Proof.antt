@@ -2,149 +2,167 @@
 use borrow.Author.Needs.{needs}
 use Rattle.suitor.proofs.core.next_offer.Statement.{statement}
 use Rattle.suitor.proofs.core.next_offer.Tie as tie
-use Prim.Native.Nat.{ℕ, _*_, _-_, _≤_}
-use mathlib.Core.Path.{_≡_, refl}
-use mathlib.Core.Bool.{Bool, _&&_}
-use mathlib.Core.List.{List}
+use Prim.Native.Nat.{ℕ}
+use mathlib.Core.Path.{sym, _∙_, ap}
+use mathlib.Core.Bool.{cond}
 use native.Mathlib.Omega.{arith}
 use lib.Dec.{eqb}
-use borrow.Author.Tests.{not-true, not-false}
-use Rattle.range.specs.Sum.{sum, count}
-use Rattle.suitor.specs.Offers.{beats}
-use Rattle.suitor.specs.Record.{endOf, keyOf, siteOf, outbound, inbound}
+use Rattle.table.specs.Table.{item}
+use Rattle.suitor.specs.Record.{siteOf, outbound, inbound}
+use Rattle.suitor.specs.Chain.{opposite}
 use Rattle.suitor.proofs.Record.{target-below}
-use Rattle.suitor.proofs.Searches.{SoughtTo, count-next, bit-one, open-not, open-is, sought-start, sought-past, sought-new, sought-done, shut-by-count, free-by-count}
-
--- g is dearer than e and held by its target
-abbrev holds-dearer : ℕ → List ℕ → List ℕ → List ℕ → List ℕ → List ℕ → ℕ → ℕ → Bool
-holds-dearer links lows highs costs spares rec e g = beats (siteOf links lows highs costs spares) e g && eqb (inbound rec g) 1
+use Rattle.suitor.proofs.Searches.{bit-one}
+use Rattle.suitor.proofs.Chain.{Walk, Counted, height, opposite-below, falls, walk-start, walk-next, walk-found, walk-end, target-wide, counted-start, counted-next, counted-shut, counted-free}
 
 abbrev Inv-loop : tie.InvT-loop
-Inv-loop rec links lows highs costs spares u dirs best floor d e spare n₀ f₀ n f = (f ≤ 2 * links) × (n ≡ count f (holds-dearer links lows highs costs spares rec e)) × (n ≤ f)
+Inv-loop rec links lows highs costs spares heads nexts u dirs e d v spare back n₀ f₀ n f = Counted links lows highs costs (outbound rec) d f n
 
 abbrev μ-loop : tie.MeasureT-loop
-μ-loop rec links lows highs costs spares u dirs best floor d e spare n₀ f₀ n f = 2 * links - f
+μ-loop rec links lows highs costs spares heads nexts u dirs e d v spare back n₀ f₀ n f = height links costs f
 
 abbrev Inv-search : tie.InvT-search
-Inv-search rec links lows highs costs spares u dirs best₀ floor₀ d₀ best floor d = (d ≤ 2 * links) × SoughtTo (siteOf links lows highs costs spares) (outbound rec) u best floor d
+Inv-search rec links lows highs costs spares heads nexts u dirs e₀ e = Walk (siteOf links lows highs costs spares) (outbound rec) u e
 
 abbrev μ-search : tie.MeasureT-search
-μ-search rec links lows highs costs spares u dirs best₀ floor₀ d₀ best floor d = 2 * links - d
+μ-search rec links lows highs costs spares heads nexts u dirs e₀ e = height links costs e
 
 mul-dirs : tie.Need-mul-dirs Inv-loop μ-loop Inv-search μ-search
 mul-dirs c = search needs
 
+entry-requires : tie.Need-entry-requires Inv-loop μ-loop Inv-search μ-search
+entry-requires c κs = search needs
+
 search-holds : tie.Need-search-holds Inv-loop μ-loop Inv-search μ-search
-search-holds c = let a = c .before .before .before .before .before .args in (search needs, sought-start (siteOf (a .links) (a .lows .now) (a .highs .now) (a .costs .now) (a .spares .now)) (outbound (a .rec .now)) (a .u))
+search-holds c =
+    let a = c .before .before .before .before .before .before .before .before .args in
+    let p = c .before .before .before .before .before .before .before .before .pre in
+    walk-start (a .links) (a .lows .now) (a .highs .now) (a .costs .now) (a .spares .now) (a .heads .now) (a .nexts .now) (p .0) (p .2) (outbound (a .rec .now)) (a .u) (c .entry .result) (p .3) (c .entry .ensures)
 
-add-d : tie.Need-add-d Inv-loop μ-loop Inv-search μ-search
-add-d c = search needs
+entry-requires-2 : tie.Need-entry-requires-2 Inv-loop μ-loop Inv-search μ-search
+entry-requires-2 c κs = let l = c .before .before .before .before .before .before .before .before .before .before .pre .2 .long in omega arith
 
-is-open-requires : tie.Need-is-open-requires Inv-loop μ-loop Inv-search μ-search
-is-open-requires c κs = search needs
+mul-if1 : tie.Need-mul-if1 Inv-loop μ-loop Inv-search μ-search
+mul-if1 c = search needs
+
+shared-slice-read-if1 : tie.Need-shared-slice-read-if1 Inv-loop μ-loop Inv-search μ-search
+shared-slice-read-if1 c = search needs
 
 search-less : tie.Need-search-less Inv-loop μ-loop Inv-search μ-search
-search-less c = search needs
+search-less c =
+    let a = c .before .before .before .before .before .before .before .before .before .before .before .before .before .args in
+    let p = c .before .before .before .before .before .before .before .before .before .before .before .before .before .pre in
+    falls (a .links) (a .lows .now) (a .highs .now) (a .costs .now) (a .spares .now) (a .heads .now) (a .nexts .now) (p .0) (p .2) (c .before .before .before .before .search .e) (c .before .before .entry2 .result) (c .before .before .before .search-test .taken) (c .before .before .entry2 .ensures)
 
 search-again : tie.Need-search-again Inv-loop μ-loop Inv-search μ-search
 search-again c =
-    let a = c .before .before .before .before .before .before .before .before .before .args in
-    let l = c .before .before .before .search in
-    let b = c .before .is-open in (
-      search needs,
-      sought-past (siteOf (a .links) (a .lows .now) (a .highs .now) (a .costs .now) (a .spares .now)) (outbound (a .rec .now)) (a .u) (l .best) (l .floor) (l .d) (l .inv .1)
-          (λ x y z. absurd (open-not (endOf (a .lows .now) (a .highs .now) (l .d)) (a .u) (outbound (a .rec .now) (l .d)) (l .floor) (keyOf (a .costs .now) (l .d)) (b .result) (b .ensures) (not-true (b .result) (c .if1 .taken)) x y z)),
-    )
+    let a = c .before .before .before .before .before .before .before .before .before .before .before .before .before .args in
+    let p = c .before .before .before .before .before .before .before .before .before .before .before .before .before .pre in
+    walk-next (a .links) (a .lows .now) (a .highs .now) (a .costs .now) (a .spares .now) (a .heads .now) (a .nexts .now) (p .0) (p .2) (outbound (a .rec .now)) (a .u) (c .before .before .before .before .search .e) (c .before .before .entry2 .result) (c .before .before .before .search-test .taken) (c .before .before .before .before .search .inv) (λ z. absurd (c .if1 .taken z)) (c .before .before .entry2 .ensures)
 
 end-of-requires : tie.Need-end-of-requires Inv-loop μ-loop Inv-search μ-search
 end-of-requires c κs = search needs
 
-spare-of-requires : tie.Need-spare-of-requires Inv-loop μ-loop Inv-search μ-search
-spare-of-requires c κs =
-    let a = c .before .before .before .before .before .before .before .before .before .before .args in
-    rw (c .end-of .ensures) (target-below (a .links) (a .lows .now) (a .highs .now) (a .costs .now) (a .spares .now) (c .before .before .before .before .before .before .before .before .before .before .pre .0) (c .before .before .before .before .search .d) (c .before .before .before .search-test .taken))
+entry-requires-3 : tie.Need-entry-requires-3 Inv-loop μ-loop Inv-search μ-search
+entry-requires-3 c κs =
+    let a = c .before .before .before .before .before .before .before .before .before .before .before .before .before .before .args in
+    rw (c .end-of .ensures) (target-below (a .links) (a .lows .now) (a .highs .now) (a .costs .now) (a .spares .now) (c .before .before .before .before .before .before .before .before .before .before .before .before .before .before .pre .0) (c .before .before .before .before .before .search .e) (c .before .before .before .before .search-test .taken))
+
+opposite-requires : tie.Need-opposite-requires Inv-loop μ-loop Inv-search μ-search
+opposite-requires c κs = search needs
+
+entry-requires-4 : tie.Need-entry-requires-4 Inv-loop μ-loop Inv-search μ-search
+entry-requires-4 c κs =
+    let a = c .before .before .before .before .before .before .before .before .before .before .before .before .before .before .before .before .args in
+    let p = c .before .before .before .before .before .before .before .before .before .before .before .before .before .before .before .before .pre in
+    rw (c .before .before .end-of .ensures) (target-wide (a .links) (a .lows .now) (a .highs .now) (a .costs .now) (a .spares .now) (a .heads .now) (a .nexts .now) (p .0) (p .2) (c .before .before .before .before .before .before .before .search .e) (c .before .before .before .before .before .before .search-test .taken))
 
 loop-holds : tie.Need-loop-holds Inv-loop μ-loop Inv-search μ-search
-unfolding sum
-loop-holds c = (search needs, refl, search needs)
+loop-holds c =
+    let a = c .before .before .before .before .before .before .before .before .before .before .before .before .before .before .before .before .before .args in
+    let p = c .before .before .before .before .before .before .before .before .before .before .before .before .before .before .before .before .before .pre in
+    counted-start (a .links) (a .lows .now) (a .highs .now) (a .costs .now) (a .spares .now) (a .heads .now) (a .nexts .now) (p .0) (p .2) (outbound (a .rec .now)) (c .before .before .before .before .before .before .before .before .search .e) (c .before .before .before .before .before .before .before .search-test .taken) (c .entry4 .result) (c .entry4 .ensures ∙ ap (item (a .heads .now)) (c .before .before .before .end-of .ensures)) (target-wide (a .links) (a .lows .now) (a .highs .now) (a .costs .now) (a .spares .now) (a .heads .now) (a .nexts .now) (p .0) (p .2) (c .before .before .before .before .before .before .before .before .search .e) (c .before .before .before .before .before .before .before .search-test .taken))
 
 search-less-2 : tie.Need-search-less-2 Inv-loop μ-loop Inv-search μ-search
-search-less-2 c = search needs
+search-less-2 c =
+    let a = c .before .before .before .before .before .before .before .before .before .before .before .before .before .before .before .before .before .before .before .before .args in
+    let p = c .before .before .before .before .before .before .before .before .before .before .before .before .before .before .before .before .before .before .before .before .pre in
+    falls (a .links) (a .lows .now) (a .highs .now) (a .costs .now) (a .spares .now) (a .heads .now) (a .nexts .now) (p .0) (p .2) (c .before .before .before .before .before .before .before .before .before .before .before .search .e) (c .before .before .before .before .before .before .before .before .before .entry2 .result) (c .before .before .before .before .before .before .before .before .before .before .search-test .taken) (c .before .before .before .before .before .before .before .before .before .entry2 .ensures)
 
 search-again-2 : tie.Need-search-again-2 Inv-loop μ-loop Inv-search μ-search
 search-again-2 c =
-    let a = c .before .before .before .before .before .before .before .before .before .before .before .before .before .before .args in
-    let l = c .before .before .before .before .before .before .before .before .search in
-    let k = c .before .before .loop in (
-      search needs,
-      sought-past (siteOf (a .links) (a .lows .now) (a .highs .now) (a .costs .now) (a .spares .now)) (outbound (a .rec .now)) (a .u) (l .best) (l .floor) (l .d) (l .inv .1)
-          (λ x y z. shut-by-count (a .links) (a .lows .now) (a .highs .now) (a .costs .now) (a .spares .now) (a .rec .now) (c .before .before .before .before .before .before .before .before .before .before .before .before .before .before .pre .1) (l .d) (c .before .before .before .before .end-of .result) (c .before .before .before .spare-of .result) (k .n) (k .f) (c .before .before .before .before .end-of .ensures) (c .before .before .before .spare-of .ensures) (k .inv .1) (k .inv .0) (c .if2 .taken)),
-    )
+    let a = c .before .before .before .before .before .before .before .before .before .before .before .before .before .before .before .before .before .before .before .before .args in
+    let p = c .before .before .before .before .before .before .before .before .before .before .before .before .before .before .before .before .before .before .before .before .pre in
+    let s = c .before .before .before .before .before .entry3 .ensures ∙ ap (item (a .spares .now)) (c .before .before .before .before .before .before .end-of .ensures) in
+    walk-next (a .links) (a .lows .now) (a .highs .now) (a .costs .now) (a .spares .now) (a .heads .now) (a .nexts .now) (p .0) (p .2) (outbound (a .rec .now)) (a .u) (c .before .before .before .before .before .before .before .before .before .before .before .search .e) (c .before .before .before .before .before .before .before .before .before .entry2 .result) (c .before .before .before .before .before .before .before .before .before .before .search-test .taken) (c .before .before .before .before .before .before .before .before .before .before .before .search .inv)
+    (λ z. counted-shut (a .links) (a .lows .now) (a .highs .now) (a .costs .now) (a .spares .now) (a .heads .now) (a .nexts .now) (p .0) (p .2) (outbound (a .rec .now)) (c .before .before .before .before .before .before .before .before .before .before .before .search .e) (c .before .before .before .before .before .before .before .before .before .before .search-test .taken) (c .before .before .loop .f) (c .before .before .loop .n) (c .before .before .loop .inv) (omega (arith, s, c .if2 .taken))) (c .before .before .before .before .before .before .before .before .before .entry2 .ensures)
 
-rival-requires : tie.Need-rival-requires Inv-loop μ-loop Inv-search μ-search
-rival-requires c κs = search needs
+opposite-requires-2 : tie.Need-opposite-requires-2 Inv-loop μ-loop Inv-search μ-search
+opposite-requires-2 c κs =
+    let l = c .before .before .loop .inv .below in
+    let k = c .before .before .before .before .before .before .before .before .before .before .before .before .before .before .before .before .before .before .before .before .pre .0 .few in
+    omega arith
+
+held-one-requires : tie.Need-held-one-requires Inv-loop μ-loop Inv-search μ-search
+held-one-requires c κs =
+    let b = opposite-below (c .before .before .before .before .before .before .before .before .before .before .before .before .before .before .before .before .before .before .before .before .before .args .links) (c .before .before .before .loop .f) (c .before .before .before .loop .inv .below) in
+    let e = c .opposite2 .ensures in
+    let r = c .before .before .before .before .before .before .before .before .before .before .before .before .before .before .before .before .before .before .before .before .before .pre .1 .room in
+    omega arith
 
 add-n : tie.Need-add-n Inv-loop μ-loop Inv-search μ-search
 add-n c =
-    let a = c .before .before .before .before .before .before .before .before .before .before .before .before .before .before .before .args in
-    let b = bit-one (holds-dearer (a .links) (a .lows .now) (a .highs .now) (a .costs .now) (a .spares .now) (a .rec .now) (c .before .before .before .before .before .before .before .before .before .search .d) (c .before .before .before .loop .f)) in
+    let e = c .held-one .ensures in
+    let b = bit-one (eqb (inbound (c .before .before .before .before .before .before .before .before .before .before .before .before .before .before .before .before .before .before .before .before .before .before .args .rec .now) (c .before .opposite2 .result)) 1) in
+    let k = c .before .before .before .before .loop .inv .few in
     omega arith
 
-add-f : tie.Need-add-f Inv-loop μ-loop Inv-search μ-search
-add-f c = search needs
+entry-requires-5 : tie.Need-entry-requires-5 Inv-loop μ-loop Inv-search μ-search
+entry-requires-5 c κs =
+    let l = c .before .before .before .before .loop .inv .below in
+    let k = c .before .before .before .before .before .before .before .before .before .before .before .before .before .before .before .before .before .before .before .before .before .before .pre .2 .long in
+    omega arith
 
 loop-less : tie.Need-loop-less Inv-loop μ-loop Inv-search μ-search
-loop-less c = search needs
+loop-less c =
+    let a = c .before .before .before .before .before .before .before .before .before .before .before .before .before .before .before .before .before .before .before .before .before .before .before .args in
+    let p = c .before .before .before .before .before .before .before .before .before .before .before .before .before .before .before .before .before .before .before .before .before .before .before .pre in
+    falls (a .links) (a .lows .now) (a .highs .now) (a .costs .now) (a .spares .now) (a .heads .now) (a .nexts .now) (p .0) (p .2) (c .before .before .before .before .before .loop .f) (c .entry5 .result) (c .before .before .before .before .before .loop .inv .below) (c .entry5 .ensures)
 
 loop-again : tie.Need-loop-again Inv-loop μ-loop Inv-search μ-search
 loop-again c =
-    let a = c .before .before .before .before .before .before .before .before .before .before .before .before .before .before .before .args in
-    let k = c .before .before .before .loop in
-    let b = bit-one (holds-dearer (a .links) (a .lows .now) (a .highs .now) (a .costs .now) (a .spares .now) (a .rec .now) (c .before .before .before .before .before .before .before .before .before .search .d) (k .f)) in
-    let h = count-next (holds-dearer (a .links) (a .lows .now) (a .highs .now) (a .costs .now) (a .spares .now) (a .rec .now) (c .before .before .before .before .before .before .before .before .before .search .d)) (k .f) in
-    let e = c .rival .ensures in
-    (search needs, omega arith, omega arith)
+    let a = c .before .before .before .before .before .before .before .before .before .before .before .before .before .before .before .before .before .before .before .before .before .before .before .args in
+    let p = c .before .before .before .before .before .before .before .before .before .before .before .before .before .before .before .before .before .before .before .before .before .before .before .pre in
+    counted-next (a .links) (a .lows .now) (a .highs .now) (a .costs .now) (a .spares .now) (a .heads .now) (a .nexts .now) (p .0) (p .2) (outbound (a .rec .now)) (c .before .before .before .before .before .before .before .before .before .before .before .before .before .before .search .e) (c .before .before .before .before .before .before .before .before .before .before .before .before .before .search-test .taken) (c .before .before .before .before .before .loop .f) (c .before .before .before .before .before .loop .n) (c .entry5 .result) (c .before .held-one .result) (c .before .before .before .before .before .loop .inv)
+    (λ z. c .before .before .before .before .loop-test .taken (z ∙ sym (c .before .before .before .before .before .before .before .opposite .ensures))) (c .entry5 .ensures)
+    (c .before .held-one .ensures ∙ ap {B = ℕ} (λ (x : ℕ). cond (eqb x 1) 1 0) (ap (inbound (a .rec .now)) (c .before .before .opposite2 .ensures) ∙ p .1 .twin (opposite (c .before .before .before .before .before .loop .f))))
 
 search-less-3 : tie.Need-search-less-3 Inv-loop μ-loop Inv-search μ-search
-search-less-3 c = search needs
+search-less-3 c =
+    let a = c .before .before .before .before .before .before .before .before .before .before .before .before .before .before .before .before .before .before .before .before .args in
+    let p = c .before .before .before .before .before .before .before .before .before .before .before .before .before .before .before .before .before .before .before .before .pre in
+    falls (a .links) (a .lows .now) (a .highs .now) (a .costs .now) (a .spares .now) (a .heads .now) (a .nexts .now) (p .0) (p .2) (c .before .before .before .before .before .before .before .before .before .before .before .search .e) (c .before .before .before .before .before .before .before .before .before .entry2 .result) (c .before .before .before .before .before .before .before .before .before .before .search-test .taken) (c .before .before .before .before .before .before .before .before .before .entry2 .ensures)
 
 search-again-3 : tie.Need-search-again-3 Inv-loop μ-loop Inv-search μ-search
 search-again-3 c =
-    let a = c .before .before .before .before .before .before .before .before .before .before .before .before .before .before .args in
-    let l = c .before .before .before .before .before .before .before .before .search in
-    let k = c .before .before .loop in (
-      search needs,
-      sought-past (siteOf (a .links) (a .lows .now) (a .highs .now) (a .costs .now) (a .spares .now)) (outbound (a .rec .now)) (a .u) (l .best) (l .floor) (l .d) (l .inv .1)
-          (λ x y z. shut-by-count (a .links) (a .lows .now) (a .highs .now) (a .costs .now) (a .spares .now) (a .rec .now) (c .before .before .before .before .before .before .before .before .before .before .before .before .before .before .pre .1) (l .d) (c .before .before .before .before .end-of .result) (c .before .before .before .spare-of .result) (k .n) (k .f) (c .before .before .before .before .end-of .ensures) (c .before .before .before .spare-of .ensures) (k .inv .1) (k .inv .0) (c .if3 .taken)),
-    )
-
-key-of-requires : tie.Need-key-of-requires Inv-loop μ-loop Inv-search μ-search
-key-of-requires c κs = search needs
-
-add-floor : tie.Need-add-floor Inv-loop μ-loop Inv-search μ-search
-add-floor c = search needs
-
-search-less-4 : tie.Need-search-less-4 Inv-loop μ-loop Inv-search μ-search
-search-less-4 c = search needs
-
-search-again-4 : tie.Need-search-again-4 Inv-loop μ-loop Inv-search μ-search
-search-again-4 c =
-    let a = c .before .before .before .before .before .before .before .before .before .before .before .before .before .before .before .args in
-    let l = c .before .before .before .before .before .before .before .before .before .search in
-    let k = c .before .before .before .loop in
-    let b = c .before .before .before .before .before .before .before .is-open in
-    let op = open-is (endOf (a .lows .now) (a .highs .now) (l .d)) (a .u) (outbound (a .rec .now) (l .d)) (l .floor) (keyOf (a .costs .now) (l .d)) (b .result) (b .ensures) (not-false (b .result) (c .before .before .before .before .before .before .if1 .left)) in (
-      search needs,
-      sought-new (siteOf (a .links) (a .lows .now) (a .highs .now) (a .costs .now) (a .spares .now)) (outbound (a .rec .now)) (a .u) (l .best) (l .floor) (l .d) (c .key-of .result) (l .inv .1) (c .before .before .before .before .before .before .before .before .search-test .taken) (op .0) (op .1) (op .2)
-          (free-by-count (a .links) (a .lows .now) (a .highs .now) (a .costs .now) (a .spares .now) (a .rec .now) (c .before .before .before .before .before .before .before .before .before .before .before .before .before .before .before .pre .1) (l .d) (c .before .before .before .before .before .end-of .result) (c .before .before .before .before .spare-of .result) (k .n) (k .f) (c .before .before .before .before .before .end-of .ensures) (c .before .before .before .before .spare-of .ensures) (k .inv .1) (k .inv .0) (c .before .before .loop-test .left) (c .before .if3 .left))
-          (c .key-of .ensures .0),
-    )
+    let a = c .before .before .before .before .before .before .before .before .before .before .before .before .before .before .before .before .before .before .before .before .args in
+    let p = c .before .before .before .before .before .before .before .before .before .before .before .before .before .before .before .before .before .before .before .before .pre in
+    let s = c .before .before .before .before .before .entry3 .ensures ∙ ap (item (a .spares .now)) (c .before .before .before .before .before .before .end-of .ensures) in
+    walk-next (a .links) (a .lows .now) (a .highs .now) (a .costs .now) (a .spares .now) (a .heads .now) (a .nexts .now) (p .0) (p .2) (outbound (a .rec .now)) (a .u) (c .before .before .before .before .before .before .before .before .before .before .before .search .e) (c .before .before .before .before .before .before .before .before .before .entry2 .result) (c .before .before .before .before .before .before .before .before .before .before .search-test .taken) (c .before .before .before .before .before .before .before .before .before .before .before .search .inv)
+    (λ z. counted-shut (a .links) (a .lows .now) (a .highs .now) (a .costs .now) (a .spares .now) (a .heads .now) (a .nexts .now) (p .0) (p .2) (outbound (a .rec .now)) (c .before .before .before .before .before .before .before .before .before .before .before .search .e) (c .before .before .before .before .before .before .before .before .before .before .search-test .taken) (c .before .before .loop .f) (c .before .before .loop .n) (c .before .before .loop .inv) (omega (arith, s, c .if3 .left))) (c .before .before .before .before .before .before .before .before .before .entry2 .ensures)
 
 returns : tie.Need-returns Inv-loop μ-loop Inv-search μ-search
 returns c =
-    let a = c .before .before .before .before .before .before .before .args in
-    let l = c .before .search in
-    sought-done (siteOf (a .links) (a .lows .now) (a .highs .now) (a .costs .now) (a .spares .now)) (outbound (a .rec .now)) (a .u) (l .best) (l .floor) (l .d) (l .inv .1) (c .search-test .left)
+    let a = c .before .before .before .before .before .before .before .before .before .before .before .before .before .before .before .before .before .before .before .before .args in
+    let p = c .before .before .before .before .before .before .before .before .before .before .before .before .before .before .before .before .before .before .before .before .pre in
+    let s = c .before .before .before .before .before .entry3 .ensures ∙ ap (item (a .spares .now)) (c .before .before .before .before .before .before .end-of .ensures) in
+    walk-found (a .links) (a .lows .now) (a .highs .now) (a .costs .now) (a .spares .now) (a .heads .now) (a .nexts .now) (p .0) (p .2) (outbound (a .rec .now)) (a .u) (c .before .before .before .before .before .before .before .before .before .before .before .search .e) (c .before .before .before .before .before .before .before .before .before .before .search-test .taken) (c .before .before .before .before .before .before .before .before .before .before .before .search .inv) (c .before .before .before .before .before .before .before .if1 .left)
+    (counted-free (a .links) (a .lows .now) (a .highs .now) (a .costs .now) (a .spares .now) (a .heads .now) (a .nexts .now) (p .0) (p .2) (outbound (a .rec .now)) (c .before .before .before .before .before .before .before .before .before .before .before .search .e) (c .before .before .before .before .before .before .before .before .before .before .search-test .taken) (c .before .before .loop .f) (c .before .before .loop .n) (c .before .before .loop .inv) (c .before .loop-test .left ∙ c .before .before .before .before .opposite .ensures) (omega (arith, s, c .if3 .taken)))
+
+returns-2 : tie.Need-returns-2 Inv-loop μ-loop Inv-search μ-search
+returns-2 c =
+    let a = c .before .before .before .before .before .before .before .before .before .before .args in
+    let p = c .before .before .before .before .before .before .before .before .before .before .pre in
+    walk-end (a .links) (a .lows .now) (a .highs .now) (a .costs .now) (a .spares .now) (a .heads .now) (a .nexts .now) (p .0) (p .2) (outbound (a .rec .now)) (a .u) (c .before .search .e) (c .search-test .left) (c .before .search .inv)
 
 pub next-offer-spec : {M : Type 1} → statement M
 next-offer-spec =
@@ -155,25 +173,27 @@ next-offer-spec =
     Inv-search
     μ-search
     mul-dirs
+    entry-requires
     search-holds
-    add-d
-    is-open-requires
+    entry-requires-2
+    mul-if1
+    shared-slice-read-if1
     search-less
     search-again
     end-of-requires
-    spare-of-requires
+    entry-requires-3
+    opposite-requires
+    entry-requires-4
     loop-holds
     search-less-2
     search-again-2
-    rival-requires
+    opposite-requires-2
+    held-one-requires
     add-n
-    add-f
+    entry-requires-5
     loop-less
     loop-again
+    returns
     search-less-3
     search-again-3
-    key-of-requires
-    add-floor
-    search-less-4
-    search-again-4
-    returns)
+    returns-2)

@@ -1,4 +1,4 @@
--- a direction that ends at v and has the byte 1
+-- `suitor::core::ones_at` meets its contract.
 use borrow.Author.Needs.{needs}
 use Rattle.suitor.proofs.core.ones_at.Statement.{statement}
 use Rattle.suitor.proofs.core.ones_at.Tie as tie
@@ -14,6 +14,7 @@ use Rattle.table.specs.Table.{item}
 use Rattle.suitor.specs.Record.{endOf}
 use Rattle.suitor.proofs.Searches.{count-hit, count-miss}
 
+-- a direction that ends at v and has the byte 1
 abbrev one : List ℕ → List ℕ → List ℕ → ℕ → ℕ → ℕ → Bool
 one rec firsts seconds v at f = eqb (endOf firsts seconds f) v && eqb (item rec (2 * f + at)) 1
 

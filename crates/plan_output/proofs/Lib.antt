@@ -1,0 +1,6 @@
+pub mod Same
+pub mod Printing
+pub mod Reading
+pub mod Most
+pub mod Long
+pub mod Samples

@@ -1,0 +1,39 @@
+// The plan of a table's text, as the plan program prints it.
+ghost use Rattle.plan_output.specs.Output.{Outputs};
+
+pub mod core;
+
+// The answer: the length printed, or the number of the refusal.
+pub enum Output {
+    Length(usize),
+    Refused(u8),
+}
+
+// Prints the plan of the table that a text gives, or the text's refusal.
+pub fn plan_text(text: &[u8], out: &mut [u8]) -> Output
+    ensures { λ r. ⌜ Outputs (now (text .entry)) r (now (out .entry)) (now (out .exit)) ⌝ }
+{
+    let mut needs = [0u16; 256];
+    let mut lows = [0u16; 2048];
+    let mut highs = [0u16; 2048];
+    let mut costs = [0u16; 2048];
+    let read = table_read::read_table(text, &mut needs, &mut lows, &mut highs, &mut costs);
+    match read {
+        table_read::Reading::Table {
+            number,
+            probes,
+            links,
+            rest: _,
+        } => core::print_plan(
+            out,
+            number,
+            probes as usize,
+            links as usize,
+            &needs,
+            &lows,
+            &highs,
+            &costs,
+        ),
+        table_read::Reading::Refused(fault) => core::print_refusal(out, fault),
+    }
+}
