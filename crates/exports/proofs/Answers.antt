@@ -14,7 +14,9 @@ use Rattle.table_write.specs.declared.Writing.{Writing}
 use Rattle.table_write.specs.declared.Writing.the-variants.{Length, Refused}
 use Rattle.cover.specs.Planning.{Plans, PlansByTurns}
 use Rattle.cover.specs.declared.Planning.{Planning}
-use Rattle.exports.specs.Packed.{packedPlanning, PlansPacked, TurnsPacked, packedReading, packedWriting, ReadsPacked, WritesPacked}
+use Rattle.plan_output.specs.Output.{Outputs}
+use Rattle.plan_output.specs.declared.Output.{Output}
+use Rattle.exports.specs.Packed.{packedOutput, OutputsPacked, packedPlanning, PlansPacked, TurnsPacked, packedReading, packedWriting, ReadsPacked, WritesPacked}
 
 pub reads-packed : (fault : ℕ) (t : Site) (a : Reading) (r : ℕ) (needs needs′ lows lows′ highs highs′ costs costs′ : List ℕ)
     → Reads fault t a needs needs′ lows lows′ highs highs′ costs costs′ → r ≡ packedReading a → ReadsPacked fault t r needs needs′ lows lows′ highs highs′ costs costs′
@@ -44,3 +46,6 @@ length-is fault t a n before after g e = go (eqb fault 0) (sym e ∙ g .answer)
     go : (b : Bool) → Length n ≡ cond b (Length (textEnd t)) (Refused fault) → n ≡ textEnd t
     go true h = cc
     go false h = let z : _≡_ {A = ℕ} 0 1 = cc in absurd (omega arith)
+
+pub outputs-packed : (text : List ℕ) (a b : Output) (r : ℕ) (before after : List ℕ) → Outputs text a before after → a ≡ b → r ≡ packedOutput b → OutputsPacked text r before after
+outputs-packed text a b r before after g e f = record { answered = a; answer = f ∙ ap packedOutput (sym e); lent = g }

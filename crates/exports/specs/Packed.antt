@@ -10,6 +10,9 @@ use Rattle.table_read.specs.declared.Reading.the-variants.{Table, Refused as Un
 use Rattle.cover.specs.Planning.{planningOf, Plans, PlansByTurns}
 use Rattle.cover.specs.declared.Planning.{Planning}
 use Rattle.cover.specs.declared.Planning.the-variants.{Plan, Refused as Unplanned}
+use Rattle.plan_output.specs.Output.{Outputs}
+use Rattle.plan_output.specs.declared.Output.{Output}
+use Rattle.plan_output.specs.declared.Output.the-variants.{Length as Printed, Refused as Unprinted}
 use Rattle.table_write.specs.declared.Writing.{Writing}
 use Rattle.table_write.specs.declared.Writing.the-variants.{Length, Refused as Unwritten}
 
@@ -26,6 +29,10 @@ packedPlanning (Unplanned refusal) = refusal
 abbrev pub packedWriting : Writing → ℕ
 packedWriting (Length length) = 2 ^ 48 + length
 packedWriting (Unwritten refusal) = refusal
+
+abbrev pub packedOutput : Output → ℕ
+packedOutput (Printed length) = 2 ^ 48 + length
+packedOutput (Unprinted refusal) = refusal
 
 -- the answer packed, and the lent slices as the functions that are called leave them
 
@@ -44,3 +51,9 @@ pub record PlansPacked (fault : ℕ) (t : Site) (r : ℕ) (before after : List �
 pub record TurnsPacked (fault : ℕ) (t : Site) (r : ℕ) (before after work work′ : List ℕ) : Type 0 where
   pub answer : r ≡ packedPlanning (planningOf fault t)
   pub lent : PlansByTurns fault t (planningOf fault t) before after work work′
+
+-- some answer of `plan_text`, packed
+pub record OutputsPacked (text : List ℕ) (r : ℕ) (before after : List ℕ) : Type 0 where
+  pub answered : Output
+  pub answer : r ≡ packedOutput answered
+  pub lent : Outputs text answered before after

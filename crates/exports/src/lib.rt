@@ -8,8 +8,9 @@ ghost use Rattle.table.specs.Checking.{checkingOf, refusalOf};
 ghost use Rattle.table.specs.Text.{ofText, readFault};
 ghost use Rattle.table_write.specs.Writing.{writeFault};
 ghost use Rattle.cover.specs.Planning.{planFault, turnsFault};
-ghost use Rattle.exports.specs.Packed.{packedReading, packedPlanning, ReadsPacked, WritesPacked, PlansPacked, TurnsPacked};
+ghost use Rattle.exports.specs.Packed.{packedReading, packedPlanning, ReadsPacked, WritesPacked, PlansPacked, TurnsPacked, OutputsPacked};
 use cover::Planning;
+use plan_output::Output;
 use table::Checking;
 use table_read::Reading;
 use table_write::Writing;
@@ -169,4 +170,15 @@ pub extern "C" fn planner_plan_turns(
         plan,
         work,
     ))
+}
+
+// `plan_output::plan_text`, its answer packed.
+#[no_mangle]
+pub extern "C" fn planner_plan_text(text: &[u8], out: &mut [u8]) -> u64
+    ensures { λ r. ⌜ OutputsPacked (now (text .entry)) r (now (out .entry)) (now (out .exit)) ⌝ }
+{
+    match plan_output::plan_text(text, out) {
+        Output::Length(length) => length as u64 + 281474976710656,
+        Output::Refused(refusal) => refusal as u64,
+    }
 }

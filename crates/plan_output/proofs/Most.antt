@@ -17,7 +17,7 @@ use Rattle.plan_output.specs.declared.Output.{Output}
 use Rattle.plan_output.specs.declared.Output.the-variants.{Length, Refused}
 use Rattle.plan_output.proofs.Printing.{length-plan}
 
-most : (s : List ℕ) → length (outputOf s) ≤ 26646
+pub most : (s : List ℕ) → length (outputOf s) ≤ 26646
 most s = go (ℕ-discrete (textFault 256 2048 false s) 0)
   where
     go : Dec (textFault 256 2048 false s ≡ 0) → length (outputOf s) ≤ 26646
@@ -33,13 +33,13 @@ always-printed s r out out′ l p =
     let k = most s in
     p .answer ∙ rw (le-ltb (length out) (length (outputOf s)) (omega arith))
 
--- the length printed is within the lent slice
-pub printed-within : (printed out out′ : List ℕ) (r : Output) (n : ℕ) → Prints printed r out out′ → r ≡ Length n → n ≤ length out
+-- a length that is answered is that of what is printed, which the lent slice holds
+pub printed-within : (printed out out′ : List ℕ) (r : Output) (n : ℕ) → Prints printed r out out′ → r ≡ Length n → (n ≡ length printed) × (n ≤ length out)
 printed-within printed out out′ r n p q = go (ltb (length out) (length printed)) refl (sym q ∙ p .answer)
   where
-    go : (b : Bool) → ltb (length out) (length printed) ≡ b → Length n ≡ cond b (Refused 8) (Length (length printed)) → n ≤ length out
+    go : (b : Bool) → ltb (length out) (length printed) ≡ b → Length n ≡ cond b (Refused 8) (Length (length printed)) → (n ≡ length printed) × (n ≤ length out)
     go true e a = let z : _≡_ {A = ℕ} 0 1 = cc in absurd (omega arith)
     go false e a =
         let m : n ≡ length printed = cc in
         let k = ltb-false (length out) (length printed) e in
-        omega arith
+        (m, omega arith)
