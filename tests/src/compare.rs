@@ -4,7 +4,7 @@
 use crate::buffer::Buffer;
 use crate::face;
 use crate::random::Random;
-use crate::reference::{self, Behind, Lent, Slices, Table};
+use crate::reference::{self, Behind, Lent, Plan, Slices, Table};
 use crate::sites::Numbers;
 
 fn lend(buffers: &mut [Buffer<u16>; 4]) -> Lent<'_> {
@@ -15,6 +15,19 @@ fn lend(buffers: &mut [Buffer<u16>; 4]) -> Lent<'_> {
         highs,
         costs,
     }
+}
+
+/// The answers as numbers, then the buffers: the library's and the second implementation's.
+#[track_caller]
+fn assert_same<T: PartialEq>(call: &str, [answer, expected]: [u64; 2], buffers: [&T; 2]) {
+    assert!(
+        answer == expected,
+        "{call}: answer {answer:x}, not {expected:x}"
+    );
+    assert!(
+        buffers[0] == buffers[1],
+        "{call}: buffers differ, answer {answer:x}"
+    );
 }
 
 /// Only the table's own entries may have changed, and they hold the table.
@@ -43,14 +56,14 @@ pub fn read(
     let (mut by_library, mut by_reference) = (before.clone(), before.clone());
     let answer = face::read_table(text, behind, lend(&mut by_library));
     let result = reference::read_table(text, behind, lend(&mut by_reference));
-    let expected = face::read_answer(&result);
-    assert!(
-        answer == expected,
-        "{behind:?}: answer {answer:x}, not {expected:x}"
-    );
-    assert!(
-        by_library == by_reference,
-        "{behind:?}: slices differ, answer {answer:x}"
+    let call = match behind {
+        Behind::Nothing => "read",
+        Behind::Anything => "read prefix",
+    };
+    assert_same(
+        call,
+        [answer, face::read_answer(&result)],
+        [&by_library, &by_reference],
     );
     assert_filled(&by_library, &before, &result);
     result
@@ -61,27 +74,114 @@ pub fn check(given: Slices) -> Result<(), u8> {
     let answer = face::check_table(given);
     let result = reference::check_table(given);
     let expected = face::check_answer(&result);
-    assert!(answer == expected, "check: {answer}, not {expected}");
+    assert_same("check", [answer.into(), expected.into()], [&(), &()]);
     result
 }
 
-/// Writes into a slice of this length; hands back the written text.
+/// Lends a slice of this length to a call that writes a text; hands back the written text.
 #[track_caller]
-pub fn write(given: Slices, length: usize, random: &mut Random) -> Result<Vec<u8>, u8> {
+fn written(
+    call: &str,
+    length: usize,
+    random: &mut Random,
+    library: impl Fn(&mut [u8]) -> u64,
+    reference: impl Fn(&mut [u8]) -> Result<usize, u8>,
+) -> Result<Vec<u8>, u8> {
     let before = Buffer::filled(length, || random.byte());
     let (mut by_library, mut by_reference) = (before.clone(), before.clone());
-    let answer = face::write_table(given, by_library.lend());
-    let result = reference::write_table(given, by_reference.lend());
-    let expected = face::write_answer(&result);
-    assert!(
-        answer == expected,
-        "write: answer {answer:x}, not {expected:x}"
-    );
-    assert!(
-        by_library == by_reference,
-        "write: texts differ, answer {answer:x}"
+    let answer = library(by_library.lend());
+    let result = reference(by_reference.lend());
+    assert_same(
+        call,
+        [answer, face::write_answer(&result)],
+        [&by_library, &by_reference],
     );
     let count = result.unwrap_or(0);
     assert!(by_library.kept_beyond(count, &before));
     result.map(|length| by_library.entries()[..length].to_vec())
+}
+
+#[track_caller]
+pub fn write(given: Slices, length: usize, random: &mut Random) -> Result<Vec<u8>, u8> {
+    let library = |out: &mut [u8]| face::write_table(given, out);
+    let reference = |out: &mut [u8]| reference::write_table(given, out);
+    written("write", length, random, library, reference)
+}
+
+#[track_caller]
+pub fn plan_text(text: &[u8], length: usize, random: &mut Random) -> Result<Vec<u8>, u8> {
+    let library = |out: &mut [u8]| face::plan_text(text, out);
+    let reference = |out: &mut [u8]| reference::plan_text(text, out);
+    written("plan text", length, random, library, reference)
+}
+
+/// The first bytes hold the plan, and only they may have changed.
+#[track_caller]
+fn assert_planned(after: &Buffer<u8>, before: &Buffer<u8>, result: &Result<Plan, u8>) {
+    let kept = result.as_ref().map_or(&[][..], |plan| &plan.kept);
+    assert!(after.kept_beyond(kept.len(), before));
+    let holds = |(&byte, &kept): (&u8, &bool)| byte == kept as u8;
+    assert!(after.entries().iter().zip(kept).all(holds));
+}
+
+/// By S-LSE, with a plan of this length.
+#[track_caller]
+pub fn plan_slse(given: Slices, length: usize, random: &mut Random) -> Result<Plan, u8> {
+    let before = Buffer::filled(length, || random.byte());
+    let (mut by_library, mut by_reference) = (before.clone(), before.clone());
+    let answer = face::plan_slse(given, by_library.lend());
+    let result = reference::fill_plan(given, reference::plan, by_reference.lend());
+    assert_same(
+        "S-LSE",
+        [answer, face::plan_answer(&result)],
+        [&by_library, &by_reference],
+    );
+    assert_planned(&by_library, &before, &result);
+    result
+}
+
+/// By turns, with a plan and working bytes of these lengths; many bytes look like a record's.
+#[track_caller]
+pub fn plan_turns(given: Slices, lengths: [usize; 2], random: &mut Random) -> Result<Plan, u8> {
+    let mut byte = || {
+        let any = random.byte();
+        random.pick(&[1, 2, any])
+    };
+    let before = lengths.map(|length| Buffer::filled(length, &mut byte));
+    let (mut by_library, mut by_reference) = (before.clone(), before.clone());
+    let [plan, work] = by_library.each_mut().map(Buffer::lend);
+    let answer = face::plan_turns(given, plan, work);
+    let [plan, work] = by_reference.each_mut().map(Buffer::lend);
+    let result = reference::fill_plan_and_work(given, reference::plan, plan, work);
+    assert_same(
+        "by turns",
+        [answer, face::plan_answer(&result)],
+        [&by_library, &by_reference],
+    );
+    assert_planned(&by_library[0], &before[0], &result);
+    match result {
+        Ok(_) => assert!(by_library[1].entries().iter().all(|&byte| byte == 0)),
+        Err(_) => assert!(by_library[1] == before[1]),
+    }
+    result
+}
+
+/// By both methods, with so many bytes more than are needed.
+#[track_caller]
+pub fn plan(given: Slices, longer: usize, random: &mut Random) -> Result<Plan, u8> {
+    let links = given.links as usize;
+    let by_turns = plan_turns(given, [links + longer, 4 * links + longer], random);
+    assert_eq!(plan_slse(given, links + longer, random), by_turns);
+    by_turns
+}
+
+/// A legal table's plan by both methods and by its text.
+#[track_caller]
+pub fn plan_table(table: &Table, random: &mut Random) -> Plan {
+    let (longer, numbers) = (random.below(3), Numbers::of(table));
+    let plan = plan(numbers.slices(), longer, random).expect("a legal table");
+    let output = plan.text(table);
+    let printed = plan_text(&table.text(), output.len() + longer, random);
+    assert!(printed == Ok(output));
+    plan
 }

@@ -1,6 +1,6 @@
 //! The static library's face: each lent slice passes as a pointer and a length in entries.
 
-use crate::reference::{Behind, Lent, Slices, Table};
+use crate::reference::{Behind, Lent, Plan, Slices, Table};
 
 extern "C" {
     fn planner_read_table(
@@ -55,6 +55,44 @@ extern "C" {
         out: *mut u8,
         out_length: usize,
     ) -> u64;
+    fn planner_plan_slse(
+        number: u16,
+        probes: u16,
+        links: u16,
+        needs: *const u16,
+        needs_length: usize,
+        lows: *const u16,
+        lows_length: usize,
+        highs: *const u16,
+        highs_length: usize,
+        costs: *const u16,
+        costs_length: usize,
+        plan: *mut u8,
+        plan_length: usize,
+    ) -> u64;
+    fn planner_plan_turns(
+        number: u16,
+        probes: u16,
+        links: u16,
+        needs: *const u16,
+        needs_length: usize,
+        lows: *const u16,
+        lows_length: usize,
+        highs: *const u16,
+        highs_length: usize,
+        costs: *const u16,
+        costs_length: usize,
+        plan: *mut u8,
+        plan_length: usize,
+        work: *mut u8,
+        work_length: usize,
+    ) -> u64;
+    fn planner_plan_text(
+        text: *const u8,
+        text_length: usize,
+        out: *mut u8,
+        out_length: usize,
+    ) -> u64;
 }
 
 const ACCEPTED: u64 = 1 << 48;
@@ -75,7 +113,15 @@ pub fn check_answer(result: &Result<(), u8>) -> u8 {
     result.err().unwrap_or(0)
 }
 
-/// The number that stands for a writing's result.
+/// The number that stands for a plan.
+pub fn plan_answer(result: &Result<Plan, u8>) -> u64 {
+    match result {
+        Ok(plan) => ACCEPTED + ((plan.count as u64) << 32) + plan.cost,
+        Err(refusal) => *refusal as u64,
+    }
+}
+
+/// The number that stands for the result of writing a text.
 pub fn write_answer(result: &Result<usize, u8>) -> u64 {
     match result {
         Ok(length) => ACCEPTED + *length as u64,
@@ -105,40 +151,44 @@ pub fn read_table(text: &[u8], behind: Behind, lent: Lent) -> u64 {
     }
 }
 
+/// Calls a function that takes a table in slices first.
+macro_rules! call_with_table {
+    ($function:ident, $given:ident $(, $more:expr)*) => {
+        unsafe {
+            $function(
+                $given.number,
+                $given.probes,
+                $given.links,
+                $given.needs.as_ptr(),
+                $given.needs.len(),
+                $given.lows.as_ptr(),
+                $given.lows.len(),
+                $given.highs.as_ptr(),
+                $given.highs.len(),
+                $given.costs.as_ptr(),
+                $given.costs.len(),
+                $($more.as_mut_ptr(), $more.len()),*
+            )
+        }
+    };
+}
+
 pub fn check_table(given: Slices) -> u8 {
-    unsafe {
-        planner_check_table(
-            given.number,
-            given.probes,
-            given.links,
-            given.needs.as_ptr(),
-            given.needs.len(),
-            given.lows.as_ptr(),
-            given.lows.len(),
-            given.highs.as_ptr(),
-            given.highs.len(),
-            given.costs.as_ptr(),
-            given.costs.len(),
-        )
-    }
+    call_with_table!(planner_check_table, given)
 }
 
 pub fn write_table(given: Slices, out: &mut [u8]) -> u64 {
-    unsafe {
-        planner_write_table(
-            given.number,
-            given.probes,
-            given.links,
-            given.needs.as_ptr(),
-            given.needs.len(),
-            given.lows.as_ptr(),
-            given.lows.len(),
-            given.highs.as_ptr(),
-            given.highs.len(),
-            given.costs.as_ptr(),
-            given.costs.len(),
-            out.as_mut_ptr(),
-            out.len(),
-        )
-    }
+    call_with_table!(planner_write_table, given, out)
+}
+
+pub fn plan_slse(given: Slices, plan: &mut [u8]) -> u64 {
+    call_with_table!(planner_plan_slse, given, plan)
+}
+
+pub fn plan_turns(given: Slices, plan: &mut [u8], work: &mut [u8]) -> u64 {
+    call_with_table!(planner_plan_turns, given, plan, work)
+}
+
+pub fn plan_text(text: &[u8], out: &mut [u8]) -> u64 {
+    unsafe { planner_plan_text(text.as_ptr(), text.len(), out.as_mut_ptr(), out.len()) }
 }

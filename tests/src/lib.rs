@@ -3,6 +3,7 @@
 pub mod buffer;
 pub mod compare;
 pub mod face;
+pub mod methods;
 pub mod random;
 pub mod reference;
 pub mod sites;

@@ -7,6 +7,16 @@ pub struct Link {
     pub cost: u16,
 }
 
+impl Link {
+    pub fn ends(self) -> [usize; 2] {
+        [self.low.into(), self.high.into()]
+    }
+
+    fn line(self) -> String {
+        format!("{:04x}{:04x}{:04x}\n", self.low, self.high, self.cost)
+    }
+}
+
 /// A site's table, legal or not; the probes are numbered by their place among the needs.
 #[derive(Clone, Debug, PartialEq)]
 pub struct Table {
@@ -59,19 +69,28 @@ pub fn dearer(link: Link, other: Link) -> bool {
 }
 
 impl Table {
-    /// The probe's number of links.
-    pub fn degree(&self, probe: usize) -> usize {
-        let own = |link: &&Link| link.low as usize == probe || link.high as usize == probe;
-        self.links.iter().filter(own).count()
+    /// Each probe's number of links.
+    pub fn degrees(&self) -> Vec<usize> {
+        let mut degrees = vec![0; self.needs.len()];
+        for link in &self.links {
+            for end in link.ends() {
+                if let Some(degree) = degrees.get_mut(end) {
+                    *degree += 1;
+                }
+            }
+        }
+        degrees
     }
 
-    /// The probe's number of links less its need; below zero only where 7 refuses.
-    pub fn spare(&self, probe: usize) -> i64 {
-        self.degree(probe) as i64 - self.needs[probe] as i64
+    /// Each probe's number of links less its need; below zero only where 7 refuses.
+    pub fn spares(&self) -> Vec<i64> {
+        let degrees = self.degrees().into_iter();
+        let spare = |(degree, &need): (usize, &u16)| degree as i64 - need as i64;
+        degrees.zip(&self.needs).map(spare).collect()
     }
 
     fn check_needs(&self) -> Result<(), u8> {
-        match (0..self.needs.len()).all(|probe| self.spare(probe) >= 0) {
+        match self.spares().iter().all(|&spare| spare >= 0) {
             true => Ok(()),
             false => Err(7),
         }
@@ -99,7 +118,7 @@ impl Table {
             text += &format!("{need:04x}\n");
         }
         for link in &self.links {
-            text += &format!("{:04x}{:04x}{:04x}\n", link.low, link.high, link.cost);
+            text += &link.line();
         }
         text += "ffff\n";
         text.into_bytes()
@@ -180,7 +199,7 @@ pub fn table_of_slices(given: Slices) -> Result<Table, u8> {
     let mut table = Table {
         number: given.number,
         needs: given.needs[..probes].to_vec(),
-        links: Vec::new(),
+        links: Vec::with_capacity(links),
     };
     for place in 0..links {
         let (low, high, cost) = (given.lows[place], given.highs[place], given.costs[place]);
@@ -218,7 +237,116 @@ pub fn write_table(given: Slices, out: &mut [u8]) -> Result<usize, u8> {
     if out.len() < text_length(given.probes.into(), given.links.into()) {
         return Err(8);
     }
-    let text = table_of_slices(given)?.text();
-    out[..text.len()].copy_from_slice(&text);
+    put_text(&table_of_slices(given)?.text(), out)
+}
+
+fn put_text(text: &[u8], out: &mut [u8]) -> Result<usize, u8> {
+    out.get_mut(..text.len()).ok_or(8)?.copy_from_slice(text);
     Ok(text.len())
+}
+
+/// Which links are kept, how many, and their total cost.
+#[derive(Clone, Debug, PartialEq)]
+pub struct Plan {
+    pub kept: Vec<bool>,
+    pub count: usize,
+    pub cost: u64,
+}
+
+impl Plan {
+    pub fn keeping(kept: Vec<bool>, table: &Table) -> Plan {
+        let costs = table.links.iter().map(|link| link.cost as u64);
+        Plan {
+            count: kept.iter().filter(|&&kept| kept).count(),
+            cost: costs
+                .zip(&kept)
+                .map(|(cost, &kept)| cost * kept as u64)
+                .sum(),
+            kept,
+        }
+    }
+
+    /// What the plan program prints.
+    pub fn text(&self, table: &Table) -> Vec<u8> {
+        let mut text = format!("{:04x}{:04x}{:08x}\n", table.number, self.count, self.cost);
+        for (link, _) in table.links.iter().zip(&self.kept).filter(|(_, &kept)| kept) {
+            text += &link.line();
+        }
+        text += "ffff\n";
+        text.into_bytes()
+    }
+}
+
+/// The plan by its definition.
+pub fn plan(table: &Table) -> Plan {
+    rest_in_order(&falling(&table.links), table)
+}
+
+/// The links' places from dearest to cheapest.
+pub fn falling(links: &[Link]) -> Vec<usize> {
+    let mut places: Vec<usize> = (0..links.len()).collect();
+    places.sort_by(|&one, &other| {
+        let (one, other) = (links[one], links[other]);
+        dearer(other, one).cmp(&dearer(one, other))
+    });
+    places
+}
+
+/// Goes through the links' places in this order; a link is rested exactly when both ends still
+/// have more links than they need.
+pub fn rest_in_order(order: &[usize], table: &Table) -> Plan {
+    let mut kept = vec![true; table.links.len()];
+    let mut left = table.spares();
+    for &place in order {
+        let [low, high] = table.links[place].ends();
+        if left[low] > 0 && left[high] > 0 {
+            left[low] -= 1;
+            left[high] -= 1;
+            kept[place] = false;
+        }
+    }
+    Plan::keeping(kept, table)
+}
+
+/// A way to a legal table's plan.
+pub type Method = fn(&Table) -> Plan;
+
+/// Fills the lent plan from its start; a short one is among the first, 8.
+pub fn fill_plan(given: Slices, method: Method, bytes: &mut [u8]) -> Result<Plan, u8> {
+    if bytes.len() < given.links.into() {
+        return Err(8);
+    }
+    let plan = method(&table_of_slices(given)?);
+    for (byte, &kept) in bytes.iter_mut().zip(&plan.kept) {
+        *byte = kept.into();
+    }
+    Ok(plan)
+}
+
+/// The same with lent working bytes, at least four a link and all zero after.
+pub fn fill_plan_and_work(
+    given: Slices,
+    method: Method,
+    bytes: &mut [u8],
+    work: &mut [u8],
+) -> Result<Plan, u8> {
+    if work.len() < 4 * given.links as usize {
+        return Err(8);
+    }
+    let plan = fill_plan(given, method, bytes)?;
+    work.fill(0);
+    Ok(plan)
+}
+
+/// The plan program's whole output for an input.
+pub fn plan_output(text: &[u8]) -> Vec<u8> {
+    match table_of_text(text, Behind::Nothing) {
+        Ok(table) => plan(&table).text(&table),
+        Err(refusal) => format!("e{refusal:03}\n").into_bytes(),
+    }
+}
+
+/// Fills `out` from its start with the plan program's output and answers the length.
+pub fn plan_text(text: &[u8], out: &mut [u8]) -> Result<usize, u8> {
+    put_text(&plan_output(text), out)
 }

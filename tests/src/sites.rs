@@ -1,7 +1,7 @@
 //! Sites to compare: 01's marked ones, random legal ones, and damaged ones.
 
 use crate::random::Random;
-use crate::reference::{Link, Slices, Table, MOST_LINKS, MOST_PROBES};
+use crate::reference::{table_of_text, Behind, Link, Slices, Table, MOST_LINKS, MOST_PROBES};
 
 /// The texts of M1 to M8, each as table 0001.
 pub const MARKED: [&str; 8] = [
@@ -16,6 +16,21 @@ pub const MARKED: [&str; 8] = [
 ];
 
 pub const M2: &str = MARKED[1];
+
+/// M1 stands in place 0.
+pub fn marked(place: usize) -> Table {
+    table_of_text(MARKED[place].as_bytes(), Behind::Nothing).expect("a marked site is legal")
+}
+
+/// Table 0001 with these links (low, high, cost) and needs.
+pub fn site(links: &[[u16; 3]], needs: &[u16]) -> Table {
+    let link = |&[low, high, cost]: &[u16; 3]| Link { low, high, cost };
+    Table {
+        number: 1,
+        needs: needs.to_vec(),
+        links: links.iter().map(link).collect(),
+    }
+}
 
 /// A random legal table; most are small, some as large as may be.
 pub fn legal(random: &mut Random) -> Table {
@@ -42,15 +57,77 @@ pub fn legal_of_size(probes: usize, links: usize, random: &mut Random) -> Table 
         links: pairs(probes, links, random),
     };
     let (first, range) = random.pick(&[(0, 1), (7, 1), (0, 3), (65_534, 2), (0, 65_536)]);
-    for link in &mut table.links {
-        link.cost = (first + random.below(range)) as u16;
-    }
-    for probe in 0..probes {
-        let degree = table.degree(probe);
+    set_costs(&mut table, || (first + random.below(range)) as u16);
+    set_needs(&mut table, |_, degree| {
         let need = random.below(degree + 1);
-        table.needs[probe] = random.pick(&[0, 1.min(degree), degree, need]) as u16;
-    }
+        random.pick(&[0, 1.min(degree), degree, need])
+    });
     table
+}
+
+pub fn set_costs(table: &mut Table, mut cost: impl FnMut() -> u16) {
+    for link in &mut table.links {
+        link.cost = cost();
+    }
+}
+
+/// Sets each need from the probe's number and its number of links.
+pub fn set_needs(table: &mut Table, mut need: impl FnMut(usize, usize) -> usize) {
+    for (probe, degree) in table.degrees().into_iter().enumerate() {
+        table.needs[probe] = need(probe, degree) as u16;
+    }
+}
+
+/// At most four different costs, so that many are equal.
+fn set_few_costs(table: &mut Table, random: &mut Random) {
+    let near = [0, 1, 2, 255, 256, 32_767, 32_768, 65_534, 65_535];
+    let costs = [0; 4].map(|_| random.pick(&near));
+    let different = 1 + random.below(4);
+    set_costs(table, || random.pick(&costs[..different]));
+}
+
+/// A random legal table of more than eight probes, with many equal costs.
+pub fn crowded(random: &mut Random) -> Table {
+    let probes = match random.below(64) {
+        0 => MOST_PROBES,
+        _ => 9 + random.below(40),
+    };
+    let most = MOST_LINKS.min(probes * (probes - 1) / 2);
+    let links = random.below(most + 1);
+    let mut table = legal_of_size(probes, links, random);
+    set_few_costs(&mut table, random);
+    table
+}
+
+/// The same with links only between probes of near numbers and with little spare, so that
+/// displaced offers go far.
+pub fn banded(random: &mut Random) -> Table {
+    let probes = 9 + random.below(MOST_PROBES - 8) as u16;
+    let width = 1 + random.below(4) as u16;
+    let near = |low: u16| (low + 1..probes.min(low + 1 + width)).map(move |high| [low, high, 0]);
+    let mut links: Vec<[u16; 3]> = (0..probes).flat_map(near).collect();
+    links.retain(|_| !random.one_in(16));
+    let mut table = site(&links, &vec![0; probes.into()]);
+    set_few_costs(&mut table, random);
+    set_needs(&mut table, |_, degree| {
+        let spare = random.pick(&[0, 1, 1, 1, 1, 1, 2]);
+        degree.saturating_sub(spare)
+    });
+    table
+}
+
+/// The links' places ordered by what `by` makes of the cost; at equal cost lower numbers go first.
+pub fn lower_first<Key: Ord>(links: &[Link], by: impl Fn(u16) -> Key) -> Vec<usize> {
+    let mut places: Vec<usize> = (0..links.len()).collect();
+    places.sort_by_key(|&place| by(links[place].cost));
+    places
+}
+
+/// So many hubs, each joined to all other probes; costs and needs are 0.
+pub fn hubs(probes: u16, hubs: u16) -> Table {
+    let of_hub = |low| (low + 1..probes).map(move |high| [low, high, 0]);
+    let links: Vec<[u16; 3]> = (0..hubs).flat_map(of_hub).collect();
+    site(&links, &vec![0; probes.into()])
 }
 
 /// So many of all pairs of probes, in rising order, at cost 0.
@@ -68,12 +145,48 @@ fn pairs(probes: usize, links: usize, random: &mut Random) -> Vec<Link> {
     chosen
 }
 
+/// Counts up, digit by digit; false once all are back at 0.
+fn count_up(digits: &mut [u16], bases: &[u16]) -> bool {
+    for (digit, &base) in digits.iter_mut().zip(bases) {
+        *digit = (*digit + 1) % base;
+        if *digit > 0 {
+            return true;
+        }
+    }
+    false
+}
+
+/// Every legal table of so many probes whose costs are below the limit.
+pub fn every_table(probes: usize, limit: u16, mut act: impl FnMut(&Table)) {
+    let pairs = pairs(probes, probes * (probes - 1) / 2, &mut Random::new(0));
+    let bases = vec![limit + 1; pairs.len()];
+    // For each pair its cost, or the limit where it is no link.
+    let mut costs = vec![0; pairs.len()];
+    loop {
+        let chosen = pairs.iter().zip(&costs).filter(|(_, &cost)| cost < limit);
+        let mut table = Table {
+            number: 1,
+            needs: vec![0; probes],
+            links: chosen.map(|(&pair, &cost)| Link { cost, ..pair }).collect(),
+        };
+        let degrees = table.degrees().into_iter();
+        let needs: Vec<u16> = degrees.map(|degree| degree as u16 + 1).collect();
+        act(&table);
+        while count_up(&mut table.needs, &needs) {
+            act(&table);
+        }
+        if !count_up(&mut costs, &bases) {
+            return;
+        }
+    }
+}
+
 /// Damages the table in a way that 4, 5 or 7 may refuse.
 pub fn damage_table(table: &mut Table, random: &mut Random) {
     let probe = random.below(table.needs.len());
     let links = table.links.len();
     if links == 0 || random.one_in(4) {
-        table.needs[probe] = (table.degree(probe) + 1 + random.below(2)) as u16;
+        table.needs[probe] = (table.degrees()[probe] + 1 + random.below(2)) as u16;
         return;
     }
     let place = random.below(links);

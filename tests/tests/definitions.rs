@@ -1,12 +1,8 @@
 //! The second implementation's own definitions, against 01's words.
 
 use planner_tests::random::Random;
-use planner_tests::reference::{dearer, table_of_text, Behind, Link, Table};
-use planner_tests::sites::{legal, MARKED};
-
-fn marked(place: usize) -> Table {
-    table_of_text(MARKED[place].as_bytes(), Behind::Nothing).expect("a marked site is legal")
-}
+use planner_tests::reference::{dearer, falling, plan, Link};
+use planner_tests::sites::{crowded, legal, marked};
 
 #[test]
 fn dearer_by_cost_then_low_then_high() {
@@ -41,11 +37,6 @@ fn of_two_links_exactly_one_is_dearer() {
 
 #[test]
 fn degrees_and_spares_of_marked_sites() {
-    let spares = |table: &Table| {
-        (0..table.needs.len())
-            .map(|probe| table.spare(probe))
-            .collect()
-    };
     let expected: [Vec<i64>; 8] = [
         vec![1, 1, 1, 1],
         vec![1, 1, 1, 1],
@@ -57,13 +48,9 @@ fn degrees_and_spares_of_marked_sites() {
         vec![1, 1, 1, 1],
     ];
     for (place, expected) in expected.iter().enumerate() {
-        let found: Vec<i64> = spares(&marked(place));
-        assert_eq!(&found, expected);
+        assert_eq!(&marked(place).spares(), expected);
     }
-    assert_eq!(
-        [0, 1, 2, 3].map(|probe| marked(0).degree(probe)),
-        [1, 2, 2, 1]
-    );
+    assert_eq!(marked(0).degrees(), [1, 2, 2, 1]);
 }
 
 #[test]
@@ -71,10 +58,39 @@ fn degrees_count_each_link_twice() {
     let mut random = Random::new(16);
     for _ in 0..500 {
         let table = legal(&mut random);
-        let degrees: usize = (0..table.needs.len())
-            .map(|probe| table.degree(probe))
-            .sum();
-        assert_eq!(degrees, 2 * table.links.len());
-        assert!((0..table.needs.len()).all(|probe| table.spare(probe) >= 0));
+        assert_eq!(table.degrees().iter().sum::<usize>(), 2 * table.links.len());
+        assert!(table.spares().iter().all(|&spare| spare >= 0));
+    }
+}
+
+#[test]
+fn falling_goes_from_each_link_to_a_cheaper_one() {
+    let mut random = Random::new(17);
+    for _ in 0..500 {
+        let links = legal(&mut random).links;
+        let order = falling(&links);
+        assert_eq!(order.len(), links.len());
+        let falls = |pair: &[usize]| dearer(links[pair[0]], links[pair[1]]);
+        assert!(order.windows(2).all(falls));
+    }
+}
+
+/// A link is rested exactly when each end has fewer dearer links rested than it has spare.
+#[test]
+fn each_link_is_rested_by_the_rule() {
+    let mut random = Random::new(18);
+    for _ in 0..300 {
+        let table = crowded(&mut random);
+        let (kept, spares) = (plan(&table).kept, table.spares());
+        for (place, &link) in table.links.iter().enumerate() {
+            let has_spare_left = |&end: &usize| {
+                let rested_before = |&(other, dear): &(usize, &Link)| {
+                    dearer(*dear, link) && !kept[other] && dear.ends().contains(&end)
+                };
+                let links = table.links.iter().enumerate();
+                spares[end] > links.filter(rested_before).count() as i64
+            };
+            assert_eq!(!kept[place], link.ends().iter().all(has_spare_left));
+        }
     }
 }

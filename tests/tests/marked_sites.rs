@@ -1,31 +1,33 @@
-//! The marked sites M1 to M8 of 01: read, and written back the same.
+//! The marked sites M1 to M8 of 01: read, written back the same, and planned.
 
 use planner_tests::compare;
 use planner_tests::face;
 use planner_tests::random::Random;
-use planner_tests::reference::{Behind, Lent, Link, Table};
-use planner_tests::sites::{Numbers, MARKED};
+use planner_tests::reference::{Behind, Lent, Table};
+use planner_tests::sites::{self, Numbers, MARKED};
 
-/// Links as low, high and cost, and needs, as 01's table of sites has them.
-const SITES: [(&[[u16; 3]], &[u16]); 8] = [
-    (&[[0, 1, 5], [1, 2, 5], [2, 3, 5]], &[0, 1, 1, 0]),
-    (&[[0, 1, 5], [1, 2, 6], [2, 3, 5]], &[0, 1, 1, 0]),
-    (&[], &[0]),
-    (&[[0, 1, 7]], &[0, 0]),
-    (&[[0, 1, 7]], &[1, 0]),
-    (&[[0, 1, 1], [0, 2, 2], [1, 2, 3]], &[1, 1, 1]),
-    (&[[0, 1, 4], [0, 2, 4], [1, 2, 4]], &[1, 1, 1]),
-    (&[[0, 1, 0], [1, 2, 0], [2, 3, 0]], &[0, 1, 1, 0]),
+/// A row of 01's table of sites: links (low, high, cost), needs, places of kept links, cost.
+type Row = (&'static [[u16; 3]], &'static [u16], &'static [usize], u64);
+
+const ROWS: [Row; 8] = [
+    (&[[0, 1, 5], [1, 2, 5], [2, 3, 5]], &[0, 1, 1, 0], &[1], 5),
+    (
+        &[[0, 1, 5], [1, 2, 6], [2, 3, 5]],
+        &[0, 1, 1, 0],
+        &[0, 2],
+        10,
+    ),
+    (&[], &[0], &[], 0),
+    (&[[0, 1, 7]], &[0, 0], &[], 0),
+    (&[[0, 1, 7]], &[1, 0], &[0], 7),
+    (&[[0, 1, 1], [0, 2, 2], [1, 2, 3]], &[1, 1, 1], &[0, 1], 3),
+    (&[[0, 1, 4], [0, 2, 4], [1, 2, 4]], &[1, 1, 1], &[0, 1], 8),
+    (&[[0, 1, 0], [1, 2, 0], [2, 3, 0]], &[0, 1, 1, 0], &[1], 0),
 ];
 
 fn site(place: usize) -> Table {
-    let (links, needs) = SITES[place];
-    let link = |&[low, high, cost]: &[u16; 3]| Link { low, high, cost };
-    Table {
-        number: 1,
-        needs: needs.to_vec(),
-        links: links.iter().map(link).collect(),
-    }
+    let (links, needs, ..) = ROWS[place];
+    sites::site(links, needs)
 }
 
 #[test]
@@ -56,6 +58,43 @@ fn marked_sites_are_written_back_the_same() {
         let short = compare::write(numbers.slices(), text.len() - 1, &mut random);
         assert_eq!(short, Err(8));
     }
+}
+
+#[test]
+fn marked_sites_are_planned() {
+    let mut random = Random::new(24);
+    for (place, (links, _, kept, cost)) in ROWS.into_iter().enumerate() {
+        let plan = compare::plan_table(&site(place), &mut random);
+        let kept_of = |link: usize| kept.contains(&link);
+        let expected: Vec<bool> = (0..links.len()).map(kept_of).collect();
+        assert_eq!(
+            (plan.kept, plan.count, plan.cost),
+            (expected, kept.len(), cost)
+        );
+    }
+}
+
+#[test]
+fn plan_of_m2_as_bytes() {
+    let numbers = Numbers::of(&site(1));
+    let answer = 0x0001_0002_0000_000a;
+    let (mut plan, mut work) = ([9; 4], [9; 14]);
+    let by_slse = face::plan_slse(numbers.slices(), &mut plan);
+    assert_eq!((by_slse, plan), (answer, [1, 0, 1, 9]));
+    plan = [8; 4];
+    let by_turns = face::plan_turns(numbers.slices(), &mut plan, &mut work);
+    assert_eq!((by_turns, plan), (answer, [1, 0, 1, 8]));
+    assert_eq!(work, [0; 14]);
+}
+
+#[test]
+fn output_of_m2() {
+    let output = b"000100020000000a\n000000010005\n000200030005\nffff\n";
+    let mut out = [9; 50];
+    let answer = face::plan_text(MARKED[1].as_bytes(), &mut out);
+    assert_eq!(answer, 0x0001_0000_0000_0030);
+    assert_eq!(out[..48], output[..]);
+    assert_eq!(out[48..], [9; 2]);
 }
 
 #[test]

@@ -1,12 +1,12 @@
-//! The named bad tables in slices, each with its refusal, for checking and for writing.
+//! The named bad tables in slices, each with its refusal, for checking, writing and planning.
 
 use planner_tests::compare;
 use planner_tests::random::Random;
-use planner_tests::reference::{table_of_text, text_length, Behind};
-use planner_tests::sites::{Numbers, M2};
+use planner_tests::reference::{text_length, Plan};
+use planner_tests::sites::{marked, Numbers, M2};
 
 fn m2() -> Numbers {
-    Numbers::of(&table_of_text(M2.as_bytes(), Behind::Nothing).expect("M2 is legal"))
+    Numbers::of(&marked(1))
 }
 
 /// M2 after a change.
@@ -20,6 +20,22 @@ fn written(numbers: &Numbers, length: usize) -> Result<Vec<u8>, u8> {
     compare::write(numbers.slices(), length, &mut Random::new(3))
 }
 
+/// By both methods, with so many bytes more than are needed.
+fn planned(numbers: &Numbers, longer: usize) -> Result<Plan, u8> {
+    compare::plan(numbers.slices(), longer, &mut Random::new(3))
+}
+
+/// A plan or working bytes one byte too short come among the first, 8.
+#[track_caller]
+fn refused_for_short_bytes(numbers: &Numbers) {
+    let (given, random) = (numbers.slices(), &mut Random::new(3));
+    let (plan, work) = (numbers.links as usize, 4 * numbers.links as usize);
+    assert_eq!(compare::plan_slse(given, plan - 1, random), Err(8));
+    for lengths in [[plan - 1, work], [plan, work - 1], [plan + 9, work - 1]] {
+        assert_eq!(compare::plan_turns(given, lengths, random), Err(8));
+    }
+}
+
 fn right_length(numbers: &Numbers) -> usize {
     text_length(numbers.probes.into(), numbers.links.into())
 }
@@ -31,6 +47,9 @@ fn refused(numbers: Numbers, refusal: u8) {
     assert_eq!(written(&numbers, length), Err(refusal));
     assert_eq!(written(&numbers, length + 9), Err(refusal));
     assert_eq!(written(&numbers, length - 1), Err(8));
+    assert_eq!(planned(&numbers, 0), Err(refusal));
+    assert_eq!(planned(&numbers, 9), Err(refusal));
+    refused_for_short_bytes(&numbers);
 }
 
 #[track_caller]
@@ -44,6 +63,10 @@ fn accepted(numbers: Numbers) {
     for short in [0, 1, 12, 13, length - 6, length - 5, length - 1] {
         assert_eq!(written(&numbers, short), Err(8));
     }
+    for longer in [0, 1, 100] {
+        assert!(planned(&numbers, longer).is_ok());
+    }
+    refused_for_short_bytes(&numbers);
 }
 
 fn set_link(numbers: &mut Numbers, place: usize, low: u16, high: u16) {
@@ -90,7 +113,8 @@ fn counts_out_of_range() {
             3,
         );
     }
-    for links in [2049, 4096, 65_535] {
+    // Four times the links, the working bytes, may pass 16 bits.
+    for links in [2049, 4096, 16_384, 65_535] {
         refused(
             m2_with(|m2| {
                 long(m2);
@@ -230,6 +254,8 @@ fn every_small_table() {
         let length = right_length(&numbers);
         let text = compare::write(numbers.slices(), length, &mut random);
         assert_eq!(text.as_ref().err(), checked.as_ref().err());
+        let plan = compare::plan(numbers.slices(), 0, &mut random);
+        assert_eq!(plan.err(), checked.err());
         accepted += text.is_ok() as usize;
     }
     assert!(accepted > 100);

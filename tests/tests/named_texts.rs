@@ -1,4 +1,4 @@
-//! The named bad texts, each with its refusal.
+//! The named bad texts, each with its refusal, for reading and for the plan's text.
 
 use planner_tests::compare;
 use planner_tests::random::Random;
@@ -15,6 +15,16 @@ fn m2() -> Table {
     read(M2.as_bytes(), Behind::Nothing, FIT).expect("M2 is legal")
 }
 
+/// The plan's text is the refusal.
+#[track_caller]
+fn refusal_printed(text: &[u8], refusal: u8) {
+    let printed = |length| compare::plan_text(text, length, &mut Random::new(2));
+    let output = format!("e{refusal:03}\n").into_bytes();
+    assert_eq!(printed(4), Err(8));
+    assert_eq!(printed(5).as_ref(), Ok(&output));
+    assert_eq!(printed(30), Ok(output));
+}
+
 /// Both readings refuse the text, whether or not the slices are long enough.
 #[track_caller]
 fn refused(text: impl AsRef<[u8]>, refusal: u8) {
@@ -23,6 +33,7 @@ fn refused(text: impl AsRef<[u8]>, refusal: u8) {
             assert_eq!(read(text.as_ref(), behind, lengths), Err(refusal));
         }
     }
+    refusal_printed(text.as_ref(), refusal);
 }
 
 /// M2's text with some of its lines, line feed included, replaced. Lines: 0 is the header, 1 to 4
@@ -177,6 +188,7 @@ fn closing_line_followed_by_bytes() {
         let text = [M2, rest].concat();
         assert_eq!(read(text.as_bytes(), Behind::Nothing, FIT), Err(6));
         assert_eq!(read(text.as_bytes(), Behind::Anything, FIT), Ok(m2()));
+        refusal_printed(text.as_bytes(), 6);
     }
 }
 
@@ -193,6 +205,7 @@ fn long_texts() {
         let text = [M2, &rest].concat();
         assert_eq!(read(text.as_bytes(), Behind::Nothing, FIT), Err(6));
         assert_eq!(read(text.as_bytes(), Behind::Anything, FIT), Ok(m2()));
+        refusal_printed(text.as_bytes(), 6);
     }
 }
 
@@ -302,6 +315,7 @@ fn every_byte_put_in_at_every_place() {
             let behind_links = place > 71 || (place == 71 && byte == b'\n');
             let refusal = if behind_links { 6 } else { 1 };
             assert_eq!(read(&text, Behind::Nothing, FIT), Err(refusal));
+            refusal_printed(&text, refusal);
             let closed = place == 77 || (place == 76 && byte == b'\n');
             let expected = if closed { Ok(m2()) } else { Err(refusal) };
             assert_eq!(read(&text, Behind::Anything, FIT), expected);

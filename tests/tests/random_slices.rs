@@ -1,4 +1,4 @@
-//! Random and damaged tables in slices, checked and written by both.
+//! Random and damaged tables in slices, checked, planned and written by both.
 
 use planner_tests::compare;
 use planner_tests::random::Random;
@@ -14,9 +14,22 @@ fn out_length(numbers: &Numbers, random: &mut Random) -> usize {
     random.pick(&[right, right, right, right - 1, right + longer, shorter])
 }
 
-/// Checks and writes; a written text is read back as the same table.
-fn check_and_write(numbers: &Numbers, random: &mut Random) -> (Result<(), u8>, bool) {
+/// Plans with a plan and working bytes that fit, are one too short, or are longer.
+fn plan(numbers: &Numbers, random: &mut Random) {
+    let lengths = [1, 4].map(|bytes| {
+        let right = bytes * numbers.links as usize;
+        let longer = right + random.below(40);
+        random.pick(&[right, right, right.saturating_sub(1), longer])
+    });
+    let by_turns = compare::plan_turns(numbers.slices(), lengths, random);
+    let by_slse = compare::plan_slse(numbers.slices(), lengths[0], random);
+    assert!(by_turns == by_slse || by_turns == Err(8));
+}
+
+/// Checks, plans and writes; a written text is read back as the same table.
+fn check_plan_and_write(numbers: &Numbers, random: &mut Random) -> (Result<(), u8>, bool) {
     let checked = compare::check(numbers.slices());
+    plan(numbers, random);
     let length = out_length(numbers, random);
     let written = compare::write(numbers.slices(), length, random);
     if let Ok(text) = &written {
@@ -43,7 +56,7 @@ fn legal_tables() {
         let mut numbers = Numbers::of(&table);
         let lengths = sites::lengths(probes, links, &mut random);
         numbers.lend(lengths, &mut random);
-        let (checked, written) = check_and_write(&numbers, &mut random);
+        let (checked, written) = check_plan_and_write(&numbers, &mut random);
         assert!(matches!(checked, Ok(()) | Err(8)));
         assert!(checked.is_ok() || !written);
         fine += checked.is_ok() as usize;
@@ -70,7 +83,7 @@ fn damaged_tables() {
         let (probes, links) = random.pick(&[true_counts, told_counts]);
         let lengths = sites::lengths(probes, links, &mut random);
         numbers.lend(lengths, &mut random);
-        let (checked, _) = check_and_write(&numbers, &mut random);
+        let (checked, _) = check_plan_and_write(&numbers, &mut random);
         tally[checked.err().unwrap_or(0) as usize] += 1;
     }
     assert!(

@@ -1,8 +1,9 @@
-//! Random and damaged texts, read both ways by the library and by the second implementation.
+//! Random and damaged texts, read both ways and planned by the library and by the second
+//! implementation.
 
 use planner_tests::compare;
 use planner_tests::random::Random;
-use planner_tests::reference::{Behind, Table};
+use planner_tests::reference::{plan_output, Behind, Table};
 use planner_tests::sites::{self, Numbers};
 
 const CASES: u64 = 12_000;
@@ -10,8 +11,17 @@ const CASES: u64 = 12_000;
 /// How often each refusal came; 0 stands for accepted.
 type Tally = [usize; 9];
 
-/// Reads the text both ways and writes what was read back.
-fn read_both_ways(text: &[u8], lengths: [usize; 4], random: &mut Random, tally: &mut Tally) {
+/// Prints the plan into a slice that fits, is one too short, or is longer.
+fn print(text: &[u8], random: &mut Random) {
+    let (right, longer) = (plan_output(text).len(), random.below(40));
+    let length = random.pick(&[right, right, right - 1, right + longer]);
+    let printed = compare::plan_text(text, length, random);
+    assert_eq!(printed.is_ok(), length >= right);
+}
+
+/// Prints the text's plan, reads the text both ways and writes what was read back.
+fn print_and_read(text: &[u8], lengths: [usize; 4], random: &mut Random, tally: &mut Tally) {
+    print(text, random);
     for behind in [Behind::Nothing, Behind::Anything] {
         let read = compare::read(text, behind, lengths, random);
         tally[read.as_ref().err().copied().unwrap_or(0) as usize] += 1;
@@ -38,7 +48,7 @@ fn legal_texts() {
         let mut random = Random::new(seed);
         let table = sites::legal(&mut random);
         let lengths = lengths(&table, &mut random);
-        read_both_ways(&table.text(), lengths, &mut random, &mut tally);
+        print_and_read(&table.text(), lengths, &mut random, &mut tally);
     }
     assert_eq!(tally[1..8], [0; 7]);
     assert!(tally[0] > 10_000 && tally[8] > 1_000, "{tally:?}");
@@ -54,7 +64,7 @@ fn texts_of_damaged_tables() {
             sites::damage_table(&mut table, &mut random);
         }
         let lengths = lengths(&table, &mut random);
-        read_both_ways(&table.text(), lengths, &mut random, &mut tally);
+        print_and_read(&table.text(), lengths, &mut random, &mut tally);
     }
     assert!(
         [4, 5, 7].iter().all(|&refusal| tally[refusal] > 1_000),
@@ -76,7 +86,7 @@ fn damaged_texts() {
             sites::damage_text(&mut text, &mut random);
         }
         let lengths = lengths(&table, &mut random);
-        read_both_ways(&text, lengths, &mut random, &mut tally);
+        print_and_read(&text, lengths, &mut random, &mut tally);
     }
     assert!(tally.iter().all(|&times| times > 100), "{tally:?}");
 }
@@ -92,7 +102,7 @@ fn texts_of_any_bytes() {
         for _ in 0..random.below(60) {
             text.push(random.pick(alphabet));
         }
-        read_both_ways(&text, [2, 1, 1, 1], &mut random, &mut tally);
+        print_and_read(&text, [2, 1, 1, 1], &mut random, &mut tally);
     }
     assert!(tally[1] > 1_000, "{tally:?}");
 }

@@ -8,8 +8,8 @@ use planner_tests::sites::{legal_of_size, Numbers};
 const LENT: [usize; 4] = [300, 2100, 2100, 2100];
 const BOTH: [Behind; 2] = [Behind::Nothing, Behind::Anything];
 
-/// The legal table is read from its text and written back the same, into slices that just fit
-/// and into longer ones.
+/// The legal table is read from its text, planned and written back the same, with slices that
+/// just fit and with longer ones.
 #[track_caller]
 fn round_trip(table: &Table, random: &mut Random) {
     let text = table.text();
@@ -31,7 +31,9 @@ fn round_trip(table: &Table, random: &mut Random) {
         }
         let short = compare::write(numbers.slices(), text.len() - 1, random);
         assert_eq!(short, Err(8));
+        assert!(compare::plan(numbers.slices(), 7, random).is_ok());
     }
+    compare::plan_table(table, random);
 }
 
 #[track_caller]
@@ -46,6 +48,9 @@ fn refused_by_3(table: &Table, random: &mut Random) {
     assert_eq!(compare::check(numbers.slices()), Err(3));
     let written = compare::write(numbers.slices(), text.len(), random);
     assert_eq!(written, Err(3));
+    assert_eq!(compare::plan(numbers.slices(), 0, random), Err(3));
+    let printed = compare::plan_text(&text, 5, random);
+    assert_eq!(printed, Ok(b"e003\n".to_vec()));
 }
 
 #[test]
@@ -123,7 +128,11 @@ fn need_equal_to_the_links_and_one_above() {
         let read = compare::read(&above.text(), behind, LENT, &mut random);
         assert_eq!(read, Err(7));
     }
-    assert_eq!(compare::check(Numbers::of(&above).slices()), Err(7));
+    let numbers = Numbers::of(&above);
+    assert_eq!(compare::check(numbers.slices()), Err(7));
+    assert_eq!(compare::plan(numbers.slices(), 0, &mut random), Err(7));
+    let printed = compare::plan_text(&above.text(), 5, &mut random);
+    assert_eq!(printed, Ok(b"e007\n".to_vec()));
 }
 
 #[test]
@@ -139,5 +148,7 @@ fn highest_counts_a_header_can_hold() {
         assert_eq!(written, Err(refusal));
         let short = compare::write(numbers.slices(), length - 1, &mut random);
         assert_eq!(short, Err(8));
+        let plan = compare::plan(numbers.slices(), 0, &mut random);
+        assert_eq!(plan, Err(refusal));
     }
 }

@@ -1,0 +1,153 @@
+//! Times the library's two methods against the Rust ones, built for release in the same run:
+//! `cargo run --release --offline --example bench`. Says nothing about what is fast enough.
+
+use planner_tests::face;
+use planner_tests::methods;
+use planner_tests::random::Random;
+use planner_tests::reference::{fill_plan, fill_plan_and_work, Slices, Table};
+use planner_tests::sites::{hubs, legal_of_size, set_costs, set_needs, Numbers};
+use std::hint::black_box;
+use std::time::Instant;
+
+const RUNS: usize = 401;
+const CALLS_A_RUN: u32 = 4;
+
+#[derive(Clone, Copy)]
+enum Method {
+    Slse,
+    Turns,
+}
+
+const METHODS: [(Method, &str); 2] = [(Method::Slse, "S-LSE"), (Method::Turns, "by turns")];
+
+fn by_library(method: Method, given: Slices, plan: &mut [u8], work: &mut [u8]) -> u64 {
+    match method {
+        Method::Slse => face::plan_slse(given, plan),
+        Method::Turns => face::plan_turns(given, plan, work),
+    }
+}
+
+fn by_rust(method: Method, given: Slices, plan: &mut [u8], work: &mut [u8]) -> u64 {
+    face::plan_answer(&match method {
+        Method::Slse => fill_plan(given, methods::slse, plan),
+        Method::Turns => fill_plan_and_work(given, methods::turns, plan, work),
+    })
+}
+
+/// Microseconds a call in each run, or ratios, in rising order.
+struct Sorted(Vec<f64>);
+
+impl Sorted {
+    fn of(numbers: impl Iterator<Item = f64>) -> Sorted {
+        let mut sorted: Vec<f64> = numbers.collect();
+        sorted.sort_by(f64::total_cmp);
+        Sorted(sorted)
+    }
+
+    fn quarter(&self, quarter: usize) -> f64 {
+        self.0[(self.0.len() - 1) * quarter / 4]
+    }
+}
+
+struct Times {
+    library: Sorted,
+    rust: Sorted,
+    ratio: Sorted,
+}
+
+impl Times {
+    fn medians(&self) -> [f64; 2] {
+        [self.library.quarter(2), self.rust.quarter(2)]
+    }
+}
+
+/// The two take turns in going first; a run's ratio is that of its own two times.
+fn measure(method: Method, table: &Table) -> Times {
+    let numbers = Numbers::of(table);
+    let links = table.links.len();
+    // Written beforehand, so that no page is touched for the first time in a run.
+    let (mut plan, mut work) = (vec![9; links], vec![9; 4 * links]);
+    let mut call = |which: usize| {
+        let given = black_box(numbers.slices());
+        let answer = [by_library, by_rust][which](method, given, &mut plan, &mut work);
+        black_box(answer)
+    };
+    assert_eq!(call(0), call(1), "the answers differ");
+    let mut runs = vec![[0.0; 2]; RUNS];
+    for (run, times) in runs.iter_mut().enumerate() {
+        for which in [run % 2, 1 - run % 2] {
+            let start = Instant::now();
+            for _ in 0..CALLS_A_RUN {
+                call(which);
+            }
+            times[which] = start.elapsed().as_secs_f64() * 1e6 / CALLS_A_RUN as f64;
+        }
+    }
+    Times {
+        library: Sorted::of(runs.iter().map(|times| times[0])),
+        rust: Sorted::of(runs.iter().map(|times| times[1])),
+        ratio: Sorted::of(runs.iter().map(|times| times[0] / times[1])),
+    }
+}
+
+/// Each probe needs half of its links.
+fn with_costs(mut table: Table, range: usize, random: &mut Random) -> Table {
+    set_costs(&mut table, || random.below(range) as u16);
+    set_needs(&mut table, |_, degree| degree / 2);
+    table
+}
+
+/// The median of the ratios, and their quartiles.
+fn spread(ratio: &Sorted) -> String {
+    let [low, median, high] = [1, 2, 3].map(|quarter| ratio.quarter(quarter));
+    format!("{median:>5.2}  ({low:.2} to {high:.2})")
+}
+
+fn print_ratios(random: &mut Random) {
+    let any = legal_of_size(256, 2048, random);
+    let sites = [
+        ("random costs", with_costs(any.clone(), 65_536, random)),
+        ("equal costs", with_costs(any, 1, random)),
+        ("8 hubs", with_costs(hubs(256, 8), 65_536, random)),
+    ];
+    println!("site          links  method    library us   rust us  ratio  (quartiles)");
+    for (site, table) in &sites {
+        for (method, name) in METHODS {
+            let times = measure(method, table);
+            let [library, rust] = times.medians();
+            println!(
+                "{site:<12}  {:>5}  {name:<8}  {library:>10.1}  {rust:>8.1}  {}",
+                table.links.len(),
+                spread(&times.ratio),
+            );
+        }
+    }
+}
+
+fn print_growth(random: &mut Random) {
+    println!("links  method    library us  growth   rust us  growth  ratio  (quartiles)");
+    for (method, name) in METHODS {
+        let mut last = None;
+        for links in [128, 256, 512, 1024, 2048] {
+            let table = with_costs(legal_of_size(256, links, random), 65_536, random);
+            let times = measure(method, &table);
+            let [library, rust] = times.medians();
+            let [of_library, of_rust] = last.replace([library, rust]).unwrap_or([library, rust]);
+            println!(
+                "{links:>5}  {name:<8}  {library:>10.1}  {:>6.2}  {rust:>8.1}  {:>6.2}  {}",
+                library / of_library,
+                rust / of_rust,
+                spread(&times.ratio),
+            );
+        }
+    }
+}
+
+fn main() {
+    let mut random = Random::new(34);
+    println!("256 probes, each needing half of its links; medians of {RUNS} runs.");
+    println!("Library against Rust:");
+    print_ratios(&mut random);
+    println!("Growth with the links, at random costs:");
+    print_growth(&mut random);
+}

@@ -1,0 +1,67 @@
+//! The plan's text for the longest texts and longer ones, in slices that just fit and shorter.
+
+use planner_tests::compare;
+use planner_tests::random::Random;
+use planner_tests::reference::Table;
+use planner_tests::sites::{crowded, legal_of_size, marked, set_needs};
+
+/// The longest table, with every link kept.
+fn longest(random: &mut Random) -> Table {
+    let mut table = legal_of_size(256, 2048, random);
+    set_needs(&mut table, |_, degree| degree);
+    table
+}
+
+/// A slice that just fits the output is filled, a shorter one is refused.
+#[track_caller]
+fn fits(table: &Table, random: &mut Random) -> usize {
+    let text = table.text();
+    let output = compare::plan_table(table, random).text(table);
+    let right = output.len();
+    for length in [right, right + 1, right + 5_000] {
+        let printed = compare::plan_text(&text, length, random);
+        assert_eq!(printed.as_ref(), Ok(&output));
+    }
+    for short in [0, 1, 5, 16, 17, right - 13, right - 6, right - 5, right - 1] {
+        let printed = compare::plan_text(&text, short.min(right - 1), random);
+        assert_eq!(printed, Err(8));
+    }
+    right
+}
+
+#[test]
+fn outputs_that_just_fit() {
+    let mut random = Random::new(25);
+    for place in 0..8 {
+        fits(&marked(place), &mut random);
+    }
+    for _ in 0..500 {
+        fits(&crowded(&mut random), &mut random);
+    }
+    assert_eq!(fits(&longest(&mut random), &mut random), 26_646);
+}
+
+#[test]
+fn texts_longer_than_the_longest_table() {
+    let mut random = Random::new(26);
+    let text = longest(&mut random).text();
+    let (need, link) = (13, 13 + 5 * 256 + 13 * 1_000);
+    let faults: [(usize, &[u8], u8); 7] = [
+        (0, b"0001", 6),
+        (0, b"000\n", 1),
+        (4, b"0101", 3),
+        (need, b"ffff", 6),
+        (need, b"fffF", 2),
+        (link, b"0100", 4),
+        (link, b"0000", 5),
+    ];
+    for (place, fault, refusal) in faults {
+        for behind in [b"\n", &b"ffff\n"[..], &[0; 70_000], &text] {
+            let mut longer = [&text[..], behind].concat();
+            longer[place..place + 4].copy_from_slice(fault);
+            let output = format!("e{refusal:03}\n").into_bytes();
+            let printed = compare::plan_text(&longer, 5, &mut random);
+            assert_eq!(printed, Ok(output));
+        }
+    }
+}
