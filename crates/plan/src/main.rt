@@ -16,7 +16,7 @@ fn skip_rest() {
     }
 }
 
-// Only the first 27,923 bytes of the input matter, and 26,646 bytes hold every output.
+// Only the first 27,923 bytes of the input matter (law `long-output`), and 26,646 bytes hold every output (law `always-printed`).
 fn main() {
     let mut text = [0u8; 27923];
     let mut out = [0u8; 26646];

@@ -11,7 +11,7 @@ use lib.Seq.{getD-drop, getD-take, length-take-le}
 use borrow.Author.Tests.{lt-ltb, eqb-true, eq-eqb, ne-eqb}
 use Rattle.range.specs.First.{orElse, first}
 use Rattle.range.proofs.Bools.{unless-none}
-use Rattle.range.proofs.Faults.{or-some, first-same}
+use Rattle.range.proofs.Faults.{or-same, or-some, first-same}
 use Rattle.hex.specs.Digits.{numberAt}
 use Rattle.lines.specs.Line.{untilFeed, lineAt}
 use Rattle.lines.specs.Digits.{lengthFault, digitFault, lineFault}
@@ -108,9 +108,6 @@ link-same : (probes probes′ : ℕ) (low low′ high high′ : ℕ → ℕ) (i 
 unfolding linkFault
 link-same probes probes′ low low′ high high′ i e lows highs =
     rw (e, lows i (omega arith), highs i (omega arith), lows (i - 1) (omega arith), highs (i - 1) (omega arith))
-
-or-same : {a b c d : ℕ} → a ≡ b → c ≡ d → orElse a c ≡ orElse b d
-or-same e f = rw (e, f)
 
 -- where more bytes follow the closing line, or stand in its place
 closing-six : (s : List ℕ) (at : ℕ) → at + 5 < length s → closingFault false s at ≡ 6

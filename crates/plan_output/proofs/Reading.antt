@@ -18,6 +18,7 @@ use Rattle.table_read.specs.Reading.{filledOf}
 use Rattle.table_read.specs.declared.Reading.{Reading}
 use Rattle.table_read.specs.declared.Reading.the-variants.{Table as Read, Refused as Unread}
 use Rattle.table_read.proofs.Good.{text-head}
+use Rattle.table_round.proofs.Functions.{answer-read}
 use Rattle.table_round.specs.Same.{Same}
 use Rattle.table_round.specs.Functions.{Slices, tableOf, readingFault, ReadTable}
 use Rattle.table_round.proofs.Tables.{same-fault}
@@ -57,12 +58,6 @@ reading-is s a g = go (ℕ-discrete (textFault 256 2048 false s) 0)
         let z = text-head 256 2048 false s e .size in
         or-none (textFault 256 2048 false s) _ e ∙ room-none (ofText s .probes) (ofText s .links) a g (z .few) (z .within) ∙ sym e
     go (no n) = or-some (textFault 256 2048 false s) _ n
-
-answer-read : (none : Bool) (fault number probes links rest : ℕ) (t : Table)
-    → Read number probes links rest ≡ cond none (Read (t .number) (t .probes) (t .links) (textEnd t)) (Unread fault)
-    → (none ≡ true) × (number ≡ t .number) × (probes ≡ t .probes) × (links ≡ t .links)
-answer-read true fault number probes links rest t e = (refl, (cc), (cc), (cc))
-answer-read false fault number probes links rest t e = let z : _≡_ {A = ℕ} 0 1 = cc in absurd (omega arith)
 
 answer-unread : (none : Bool) (fault refusal : ℕ) (t : Table) → Unread refusal ≡ cond none (Read (t .number) (t .probes) (t .links) (textEnd t)) (Unread fault)
     → (none ≡ false) × (refusal ≡ fault)

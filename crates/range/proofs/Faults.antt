@@ -13,6 +13,9 @@ pub or-some : (a b : ℕ) → (a ≡ 0 → ⊥) → orElse a b ≡ a
 or-some zero b n = absurd (n refl)
 or-some (suc a) b n = refl
 
+pub or-same : {a b c d : ℕ} → a ≡ b → c ≡ d → orElse a c ≡ orElse b d
+or-same e f = rw (e, f)
+
 -- the code's way through a chain of faults: r is found first
 pub or-here : (r a b : ℕ) → r ≡ a → (r ≡ 0 → ⊥) → r ≡ orElse a b
 or-here r a b e n = e ∙ sym (or-some a b (λ z. n (e ∙ z)))

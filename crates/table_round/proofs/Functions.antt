@@ -29,7 +29,7 @@ use Rattle.table_round.proofs.Round.{text-whole, table-whole}
 
 -- what an answer that is no refusal says
 
-answer-read : (none : Bool) (fault number probes links rest : ℕ) (t : Table)
+pub answer-read : (none : Bool) (fault number probes links rest : ℕ) (t : Table)
     → Read number probes links rest ≡ cond none (Read (t .number) (t .probes) (t .links) (textEnd t)) (Unread fault)
     → (none ≡ true) × (number ≡ t .number) × (probes ≡ t .probes) × (links ≡ t .links)
 answer-read true fault number probes links rest t e = (refl, (cc), (cc), (cc))

@@ -2,8 +2,9 @@
 use Prim.Native.Nat.{ℕ}
 use mathlib.Core.Path.{_≡_, refl}
 use mathlib.Core.List.{List, [], _∷_, _++_}
-use Rattle.range.specs.First.{orElse, first}
+use Rattle.range.specs.First.{first}
 use Rattle.range.specs.Lists.{joined}
+use Rattle.range.proofs.Faults.{or-same}
 use Rattle.range.proofs.Lists.{joined-same}
 use Rattle.table.specs.Table.{Table}
 use Rattle.table.specs.Legal.{sizeFault, linkFault, needFault, tableFault}
@@ -35,9 +36,6 @@ linkLines t = joined (λ i. lineOf (linkRow t i)) (t .links)
 pub text-is : (t : Table) → textOf t ≡ lineOf (headRow t) ++ (needLines t ++ (linkLines t ++ closingLine))
 unfolding textOf
 text-is t = refl
-
-or-same : {a b c d : ℕ} → a ≡ b → c ≡ d → orElse a c ≡ orElse b d
-or-same e f = rw (e, f)
 
 module _ (t u : Table) (e : Same t u) where
   pub same-text : textOf t ≡ textOf u

@@ -1,10 +1,7 @@
+-- `exports::planner_plan_text` meets its contract.
 use borrow.Author.Needs.{needs}
 use Rattle.exports.proofs.planner_plan_text.Statement.{statement}
 use Rattle.exports.proofs.planner_plan_text.Tie as tie
-use Rattle.exports.proofs.planner_plan_text.Reads as reads
-use Rattle.exports.proofs.planner_plan_text.Lts as lts
-use Rattle.plan_output.proofs.plan_text.Reads as plan-text-reads
-use mathlib.Core.Path.{_≡_, refl}
 use native.Mathlib.Omega.{arith}
 use Rattle.plan_output.specs.Output.{outputOf}
 use Rattle.plan_output.proofs.Most.{most, printed-within}
