@@ -27,15 +27,15 @@ pub record Settled (t : Table) (stand held : ℕ → ℕ → Bool) : Type 0 wher
   pub explained : (i u w : ℕ) → i < t .links → Across t i u w → stand u i ≡ false
       → (spare t u ≤ dearerAt t (stand u) i u) ⊎ (spare t w ≤ dearerAt t (held w) i w)
 
-near : {t : Table} {i u w : ℕ} → Across t i u w → touches t u i ≡ true
+pub near : {t : Table} {i u w : ℕ} → Across t i u w → touches t u i ≡ true
 near {t} {i} up = touches-low t i
 near {t} {i} down = touches-high t i
 
-back : {t : Table} {i u w : ℕ} → Across t i u w → Across t i w u
+pub back : {t : Table} {i u w : ℕ} → Across t i u w → Across t i w u
 back up = down
 back down = up
 
-both : {t : Table} {i u w : ℕ} (P : ℕ → Type 0) → Across t i u w → P u → P w → P (t .low i) × P (t .high i)
+pub both : {t : Table} {i u w : ℕ} (P : ℕ → Type 0) → Across t i u w → P u → P w → P (t .low i) × P (t .high i)
 both P up a b = (a, b)
 both P down a b = (b, a)
 

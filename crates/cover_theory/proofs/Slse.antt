@@ -9,8 +9,8 @@ use lib.Dec.{ltb}
 use borrow.Author.Tests.{ltb-false, lt-ltb, eqb-true, not-true}
 use Rattle.range.proofs.Bools.{and-left, and-right, and-intro, or-false-left, or-false-right, decided}
 use Rattle.range.proofs.Sums.{sum-same, sum-add, weigh-le, member}
-use Rattle.table.specs.Table.{Table, touches, degree, dearer}
-use Rattle.cover_theory.specs.Plan.{linksAt, hasMore, cheaper, isShort, added, hasMoreAdded, removed, slse, kept}
+use Rattle.table.specs.Table.{Table, touches, degree, dearer, cheaper}
+use Rattle.cover_theory.specs.Plan.{linksAt, hasMore, isShort, added, hasMoreAdded, removed, slse, kept}
 use Rattle.cover_theory.proofs.Places.{Order, opposite, Side, here, earlier, later, side, three}
 use Rattle.cover_theory.proofs.Pass.{Solves, criterion}
 use Rattle.cover_theory.proofs.Order.{Rising, dearer-order}

@@ -3,7 +3,7 @@ use Prim.Native.Nat.{ℕ, _-_, _≤_, _<_}
 use mathlib.Core.Bool.{Bool, _&&_, _||_, not}
 use lib.Dec.{ltb}
 use Rattle.range.specs.Sum.{weigh, count}
-use Rattle.table.specs.Table.{Table, touches, degree, dearer}
+use Rattle.table.specs.Table.{Table, touches, degree, dearer, cheaper}
 use Rattle.cover_theory.specs.Pass.{pass}
 
 -- how many links of the set v is an end of
@@ -29,10 +29,6 @@ keptCount t = count (t .links) (kept t)
 -- "its cost is the sum of theirs"
 abbrev pub costOf : Table → (ℕ → Bool) → ℕ
 costOf t s = weigh (t .links) s (t .cost)
-
--- '"Cheaper" is the exact reverse.'
-abbrev pub cheaper : Table → ℕ → ℕ → Bool
-cheaper t i j = dearer t j i
 
 -- with the links of s added, v is "short of its need"
 abbrev pub isShort : Table → (ℕ → Bool) → ℕ → Bool

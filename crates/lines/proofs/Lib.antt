@@ -1,2 +1,4 @@
 pub mod Feeds
 pub mod Lines
+pub mod Parts
+pub mod Numbers

@@ -17,7 +17,7 @@ use Rattle.hex.proofs.Laws.{length-digits}
 use Rattle.table.specs.Table.{Table, item}
 use Rattle.table.specs.Text.{closingLine, tripleLine}
 use Rattle.table.proofs.Lengths.{length-triple}
-use Rattle.table_write.proofs.Laws.{sets-then, sets-start}
+use Rattle.range.proofs.Sets.{sets-then, sets-start}
 use Rattle.cover_theory.specs.Plan.{kept, keptCount, costOf}
 use Rattle.slse.specs.Ordered.{planByte}
 use Rattle.plan_output.specs.Output.{headLine, keptLines, planText, Prints}

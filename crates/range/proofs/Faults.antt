@@ -66,3 +66,14 @@ pub none-first : (f : ℕ → ℕ) (n : ℕ) → ((i : ℕ) → i < n → f i �
 unfolding first
 none-first f zero h = refl
 none-first f (suc n) h = or-none (first f n) (f n) (none-first f n (λ i l. h i (omega arith))) ∙ h n (omega arith)
+
+-- two stages that are checked as one: their fault is that of the whole, or the rest's is
+pub or-through : (r a b d : ℕ) → r ≡ orElse a b → (r ≡ 0 → ⊥) → r ≡ orElse a (orElse b d)
+or-through r zero zero d e n = absurd (n e)
+or-through r zero (suc b) d e n = e
+or-through r (suc a) b d e n = e
+
+pub or-past : (r a b d : ℕ) → orElse a b ≡ 0 → r ≡ d → r ≡ orElse a (orElse b d)
+or-past r zero zero d e f = f
+or-past r zero (suc b) d e f = absurd (omega arith)
+or-past r (suc a) b d e f = absurd (omega arith)

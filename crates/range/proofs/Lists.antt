@@ -2,11 +2,12 @@
 use Prim.Native.Nat.{ℕ, zero, suc, _+_, _*_, _≤_, _<_}
 use mathlib.Core.Path.{_≡_, refl, sym, _∙_, ap}
 use mathlib.Core.List.{List, _++_}
+use native.Mathlib.Nat.{mul-le-mul-left}
 use native.Mathlib.Omega.{arith}
 use native.Mathlib.Numerals.{add-one}
 use native.Mathlib.Decide.{decLt, ℕ-discrete}
-use lib.ListN.{length, getD, set, replicate, length-set, length-append}
-use lib.Seq.{getD-set-same, getD-set-other, ext-getD}
+use lib.ListN.{length, getD, set, replicate, length-set, length-append, List·getD-append}
+use lib.Seq.{getD-set-same, getD-set-other, getD-append-add, ext-getD}
 use Rattle.range.specs.Lists.{joined, stored}
 
 pub zeros-at : (n v : ℕ) → getD {A = ℕ} (replicate n 0) v 0 ≡ 0
@@ -31,6 +32,20 @@ length-joined f w (suc n) h =
     let a = length-joined f w n h in
     let b = h n in
     length-append (joined f n) (f n) ∙ omega arith
+
+-- the entry j of the list i
+pub joined-at : (f : ℕ → List ℕ) (w n i j : ℕ) → ((k : ℕ) → length (f k) ≡ w) → i < n → j < w → getD (joined f n) (w * i + j) 0 ≡ getD (f i) j 0
+unfolding joined
+joined-at f w zero i j h l m = absurd (omega arith)
+joined-at f w (suc n) i j h l m = go (λ k. joined-at f w n i j h k m) (ℕ-discrete i n)
+  where
+    go : (i < n → getD (joined f n) (w * i + j) 0 ≡ getD (f i) j 0) → Dec (i ≡ n) → getD (joined f n ++ f n) (w * i + j) 0 ≡ getD (f i) j 0
+    go before (yes e) = rw (e, ← length-joined f w n h) (getD-append-add (joined f n) (f n) j 0)
+    go before (no d) =
+        let a = length-joined f w n h in
+        let s : suc i ≤ n = omega arith in
+        let b = mul-le-mul-left w s in
+        List·getD-append (joined f n) (f n) 0 (w * i + j) (omega arith) ∙ before (omega arith)
 
 pub stored-next : (f : ℕ → ℕ) (n : ℕ) (d : List ℕ) → stored f (n + 1) d ≡ set (stored f n d) n (f n)
 unfolding stored

@@ -6,7 +6,7 @@ use mathlib.Core.Bool.{Bool, true, false, cond, _&&_, not}
 use native.Mathlib.Omega.{arith}
 use native.Mathlib.Numerals.{add-one}
 use native.Mathlib.Decide.{decLt, ℕ-discrete}
-use native.Mathlib.Nat.{mul-le-mul-right}
+use native.Mathlib.Nat.{mul-le-mul-right, add-zero}
 use lib.Dec.{ltb, eqb}
 use borrow.Author.Tests.{lt-ltb, le-ltb, eq-eqb, ne-eqb}
 use Rattle.range.specs.Sum.{sum, weigh, count}
@@ -216,6 +216,12 @@ weigh-more n p q c i l out into same =
 pub weigh-next : (n : ℕ) (p : ℕ → Bool) (c : ℕ → ℕ) → weigh (n + 1) p c ≡ weigh n p c + cond (p n) (c n) 0
 unfolding sum
 weigh-next n p c = rw (add-one n)
+
+pub count-hit : (p : ℕ → Bool) (n : ℕ) → p n ≡ true → count (n + 1) p ≡ count n p + 1
+count-hit p n e = weigh-next n p (λ i. 1) ∙ rw e
+
+pub count-miss : (p : ℕ → Bool) (n : ℕ) → p n ≡ false → count (n + 1) p ≡ count n p
+count-miss p n e = weigh-next n p (λ i. 1) ∙ rw e (add-zero (count n p))
 
 -- weights of 16 bits
 pub weigh-most : (n : ℕ) (p : ℕ → Bool) (c : ℕ → ℕ) → ((i : ℕ) → i < n → c i ≤ 65535) → weigh n p c ≤ 65535 * n

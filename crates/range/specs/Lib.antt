@@ -1,3 +1,4 @@
 pub mod Sum
 pub mod First
 pub mod Lists
+pub mod Choice

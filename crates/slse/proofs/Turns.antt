@@ -15,12 +15,12 @@ use Rattle.range.specs.Lists.{stored}
 use Rattle.range.proofs.Bools.{decided}
 use Rattle.range.proofs.Sums.{weigh-more, weigh-same, none-count, count-le}
 use Rattle.range.proofs.Lists.{stored-update, stored-same, stored-self, stored-again, stored-at, length-stored}
-use Rattle.table.specs.Table.{Table, item, ofSlices, touches, dearer}
+use Rattle.table.specs.Table.{Table, item, ofSlices, touches, dearer, cheaper}
 use Rattle.table.specs.Legal.{sizeFault, linkFault, needFault, tableFault}
 use Rattle.table.proofs.Faults.{Ends, Size, size-good}
 use Rattle.table.proofs.Degrees.{ends-changed}
 use Rattle.cover_theory.specs.Pass.{place, passAfter}
-use Rattle.cover_theory.specs.Plan.{linksAt, cheaper, isShort, added, hasMoreAdded, removed, slse, kept}
+use Rattle.cover_theory.specs.Plan.{linksAt, isShort, added, hasMoreAdded, removed, slse, kept}
 use Rattle.cover_theory.proofs.Places.{Order, opposite, place-opposite}
 use Rattle.cover_theory.proofs.Order.{Rising, Sound, sound, dearer-order}
 use Rattle.cover_theory.proofs.Plan.{at-same}

@@ -3,3 +3,4 @@ pub mod Degrees
 pub mod Same
 pub mod Accepted
 pub mod Lengths
+pub mod Slices

@@ -53,3 +53,7 @@ dearer t i j =
     || (eqb (t .cost i) (t .cost j)
     && (ltb (t .low j) (t .low i)
     || (eqb (t .low i) (t .low j) && ltb (t .high j) (t .high i))))
+
+-- '"Cheaper" is the exact reverse.'
+abbrev pub cheaper : Table → ℕ → ℕ → Bool
+cheaper t i j = dearer t j i

@@ -8,7 +8,7 @@ use Rattle.lines.proofs.Lines.{GoodLine}
 use Rattle.table.specs.Text.{ofText, needStart, linkStart, textFault}
 use Rattle.table.proofs.Accepted.{text-good}
 use Rattle.table_round.specs.Same.{Fits}
-use Rattle.table_round.proofs.Numbers.{Small, Reads, reads-small}
+use Rattle.lines.proofs.Numbers.{Small, Reads, reads-small}
 use Rattle.table_round.proofs.Tables.{headRow, needRow, linkRow}
 
 -- a link's numbers stand one after the other

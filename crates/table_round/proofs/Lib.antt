@@ -1,5 +1,3 @@
-pub mod Parts
-pub mod Numbers
 pub mod Tables
 pub mod Fits
 pub mod Round

@@ -15,8 +15,8 @@ use Rattle.table.specs.Legal.{tableFault}
 use Rattle.table.specs.Text.{closingLine, textOf, needStart, linkStart, ofText, begins, textFault, textEnd}
 use Rattle.table_round.specs.Same.{Fits, Same}
 use Rattle.lines.proofs.Lines.{GoodLine}
-use Rattle.table_round.proofs.Parts.{part, part-append, part-split, part-joined, joined-split}
-use Rattle.table_round.proofs.Numbers.{lineOf, Reads, length-line, reads-line, line-reads}
+use Rattle.lines.proofs.Parts.{part, part-append, part-split, part-joined, joined-split}
+use Rattle.lines.proofs.Numbers.{lineOf, Reads, length-line, reads-line, line-reads}
 use Rattle.table_round.proofs.Tables.{headRow, needRow, linkRow, needLines, linkLines, text-is, same-fault}
 use Rattle.table.proofs.Accepted.{Accepted, text-good, good-text}
 use Rattle.table.proofs.Lengths.{length-needs, length-links, length-text}

@@ -13,7 +13,7 @@ use Rattle.lines.specs.Digits.{lineFault}
 use Rattle.table.specs.Legal.{linkFault}
 use Rattle.table.specs.Text.{textOf, begins, textFault, readFault}
 use Rattle.table_round.specs.Samples.{M2, Calls, Refusals}
-use Rattle.table_round.proofs.Numbers.{Small}
+use Rattle.lines.proofs.Numbers.{Small}
 
 small-at : (xs : List ℕ) (i : ℕ) → Small xs → getD xs i 0 < 65536
 small-at [] i h = omega arith

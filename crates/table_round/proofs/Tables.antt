@@ -11,7 +11,7 @@ use Rattle.table.specs.Legal.{sizeFault, linkFault, needFault, tableFault}
 use Rattle.table.specs.Text.{closingLine, textOf}
 use Rattle.table_round.specs.Same.{Same}
 use Rattle.table.proofs.Same.{links-same, needs-same}
-use Rattle.table_round.proofs.Numbers.{lineOf}
+use Rattle.lines.proofs.Numbers.{lineOf}
 
 -- the numbers of the header, of a need line and of a link line
 

@@ -14,7 +14,7 @@ use Rattle.table.specs.Text.{textOf, textEnd}
 use Rattle.table_write.specs.Writing.{Writes}
 use Rattle.table_write.specs.declared.Writing.the-variants.{Length, Refused}
 use Rattle.table.proofs.Lengths.{length-text}
-use Rattle.table_write.proofs.Laws.{sets-start}
+use Rattle.range.proofs.Sets.{sets-start}
 
 pub room-short : (out end b : ℕ) → out < end → 8 ≡ orElse (cond (ltb out end) 8 0) b
 room-short out end b l = rw (lt-ltb out end l)

@@ -8,7 +8,7 @@ use native.Mathlib.Omega.{arith}
 use lib.ListN.{length, take, length-set}
 use lib.Seq.{sets}
 use Rattle.table.specs.Text.{closingLine}
-use Rattle.table_write.proofs.Laws.{sets-next}
+use Rattle.range.proofs.Sets.{sets-next}
 
 abbrev Inv-loop : tie.InvT-loop
 Inv-loop out₀ at k₀ out k = (k ≤ 5) × (out ≡ sets out₀ at (take k closingLine)) × (length out ≡ length out₀)

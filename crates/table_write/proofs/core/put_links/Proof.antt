@@ -11,7 +11,7 @@ use Rattle.range.specs.Lists.{joined}
 use Rattle.table.specs.Table.{item}
 use Rattle.table.specs.Text.{tripleLine, needStart}
 use Rattle.table.proofs.Lengths.{length-triple}
-use Rattle.table_write.proofs.Laws.{joined-then}
+use Rattle.range.proofs.Sets.{joined-then}
 
 abbrev Inv-loop : tie.InvT-loop
 Inv-loop out₀ probes links lows highs costs i₀ out i = (i ≤ links) × (out ≡ sets out₀ (needStart probes) (joined (λ k. tripleLine (item lows k) (item highs k) (item costs k)) i)) × (length out ≡ length out₀)

@@ -8,7 +8,7 @@ use mathlib.Core.List.{[], _∷_}
 use native.Mathlib.Omega.{arith}
 use Rattle.hex.specs.Digits.{digits}
 use Rattle.hex.proofs.Laws.{length-digits}
-use Rattle.table_write.proofs.Laws.{sets-then}
+use Rattle.range.proofs.Sets.{sets-then}
 
 put-number-requires : tie.Need-put-number-requires
 put-number-requires c κs = search needs

@@ -11,7 +11,7 @@ use Rattle.range.specs.Lists.{joined}
 use Rattle.table.specs.Table.{item}
 use Rattle.table.specs.Text.{needLine, needStart}
 use Rattle.table.proofs.Lengths.{length-need}
-use Rattle.table_write.proofs.Laws.{joined-then}
+use Rattle.range.proofs.Sets.{joined-then}
 
 abbrev Inv-loop : tie.InvT-loop
 Inv-loop out₀ probes needs v₀ out v = (v ≤ probes) × (out ≡ sets out₀ (needStart 0) (joined (λ u. needLine (item needs u)) v)) × (length out ≡ length out₀)

@@ -8,8 +8,8 @@ use lib.ListN.{length, getD, drop, length-append, length-drop}
 use lib.Seq.{take-suc, getD-drop}
 use Rattle.hex.specs.Digits.{valueOf, numberAt, digits}
 use Rattle.hex.proofs.Laws.{number-fits, length-digits, digits-are, number-digits, digits-number}
 use Rattle.lines.proofs.Lines.{GoodLine}
-use Rattle.table_round.proofs.Parts.{part, part-at, part-append, part-split}
+use Rattle.lines.proofs.Parts.{part, part-at, part-append, part-split}
 
 -- the line of some numbers
 abbrev pub lineOf : List ℕ → List ℕ
@@ -30,27 +30,27 @@ pub length-line : (vs : List ℕ) → length (lineOf vs) ≡ 4 * length vs + 1
 length-line [] = refl
 length-line (v ∷ vs) = length-append (digits 4 v) (lineOf vs) ∙ (let a = length-digits 4 v in let b = length-line vs in omega arith)
 
--- a line without its first four digits, and with them
+-- a line without its first digits, and with them
 
-good-tail : (s : List ℕ) (at k : ℕ) → GoodLine s at (4 + k) → GoodLine s (at + 4) k
-good-tail s at k g =
+good-tail : (s : List ℕ) (at w k : ℕ) → GoodLine s at (w + k) → GoodLine s (at + w) k
+good-tail s at w k g =
     record {
       within = omega arith;
-      feed = let e : at + 4 + k ≡ at + (4 + k) = omega arith in rw e (g .feed);
-      digits = λ j l. let e : at + 4 + j ≡ at + (4 + j) = omega arith in rw e (g .digits (4 + j) (omega arith));
+      feed = let e : at + w + k ≡ at + (w + k) = omega arith in rw e (g .feed);
+      digits = λ j l. let e : at + w + j ≡ at + (w + j) = omega arith in rw e (g .digits (w + j) (omega arith));
     }
 
-good-cons : (s : List ℕ) (at k : ℕ) → ((j : ℕ) → j < 4 → valueOf (getD s (at + j) 0) < 16) → GoodLine s (at + 4) k → GoodLine s at (4 + k)
-good-cons s at k h g =
+pub good-cons : (s : List ℕ) (at w k : ℕ) → ((j : ℕ) → j < w → valueOf (getD s (at + j) 0) < 16) → GoodLine s (at + w) k → GoodLine s at (w + k)
+good-cons s at w k h g =
     record {
       within = omega arith;
-      feed = let e : at + (4 + k) ≡ at + 4 + k = omega arith in rw e (g .feed);
-      digits = λ j l. go j l (decLt j 4);
+      feed = let e : at + (w + k) ≡ at + w + k = omega arith in rw e (g .feed);
+      digits = λ j l. go j l (decLt j w);
     }
   where
-    go : (j : ℕ) → j < 4 + k → Dec (j < 4) → valueOf (getD s (at + j) 0) < 16
+    go : (j : ℕ) → j < w + k → Dec (j < w) → valueOf (getD s (at + j) 0) < 16
     go j l (yes a) = h j a
-    go j l (no a) = let e : at + j ≡ at + 4 + (j - 4) = omega arith in rw e (g .digits (j - 4) (omega arith))
+    go j l (no a) = let e : at + j ≡ at + w + (j - w) = omega arith in rw e (g .digits (j - w) (omega arith))
 
 four : (n : ℕ) → 4 * suc n ≡ 4 + 4 * n
 four n = omega arith
@@ -60,7 +60,7 @@ pub reads-small : (s : List ℕ) (at : ℕ) (vs : List ℕ) → GoodLine s at (4
 reads-small s at [] g r = tt
 reads-small s at (v ∷ vs) g r =
     let a = number-fits s at 4 (λ j l. g .digits j (omega arith)) in
-    (omega (arith, r .0), reads-small s (at + 4) vs (good-tail s at (4 * length vs) (rw (four (length vs)) at g)) (r .1))
+    (omega (arith, r .0), reads-small s (at + 4) vs (good-tail s at 4 (4 * length vs) (rw (four (length vs)) at g)) (r .1))
 
 -- the line of the numbers that a good line says is that line
 pub reads-line : (s : List ℕ) (at : ℕ) (vs : List ℕ) → GoodLine s at (4 * length vs) → Reads s at vs → lineOf vs ≡ part s at (4 * length vs + 1)
@@ -71,7 +71,7 @@ reads-line s at (v ∷ vs) g r =
     let e : 4 * suc (length vs) + 1 ≡ 4 + (4 * length vs + 1) = omega arith in
     let first = digits-number s at 4 (omega arith) (λ j l. g .digits j (omega arith)) in
     rw e (part-append s (digits 4 v) (lineOf vs) at 4 (4 * length vs + 1) (rw (r .0) at first)
-    (reads-line s (at + 4) vs (good-tail s at (4 * length vs) (rw (four (length vs)) at g)) (r .1)))
+    (reads-line s (at + 4) vs (good-tail s at 4 (4 * length vs) (rw (four (length vs)) at g)) (r .1)))
 
 -- where the line of some numbers stands, it is good, and these are read
 pub line-reads : (s : List ℕ) (at : ℕ) (vs : List ℕ) → Small vs → at + 4 * length vs < length s → part s at (4 * length vs + 1) ≡ lineOf vs → GoodLine s at (4 * length vs) × Reads s at vs
@@ -81,6 +81,6 @@ line-reads s at (v ∷ vs) small within e =
     let p = part-split s (digits 4 v) (lineOf vs) at 4 (4 * length vs + 1) (length-digits 4 v) (rw k at e) in
     let rest = line-reads s (at + 4) vs (small .1) (omega arith) (p .1) in
     let byte : (j : ℕ) → j < 4 → getD s (at + j) 0 ≡ getD (digits 4 v) j 0 = λ j l. part-at s (digits 4 v) at 4 j (p .0) l in (
-      rw (four (length vs)) (good-cons s at (4 * length vs) (λ j l. rw (byte j l) (digits-are 4 v j l)) (rest .0)),
+      rw (four (length vs)) (good-cons s at 4 (4 * length vs) (λ j l. rw (byte j l) (digits-are 4 v j l)) (rest .0)),
       (number-digits s at 4 v (small .0) byte, rest .1),
     )

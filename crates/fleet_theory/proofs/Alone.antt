@@ -1,0 +1,101 @@
+-- An outcome alters an end's own bytes as the end alters them alone, and no other end's.
+use Prim.Native.Nat.{ℕ, _+_, _*_, _/_, _%_, _<_}
+use mathlib.Core.Path.{_≡_, refl, sym, _∙_, ap}
+use mathlib.Core.List.{List}
+use native.Mathlib.Nat.{div-add-mod}
+use native.Mathlib.Omega.{arith}
+use native.Mathlib.Decide.{ℕ-discrete}
+use lib.ListN.{length, set, length-set}
+use lib.Seq.{getD-set-same, getD-set-other, ext-getD}
+use Rattle.table.specs.Table.{Table, item}
+use Rattle.record.specs.Record.{outbound, inbound}
+use Rattle.rules.specs.declared.Outcome.{Outcome}
+use Rattle.rules.specs.declared.Outcome.the-variants.{Opened, NothingToOpen, Taken, Displacing, Refused, Learnt, NoChange}
+use Rattle.rules.specs.Rules.{alter}
+use Rattle.bargain.proofs.State.{store}
+use Rattle.bargain.proofs.Bytes.{Cell, here, there, cell}
+use Rattle.fleet_theory.specs.Fleet.{outAt, inAt, own, alterFleet}
+use Rattle.fleet_theory.proofs.Own.{outOf, inOf, OwnLink, length-own}
+use Rattle.fleet_theory.proofs.Bytes.{OwnOutcome, storedOut, storedIn, out-set, out-in-set, in-set, in-out-set, altered-out, altered-in}
+
+-- records of ends that are equal byte by byte
+pairs-equal : (n : ℕ) (e f : List ℕ) → length e ≡ 2 * n → length f ≡ 2 * n → ((i : ℕ) → i < n → outbound e i ≡ outbound f i)
+    → ((i : ℕ) → i < n → inbound e i ≡ inbound f i) → e ≡ f
+pairs-equal n e f le lf outs ins = ext-getD 0 e f (le ∙ sym lf) (λ j l. go j l (ℕ-discrete (j % 2) 0))
+  where
+    go : (j : ℕ) → j < length e → Dec (j % 2 ≡ 0) → item e j ≡ item f j
+    go j l (yes z) =
+        let a = div-add-mod j 2 in
+        let s : j ≡ 2 * (j / 2) = omega arith in
+        ap (item e) s ∙ outs (j / 2) (omega arith) ∙ ap (item f) (sym s)
+    go j l (no d) =
+        let a = div-add-mod j 2 in
+        let s : j ≡ 2 * (j / 2) + 1 = omega arith in
+        ap (item e) s ∙ ins (j / 2) (omega arith) ∙ ap (item f) (sym s)
+
+-- the bytes of other probes
+module _ (p : ℕ) where
+  store-else : (b : ℕ → ℕ → ℕ) (i v q j : ℕ) → (q ≡ p → ⊥) → store b p i v q j ≡ b q j
+  store-else b i v q j d = go (cell b (store b p i v) p i v (λ x y. refl) q j)
+    where
+      go : Cell b (store b p i v) p i v q j → store b p i v q j ≡ b q j
+      go (here e f s) = absurd (d e)
+      go (there e s) = s
+
+  out-else : (o : Outcome) (b : ℕ → ℕ → ℕ) (q j : ℕ) → (q ≡ p → ⊥) → storedOut p o b q j ≡ b q j
+  out-else (Opened i) b q j d = store-else b i 1 q j d
+  out-else NothingToOpen b q j d = refl
+  out-else (Taken i) b q j d = refl
+  out-else (Displacing i c) b q j d = refl
+  out-else (Refused i) b q j d = refl
+  out-else (Learnt i) b q j d = store-else b i 2 q j d
+  out-else (NoChange i) b q j d = refl
+
+  in-else : (o : Outcome) (b : ℕ → ℕ → ℕ) (q j : ℕ) → (q ≡ p → ⊥) → storedIn p o b q j ≡ b q j
+  in-else (Opened i) b q j d = refl
+  in-else NothingToOpen b q j d = refl
+  in-else (Taken i) b q j d = store-else b i 1 q j d
+  in-else (Displacing i c) b q j d = store-else (store b p i 1) c 2 q j d ∙ store-else b i 1 q j d
+  in-else (Refused i) b q j d = store-else b i 2 q j d
+  in-else (Learnt i) b q j d = refl
+  in-else (NoChange i) b q j d = refl
+
+module _ (t : Table) (p : ℕ) where
+  -- a byte of p stored in the fleet's record is stored in its own
+  own-set-out : (r : List ℕ) (i v : ℕ) → length r ≡ 4 * t .links → OwnLink t p i → own t p (set r (outAt t p i) v) ≡ set (own t p r) (2 * i) v
+  own-set-out r i v long a =
+      pairs-equal (t .links) (own t p (set r (outAt t p i) v)) (set (own t p r) (2 * i) v) (length-own t p (set r (outAt t p i) v))
+      (length-set (own t p r) (2 * i) v ∙ length-own t p r)
+      (λ j l. out-set t p r i v long a p j ∙ go j (cell (outOf t r) (store (outOf t r) p i v) p i v (λ q k. refl) p j))
+      (λ j l. in-out-set t p r i v a p j ∙ sym (getD-set-other (own t p r) (2 * i) (2 * j + 1) v 0 (λ e. omega arith)))
+    where
+      go : (j : ℕ) → Cell (outOf t r) (store (outOf t r) p i v) p i v p j → store (outOf t r) p i v p j ≡ outbound (set (own t p r) (2 * i) v) j
+      go j (here e f s) = s ∙ rw f (sym (getD-set-same (own t p r) (2 * i) v 0 (let b = length-own t p r in let c = a .0 in omega arith)))
+      go j (there d s) = s ∙ sym (getD-set-other (own t p r) (2 * i) (2 * j) v 0 (λ e. d refl (omega arith)))
+
+  own-set-in : (r : List ℕ) (i v : ℕ) → length r ≡ 4 * t .links → OwnLink t p i → own t p (set r (inAt t p i) v) ≡ set (own t p r) (2 * i + 1) v
+  own-set-in r i v long a =
+      pairs-equal (t .links) (own t p (set r (inAt t p i) v)) (set (own t p r) (2 * i + 1) v) (length-own t p (set r (inAt t p i) v))
+      (length-set (own t p r) (2 * i + 1) v ∙ length-own t p r)
+      (λ j l. out-in-set t p r i v a p j ∙ sym (getD-set-other (own t p r) (2 * i + 1) (2 * j) v 0 (λ e. omega arith)))
+      (λ j l. in-set t p r i v long a p j ∙ go j (cell (inOf t r) (store (inOf t r) p i v) p i v (λ q k. refl) p j))
+    where
+      go : (j : ℕ) → Cell (inOf t r) (store (inOf t r) p i v) p i v p j → store (inOf t r) p i v p j ≡ inbound (set (own t p r) (2 * i + 1) v) j
+      go j (here e f s) = s ∙ rw f (sym (getD-set-same (own t p r) (2 * i + 1) v 0 (let b = length-own t p r in let c = a .0 in omega arith)))
+      go j (there d s) = s ∙ sym (getD-set-other (own t p r) (2 * i + 1) (2 * j + 1) v 0 (λ e. d refl (omega arith)))
+
+  module _ (r : List ℕ) (long : length r ≡ 4 * t .links) where
+    pub own-altered : (o : Outcome) → OwnOutcome t p o → own t p (alterFleet t p o r) ≡ alter o (own t p r)
+    own-altered (Opened i) a = own-set-out r i 1 long a
+    own-altered NothingToOpen a = refl
+    own-altered (Taken i) a = own-set-in r i 1 long a
+    own-altered (Displacing i c) a =
+        own-set-in (set r (inAt t p i) 1) c 2 (length-set r (inAt t p i) 1 ∙ long) (a .1) ∙ ap (λ e. set e (2 * c + 1) 2) (own-set-in r i 1 long (a .0))
+    own-altered (Refused i) a = own-set-in r i 2 long a
+    own-altered (Learnt i) a = own-set-out r i 2 long a
+    own-altered (NoChange i) a = refl
+
+    pub own-else : (o : Outcome) → OwnOutcome t p o → (q : ℕ) → (q ≡ p → ⊥) → own t q (alterFleet t p o r) ≡ own t q r
+    own-else o a q d =
+        pairs-equal (t .links) (own t q (alterFleet t p o r)) (own t q r) (length-own t q (alterFleet t p o r)) (length-own t q r)
+        (λ j l. altered-out t p r long o a q j ∙ out-else p o (outOf t r) q j d) (λ j l. altered-in t p r long o a q j ∙ in-else p o (inOf t r) q j d)

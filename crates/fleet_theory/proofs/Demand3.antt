@@ -1,0 +1,41 @@
+-- Demand 3.
+use Prim.Native.Nat.{ℕ, _<_}
+use mathlib.Core.Path.{_≡_, sym, _∙_}
+use mathlib.Core.List.{List}
+use native.Mathlib.Omega.{arith}
+use Rattle.table.specs.Table.{Table}
+use Rattle.cover_theory.proofs.Plan.{touches-low, touches-high}
+use Rattle.fleet_theory.specs.Fleet.{Slices, tableOf, slicesFault, State, start, run}
+use Rattle.fleet_theory.specs.Demand3.{moments, Demand3}
+use Rattle.fleet_theory.proofs.Run.{Holds, start-holds, run-holds}
+use Rattle.fleet_theory.proofs.Changes.{changes-four}
+use Rattle.fleet_theory.proofs.Sent.{refused-is-kept, two-is-refused, by-27, not-sent}
+use Rattle.fleet_theory.proofs.Finish.{run-sent, finished-unaltered, unaltered-finished, ends-plan, needs-kept, cost-kept, leads}
+
+pub demand-3 : (x : Slices) → slicesFault x ≡ 0 → x .number < 65536 → (room : ℕ) (ls : List (List ℕ)) → Demand3 x room ls
+demand-3 x fine digits room ls =
+    record {
+      eight = λ i l. let a = changes-four x fine room ls i l in omega arith;
+      four = changes-four x fine room ls;
+      refused-kept = refused-is-kept x fine after holds;
+      two-refused = two-is-refused x fine after holds;
+      unsent-refused = λ xs ys l e frame. not-sent x fine room xs l frame;
+      unsent-by-27 = λ xs ys l e frame. by-27 x fine room xs l frame;
+      goes-on = let w = leads x fine digits after holds in (w .0, w .1 (moments x room (start x) ls) (run-sent x room (start x) ls));
+      says-finished = (finished-unaltered x fine after holds, unaltered-finished x fine after holds digits);
+      rests-plan = ends-plan x fine after holds;
+      ends-agree = λ e i l. ends-plan x fine after holds e i (t .low i) l (touches-low t i) ∙ sym (ends-plan x fine after holds e i (t .high i) l (touches-high t i));
+      same-plan = λ e room′ ls′ e′ i p l at.
+          ends-plan x fine after holds e i p l at ∙ sym (ends-plan x fine (run x room′ (start x) ls′) (run-holds x fine room′ (start x) (start-holds x fine) ls′) e′ i p l at);
+      needs-met = needs-kept x fine after holds;
+      cost-twice = cost-kept x fine after holds;
+    }
+  where
+    t : Table
+    t = tableOf x
+
+    after : State
+    after = run x room (start x) ls
+
+    holds : Holds t after
+    holds = run-holds x fine room (start x) (start-holds x fine) ls

@@ -1,0 +1,94 @@
+-- What a line past the checks before 27 says, and that it is a step.
+use Prim.Native.Nat.{ℕ, _*_, _<_}
+use mathlib.Core.Path.{_≡_}
+use mathlib.Core.Logic.{_↔_}
+use mathlib.Core.Bool.{_&&_}
+use mathlib.Core.List.{List}
+use native.Mathlib.Omega.{arith}
+use native.Mathlib.Decide.{ℕ-discrete}
+use lib.Dec.{ltb, eqb}
+use lib.ListN.{length}
+use borrow.Author.Tests.{ltb-true, eqb-true, eqb-false, eq-eqb, ne-eqb}
+use Rattle.range.specs.First.{orElse}
+use Rattle.range.proofs.Bools.{and-right, unless-none, when-none}
+use Rattle.range.proofs.Faults.{or-left, or-right}
+use Rattle.table.specs.Table.{Table}
+use Rattle.table.specs.Legal.{Legal}
+use Rattle.cover_theory.proofs.Settled.{Across}
+use Rattle.frame.specs.Frame.{Frame, frameOf, frameFault}
+use Rattle.rules.specs.declared.Event.the-variants.{Opening, Offer, Refusal}
+use Rattle.rules.specs.Frames.{between, numberFault, heardOf}
+use Rattle.fleet_theory.specs.Fleet.{own, kindFault, endsFault, lineFault, eventOf, unsentFault, outcomeOf}
+use Rattle.fleet_theory.specs.Demand3.{MaySend}
+use Rattle.fleet_theory.proofs.Own.{outOf, inOf}
+use Rattle.fleet_theory.proofs.Lines.{between-across}
+use Rattle.fleet_theory.proofs.Connect.{Came, StepBy, befalls-step}
+
+-- an opening of a probe, or an offer or a refusal from one end of a link to the other
+pub data Says (t : Table) (f : Frame) : Type 0 where
+  an-opening : f .kind ≡ 0 → f .to < t .probes → eventOf t f ≡ Opening → Says t f
+  an-offer : (i : ℕ) → f .kind ≡ 1 → i < t .links → Across t i (f .from) (f .to) → eventOf t f ≡ Offer i → heardOf t f ≡ Offer i → Says t f
+  a-refusal : (i : ℕ) → f .kind ≡ 2 → i < t .links → Across t i (f .from) (f .to) → eventOf t f ≡ Refusal i → heardOf t f ≡ Refusal i → Says t f
+
+pub says : (t : Table) (l : List ℕ) → lineFault t l ≡ 0 → Says t (frameOf l)
+says t l e = go (ℕ-discrete (f .kind) 0) (ℕ-discrete (f .kind) 1)
+  where
+    f : Frame
+    f = frameOf l
+
+    i : ℕ
+    i = between t (f .from) (f .to)
+
+    rest : orElse (kindFault f) (orElse (numberFault t f) (endsFault t f)) ≡ 0
+    rest = or-right (frameFault l) (orElse (kindFault f) (orElse (numberFault t f) (endsFault t f))) e
+
+    few : f .kind < 3
+    few = ltb-true (f .kind) 3 (unless-none (ltb (f .kind) 3) 8 (or-left (kindFault f) (orElse (numberFault t f) (endsFault t f)) rest))
+
+    ends : endsFault t f ≡ 0
+    ends = or-right (numberFault t f) (endsFault t f) (or-right (kindFault f) (orElse (numberFault t f) (endsFault t f)) rest)
+
+    within : (f .kind ≡ 0 → ⊥) → i < t .links
+    within n = ltb-true i (t .links) (unless-none (ltb i (t .links)) 23 (rw (ne-eqb (f .kind) 0 n) at ends))
+
+    go : Dec (f .kind ≡ 0) → Dec (f .kind ≡ 1) → Says t f
+    go (yes z) d =
+        an-opening z
+        (ltb-true (f .to) (t .probes)
+        (and-right (eqb (f .from) (f .to)) (ltb (f .to) (t .probes))
+        (unless-none (eqb (f .from) (f .to) && ltb (f .to) (t .probes)) 23 (rw (eq-eqb (f .kind) 0 z) at ends))))
+        (rw (eq-eqb (f .kind) 0 z))
+    go (no z) (yes o) =
+        an-offer i o (within z) (between-across t (f .from) (f .to) (within z)) (rw (ne-eqb (f .kind) 0 z, eq-eqb (f .kind) 1 o)) (rw (eq-eqb (f .kind) 1 o))
+    go (no z) (no o) =
+        a-refusal i (omega (arith, few)) (within z) (between-across t (f .from) (f .to) (within z)) (rw (ne-eqb (f .kind) 0 z, ne-eqb (f .kind) 1 o))
+        (rw (ne-eqb (f .kind) 1 o))
+
+-- the byte by which a frame may be sent
+module _ (t : Table) (f : Frame) (i : ℕ) where
+  pub may-offer : heardOf t f ≡ Offer i → (r : List ℕ) → MaySend t r f ↔ (outOf t r (f .from) i ≡ 1)
+  may-offer is r = (λ m. eqb-true (outOf t r (f .from) i) 1 (rw is at m), λ e. rw (is, e))
+
+  pub may-refuse : heardOf t f ≡ Refusal i → (r : List ℕ) → MaySend t r f ↔ (inOf t r (f .from) i ≡ 2)
+  may-refuse is r = (λ m. eqb-true (inOf t r (f .from) i) 2 (rw is at m), λ e. rw (is, e))
+
+module _ (t : Table) (r : List ℕ) (f : Frame) where
+  -- 27, and that it does not turn the frame down
+  abbrev pub unsentOf : ℕ
+  unsentOf = unsentFault (eventOf t f) (own t (f .from) r)
+
+  abbrev pub NotUnsent : Type 0
+  NotUnsent = unsentOf ≡ 0
+
+  came : Says t f → NotUnsent → Came t r (f .to) (eventOf t f)
+  came (an-opening k l v) u = rw v tt
+  came (an-offer i k l x v h) u =
+      rw v (f .from, l, x, eqb-false (outOf t r (f .from) i) 0 (when-none (eqb (outOf t r (f .from) i) 0) 26 (rw v at u)))
+  came (a-refusal i k l x v h) u =
+      rw v (f .from, l, x, eqb-true (inOf t r (f .from) i) 2 (unless-none (eqb (inOf t r (f .from) i) 2) 26 (rw v at u)))
+
+pub line-step : (t : Table) → Legal t → (r : List ℕ) → length r ≡ 4 * t .links → (l : List ℕ) → lineFault t l ≡ 0 → NotUnsent t r (frameOf l)
+    → StepBy t r (frameOf l .to) (outcomeOf t r (frameOf l))
+line-step t legal r long l e u =
+    let f = frameOf l in
+    befalls-step t legal r long (f .to) (eventOf t f) (came t r f (says t l e) u)

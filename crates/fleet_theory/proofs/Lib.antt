@@ -1,0 +1,15 @@
+pub mod Own
+pub mod Bytes
+pub mod Lines
+pub mod Connect
+pub mod Events
+pub mod Log
+pub mod Run
+pub mod Changes
+pub mod Sent
+pub mod Quiet
+pub mod Live
+pub mod Finish
+pub mod Demand3
+pub mod Alone
+pub mod Samples

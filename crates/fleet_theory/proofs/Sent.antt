@@ -1,0 +1,211 @@
+-- Refused links and byte 2; truly sent frames and refusal 27.
+use Prim.Native.Nat.{ℕ, _*_, _/_, _≤_, _<_}
+use mathlib.Core.Path.{_≡_, sym, _∙_, ap}
+use mathlib.Core.Logic.{_↔_, _⊎_, inl, inr}
+use mathlib.Core.Bool.{Bool, true, false, cond}
+use mathlib.Core.List.{List, [], _∷_}
+use native.Mathlib.Omega.{arith}
+use native.Mathlib.Decide.{decLt, ℕ-discrete}
+use lib.Dec.{ltb}
+use lib.ListN.{length, List·getD-eq-default}
+use borrow.Author.Tests.{eq-eqb, ne-eqb}
+use Rattle.range.specs.First.{orElse}
+use Rattle.range.proofs.Faults.{or-none, or-some}
+use Rattle.table.specs.Table.{Table, item}
+use Rattle.table.specs.Legal.{Legal}
+use Rattle.cover_theory.specs.Plan.{kept}
+use Rattle.frame.specs.Frame.{Frame, frameOf}
+use Rattle.entry.specs.declared.Entry.{Entry}
+use Rattle.entry.specs.declared.Answer.{Answer}
+use Rattle.entry.specs.declared.Answer.the-variants.{Logged, Refused}
+use Rattle.entry.specs.Entry.{answerOf}
+use Rattle.rules.specs.declared.Event.the-variants.{Offer, Refusal}
+use Rattle.rules.specs.Rules.{entryOf}
+use Rattle.rules.specs.Frames.{heardOf}
+use Rattle.bargain.proofs.State.{Sent, Denied}
+use Rattle.bargain.proofs.Bytes.{legal-sound}
+use Rattle.bargain.proofs.Rise.{out-rises, in-rises, out-next}
+use Rattle.bargain.proofs.Finish.{refused-plan}
+use Rattle.fleet_theory.specs.Fleet.{lineFault, Slices, tableOf, slicesFault, outcomeOf, State, start, faultOf, answerTo, next, run}
+use Rattle.fleet_theory.specs.Demand3.{IsFrame, MaySend, moments, TrulySent, RefusedIn}
+use Rattle.fleet_theory.proofs.Own.{outOf, inOf}
+use Rattle.fleet_theory.proofs.Bytes.{byte-of}
+use Rattle.fleet_theory.proofs.Events.{Says, an-opening, an-offer, a-refusal, says, may-offer, may-refuse, unsentOf}
+use Rattle.fleet_theory.proofs.Run.{slices-legal, fullFault, Holds, start-out, start-holds, fault-is, next-holds, next-steps, run-holds}
+
+-- the number of a refusal
+abbrev numberOf : Answer → ℕ
+numberOf (Logged e) = 0
+numberOf (Refused n) = n
+
+answer-number : (fault : ℕ) (e : Entry) → numberOf (answerOf fault e) ≡ fault
+answer-number fault e = go (ℕ-discrete fault 0)
+  where
+    go : Dec (fault ≡ 0) → numberOf (answerOf fault e) ≡ fault
+    go (yes z) = rw (eq-eqb fault 0 z) (sym z)
+    go (no d) = rw (ne-eqb fault 0 d)
+
+module _ (x : Slices) (fine : slicesFault x ≡ 0) where
+  abbrev t : Table
+  t = tableOf x
+
+  legal : Legal t
+  legal = slices-legal x fine
+
+  -- a refused link is kept by the plan, and a byte 2 stands on no other
+  module _ (s : State) (h : Holds t s) where
+    pub refused-is-kept : (i : ℕ) → i < x .links → RefusedIn t i (s .log) → kept t i ≡ true
+    refused-is-kept i l a =
+        let b = h .log-in i l a in
+        let o = outOf t (s .bytes) in
+        let n = inOf t (s .bytes) in
+        rw (refused-plan t legal (Sent o) (Denied t n) o n (h .good) (b .0) i (inr (b .1)))
+
+    pub two-is-refused : (j : ℕ) → item (s .bytes) j ≡ 2 → RefusedIn t (j / 4) (s .log)
+    two-is-refused j e = go (decLt j (4 * x .links))
+      where
+        by : ((p : ℕ) × ((item (s .bytes) j ≡ outOf t (s .bytes) p (j / 4)) ⊎ (item (s .bytes) j ≡ inOf t (s .bytes) p (j / 4)))) → RefusedIn t (j / 4) (s .log)
+        by (p, inl f) =
+            let d = h .good .learnt p (j / 4) (sym f ∙ e) in
+            h .in-log (d .0) (j / 4) (d .2)
+        by (p, inr f) = h .in-log p (j / 4) (sym f ∙ e)
+
+        go : Dec (j < 4 * x .links) → RefusedIn t (j / 4) (s .log)
+        go (yes l) = by (byte-of t (legal-sound t legal) (s .bytes) j l)
+        go (no d) =
+            let a = h .long in
+            let z = List·getD-eq-default (s .bytes) 0 {n = j} (omega arith) in
+            absurd (omega arith)
+
+  module _ (room : ℕ) where
+    -- the bytes of an end only rise
+    run-rises : (s : State) → Holds t s → (ls : List (List ℕ)) (p i : ℕ)
+        → (outOf t (s .bytes) p i ≤ outOf t (run x room s ls .bytes) p i) × (inOf t (s .bytes) p i ≤ inOf t (run x room s ls .bytes) p i)
+    unfolding run
+    run-rises s h [] p i = (omega arith, omega arith)
+    run-rises s h (l ∷ ls) p i =
+        let s′ = next x room s l in
+        let o = outOf t (s .bytes) in
+        let n = inOf t (s .bytes) in
+        let o′ = outOf t (s′ .bytes) in
+        let n′ = inOf t (s′ .bytes) in
+        let a = out-rises t legal o n o′ n′ (h .good) (next-steps x fine s h room l) p i in
+        let b = in-rises t legal o n o′ n′ (h .good) (next-steps x fine s h room l) p i in
+        let c = run-rises s′ (next-holds x fine s h room l) ls p i in
+        (omega arith, omega arith)
+
+    module _ (f : Frame) (i : ℕ) where
+      abbrev maker : State → ℕ
+      maker s = outOf t (s .bytes) (f .from) i
+
+      abbrev refuser : State → ℕ
+      refuser s = inOf t (s .bytes) (f .from) i
+
+      module _ (is : heardOf t f ≡ Offer i) where
+        -- an offer truly sent has its byte
+        offer-byte : (s : State) → Holds t s → (ls : List (List ℕ)) → TrulySent t f (moments x room s ls) → 1 ≤ maker (run x room s ls)
+        unfolding moments run
+        offer-byte s h [] (inl m) = let e = may-offer t f i is (s .bytes) .0 m in omega arith
+        offer-byte s h (l ∷ ls) (inl m) =
+            let e = may-offer t f i is (s .bytes) .0 m in
+            let a = run-rises s h (l ∷ ls) (f .from) i .0 in
+            omega arith
+        offer-byte s h (l ∷ ls) (inr b) = offer-byte (next x room s l) (next-holds x fine s h room l) ls b
+
+        byte-offer : (s : State) → Holds t s → (ls : List (List ℕ)) → maker s ≤ 1 → (maker (run x room s ls) ≡ 0 → ⊥) → TrulySent t f (moments x room s ls)
+        unfolding moments run
+        byte-offer s h [] few d = inl (may-offer t f i is (s .bytes) .1 (omega (arith, d)))
+        byte-offer s h (l ∷ ls) few d = go (byte-offer (next x room s l) (next-holds x fine s h room l) ls) (ℕ-discrete (maker s) 1)
+          where
+            go : (maker (next x room s l) ≤ 1 → (maker (run x room (next x room s l) ls) ≡ 0 → ⊥) → TrulySent t f (moments x room (next x room s l) ls))
+                → Dec (maker s ≡ 1) → MaySend t (s .bytes) f ⊎ TrulySent t f (moments x room (next x room s l) ls)
+            go on (yes e) = inl (may-offer t f i is (s .bytes) .1 e)
+            go on (no e) =
+                let s′ = next x room s l in
+                inr (on (out-next t legal (outOf t (s .bytes)) (inOf t (s .bytes)) (outOf t (s′ .bytes)) (inOf t (s′ .bytes)) (h .good) (next-steps x fine s h room l) (f .from) i (omega arith)) d)
+
+      module _ (is : heardOf t f ≡ Refusal i) where
+        refusal-byte : (s : State) → Holds t s → (ls : List (List ℕ)) → TrulySent t f (moments x room s ls) → 2 ≤ refuser (run x room s ls)
+        unfolding moments run
+        refusal-byte s h [] (inl m) = let e = may-refuse t f i is (s .bytes) .0 m in omega arith
+        refusal-byte s h (l ∷ ls) (inl m) =
+            let e = may-refuse t f i is (s .bytes) .0 m in
+            let a = run-rises s h (l ∷ ls) (f .from) i .1 in
+            omega arith
+        refusal-byte s h (l ∷ ls) (inr b) = refusal-byte (next x room s l) (next-holds x fine s h room l) ls b
+
+        byte-refusal : (s : State) (ls : List (List ℕ)) → refuser (run x room s ls) ≡ 2 → TrulySent t f (moments x room s ls)
+        unfolding moments run
+        byte-refusal s [] e = inl (may-refuse t f i is (s .bytes) .1 e)
+        byte-refusal s (l ∷ ls) e = inr (byte-refusal (next x room s l) ls e)
+
+    -- a frame past the checks before 27, after a list of lines
+    module _ (ls : List (List ℕ)) (l : List ℕ) (frame : IsFrame (frameOf l)) where
+      abbrev s : State
+      s = run x room (start x) ls
+
+      abbrev f : Frame
+      f = frameOf l
+
+      abbrev unsent : ℕ
+      unsent = unsentOf t (s .bytes) f
+
+      abbrev Truly : Type 0
+      Truly = TrulySent t f (moments x room (start x) ls)
+
+      sent-or-not : Says t f → ((unsent ≡ 0) × Truly) ⊎ ((unsent ≡ 27) × (Truly → ⊥))
+      sent-or-not (an-opening k b v) = absurd (go frame)
+        where
+          go : IsFrame f → ⊥
+          go (inl e) = omega arith
+          go (inr e) = omega arith
+      sent-or-not (an-offer i k b a v is) = go (ℕ-discrete (maker f i s) 0)
+        where
+          go : Dec (maker f i s ≡ 0) → ((unsent ≡ 0) × Truly) ⊎ ((unsent ≡ 27) × (Truly → ⊥))
+          go (yes z) = inr (rw (v, eq-eqb (maker f i s) 0 z), λ m. let c = offer-byte f i is (start x) (start-holds x fine) ls m in omega arith)
+          go (no d) =
+              inl (rw (v, ne-eqb (maker f i s) 0 d), byte-offer f i is (start x) (start-holds x fine) ls (let z = start-out x (f .from) i in omega arith) d)
+      sent-or-not (a-refusal i k b a v is) = go (ℕ-discrete (refuser f i s) 2)
+        where
+          go : Dec (refuser f i s ≡ 2) → ((unsent ≡ 0) × Truly) ⊎ ((unsent ≡ 27) × (Truly → ⊥))
+          go (yes e) = inl (rw (v, eq-eqb (refuser f i s) 2 e), byte-refusal f i is (start x) ls e)
+          go (no d) =
+              let few = run-holds x fine room (start x) (start-holds x fine) ls .good .in-small (f .from) i in
+              inr (rw (v, ne-eqb (refuser f i s) 2 d), λ m. d (let c = refusal-byte f i is (start x) (start-holds x fine) ls m in omega arith))
+
+      abbrev full : ℕ
+      full = fullFault (length (s .log)) room
+
+      fault : faultOf x room s l ≡ orElse (lineFault t l) (orElse unsent full)
+      fault = fault-is x fine s (run-holds x fine room (start x) (start-holds x fine) ls) room l
+
+      answer-refused : (n : ℕ) → faultOf x room s l ≡ n → (n ≡ 0 → ⊥) → answerTo x room s l ≡ Refused n
+      answer-refused n e d = rw (e, ne-eqb n 0 d)
+
+      pub by-27 : lineFault t l ≡ 0 → (answerTo x room s l ≡ Refused 27) ↔ (Truly → ⊥)
+      by-27 e = go (sent-or-not (says t l e))
+        where
+          not-full : full ≡ 27 → ⊥
+          not-full = part (ltb (length (s .log)) room)
+            where
+              part : (b : Bool) → _≡_ {A = ℕ} (cond b 0 26) 27 → ⊥
+              part true z = omega arith
+              part false z = omega arith
+
+          go : ((unsent ≡ 0) × Truly) ⊎ ((unsent ≡ 27) × (Truly → ⊥)) → (answerTo x room s l ≡ Refused 27) ↔ (Truly → ⊥)
+          go (inl (z, m)) = (
+            λ a. absurd (not-full
+                (sym (fault ∙ or-none (lineFault t l) (orElse unsent full) e ∙ or-none unsent full z)
+                ∙ sym (answer-number (faultOf x room s l) (entryOf t (f .to) (outcomeOf t (s .bytes) f)))
+                ∙ ap numberOf a)),
+            λ d. absurd (d m),
+          )
+          go (inr (z, d)) =
+              (λ a. d, λ c. answer-refused 27 (fault ∙ or-none (lineFault t l) (orElse unsent full) e ∙ rw z) (λ y. omega arith))
+
+      pub not-sent : (Truly → ⊥) → (n : ℕ) × (answerTo x room s l ≡ Refused n)
+      not-sent d = go (ℕ-discrete (lineFault t l) 0)
+        where
+          go : Dec (lineFault t l ≡ 0) → (n : ℕ) × (answerTo x room s l ≡ Refused n)
+          go (yes e) = (27, by-27 e .1 d)
+          go (no e) = (lineFault t l, answer-refused (lineFault t l) (fault ∙ or-some (lineFault t l) (orElse unsent full) e) e)

@@ -1,0 +1,105 @@
+-- Demand 3: one claim about a whole list of lines of any bytes.
+use Prim.Native.Nat.{ℕ, _+_, _*_, _/_, _≤_, _<_}
+use mathlib.Core.Path.{_≡_}
+use mathlib.Core.Logic.{_↔_, _⊎_}
+use mathlib.Core.Bool.{Bool, true, not}
+use mathlib.Core.List.{List, [], _∷_, _++_}
+use lib.ListN.{length}
+use Rattle.table.specs.Table.{Table, item, touches}
+use Rattle.cover_theory.specs.Plan.{rested, kept, linksAt, costOf, Meets}
+use Rattle.frame.specs.Frame.{Frame, frameOf, frameLine}
+use Rattle.entry.specs.declared.Entry.{Entry}
+use Rattle.entry.specs.declared.What.{What}
+use Rattle.entry.specs.declared.What.the-variants as what
+use Rattle.entry.specs.declared.Answer.the-variants.{Logged, Refused}
+use Rattle.rules.specs.Rules.{sendable, rests}
+use Rattle.rules.specs.Frames.{joins, heardOf}
+use Rattle.fleet_theory.specs.Fleet.{Slices, tableOf, slicesFault, State, start, own, lineFault, answerTo, next, run, changes, finished}
+
+-- "a frame": a line's frame that is no opening
+abbrev pub IsFrame : Frame → Type 0
+IsFrame f = (f .kind ≡ 1) ⊎ (f .kind ≡ 2)
+
+-- "the rules above let the frame be sent": by the probe `from`, on its own bytes
+abbrev pub MaySend : Table → List ℕ → Frame → Type 0
+MaySend t r f = sendable (heardOf t f) (own t (f .from) r) ≡ true
+
+-- the moments of a list: its records, "the start included"
+unfoldable pub moments : Slices → ℕ → State → List (List ℕ) → List (List ℕ)
+moments x room s [] = s .bytes ∷ []
+moments x room s (l ∷ ls) = s .bytes ∷ moments x room (next x room s l) ls
+
+-- "Truly sent: at some moment so far .. the rules above let the frame be sent."
+abbrev pub TrulySent : Table → Frame → List (List ℕ) → Type 0
+TrulySent t f [] = ⊥
+TrulySent t f (r ∷ rs) = MaySend t r f ⊎ TrulySent t f rs
+
+-- "Refused: an event so far refused an offer on the link or displaced one": the entry of the probe p says so of the link i
+abbrev pub Refuses : Table → ℕ → ℕ → What → Type 0
+Refuses t i p (what.Refused j) = j ≡ i
+Refuses t i p (what.TakenDisplacing j q) = joins t p q i ≡ true
+Refuses t i p (what.Opened j) = ⊥
+Refuses t i p what.NothingToOpen = ⊥
+Refuses t i p (what.Taken j) = ⊥
+Refuses t i p (what.RefusalLearnt j) = ⊥
+Refuses t i p (what.NoChange j) = ⊥
+
+abbrev pub RefusedIn : Table → ℕ → List Entry → Type 0
+RefusedIn t i [] = ⊥
+RefusedIn t i (e ∷ es) = Refuses t i (e .probe) (e .what) ⊎ RefusedIn t i es
+
+-- the end p rests the link i
+abbrev pub endRests : Table → List ℕ → ℕ → ℕ → Bool
+endRests t r p i = rests (own t p r) i
+
+-- "openings and truly sent frames"
+abbrev pub Usable : Table → List ℕ → List (List ℕ) → Type 0
+Usable t l so-far = (lineFault t l ≡ 0) × ((frameOf l .kind ≡ 0) ⊎ TrulySent t (frameOf l) so-far)
+
+-- "some further list of openings and truly sent frames, none turned down, leads to the finish": `so-far` are the moments up to the state
+abbrev pub LeadsOn : Slices → ℕ → List (List ℕ) → State → List (List ℕ) → Type 0
+LeadsOn x room so-far s [] = finished (tableOf x) (s .bytes) ≡ true
+LeadsOn x room so-far s (l ∷ ls) =
+    Usable (tableOf x) l so-far
+    × ((e : Entry) × (answerTo x room s l ≡ Logged e))
+    × LeadsOn x room (so-far ++ (next x room s l .bytes ∷ [])) (next x room s l) ls
+
+-- "For every list of openings and heard frames, refused ones included, from a fleet begun fresh with one legal table"
+module _ (x : Slices) (room : ℕ) (ls : List (List ℕ)) where
+  abbrev t : Table
+  t = tableOf x
+
+  abbrev after : State
+  after = run x room (start x) ls
+
+  pub record Demand3 : Type 0 where
+    -- "after it no link has had more than eight changes", and not more than four
+    pub eight : (i : ℕ) → i < x .links → changes x room (start x) ls i ≤ 8
+    pub four : (i : ℕ) → i < x .links → changes x room (start x) ls i ≤ 4
+    -- "every link that either end has refused is in demand 2's plan"; "A byte 2 stands on no other link."
+    pub refused-kept : (i : ℕ) → i < x .links → RefusedIn t i (after .log) → kept t i ≡ true
+    pub two-refused : (j : ℕ) → item (after .bytes) j ≡ 2 → RefusedIn t (j / 4) (after .log)
+    -- "every frame not truly sent was turned down": at its place in the list
+    pub unsent-refused : (xs ys : List (List ℕ)) (l : List ℕ) → ls ≡ xs ++ l ∷ ys → IsFrame (frameOf l)
+        → (TrulySent t (frameOf l) (moments x room (start x) xs) → ⊥) → (n : ℕ) × (answerTo x room (run x room (start x) xs) l ≡ Refused n)
+    -- "a frame past the checks before 27 is turned down by 27 exactly when it is not truly sent"
+    pub unsent-by-27 : (xs ys : List (List ℕ)) (l : List ℕ) → ls ≡ xs ++ l ∷ ys → IsFrame (frameOf l) → lineFault t l ≡ 0
+        → (answerTo x room (run x room (start x) xs) l ≡ Refused 27) ↔ (TrulySent t (frameOf l) (moments x room (start x) xs) → ⊥)
+    -- "From there some further list of openings and truly sent frames, none turned down, leads to the finish": "the log lent has an entry free for each of them"
+    pub goes-on : (ms : List (List ℕ)) × ((room′ : ℕ) → length (after .log) + length ms ≤ room′
+        → LeadsOn x room′ (moments x room (start x) ls) after ms)
+    -- "The fleet says finished exactly when no opening and no frame that may be sent would change anything."
+    pub says-finished : (finished t (after .bytes) ≡ true)
+        ↔ ((l : List ℕ) → lineFault t l ≡ 0 → (frameOf l .kind ≡ 0) ⊎ MaySend t (after .bytes) (frameOf l)
+        → (room′ : ℕ) → length (after .log) < room′ → next x room′ after l .bytes ≡ after .bytes)
+    -- "Whenever it is finished, each end of each link rests it exactly when it is not in demand 2's plan, so both ends agree"
+    pub rests-plan : finished t (after .bytes) ≡ true → (i p : ℕ) → i < x .links → touches t p i ≡ true → endRests t (after .bytes) p i ≡ rested t i
+    pub ends-agree : finished t (after .bytes) ≡ true → (i : ℕ) → i < x .links
+        → endRests t (after .bytes) (t .low i) i ≡ endRests t (after .bytes) (t .high i) i
+    -- "no two such lists with the same table finish with different plans"
+    pub same-plan : finished t (after .bytes) ≡ true → (room′ : ℕ) (ls′ : List (List ℕ)) → finished t (run x room′ (start x) ls′ .bytes) ≡ true
+        → (i p : ℕ) → i < x .links → touches t p i ≡ true → endRests t (after .bytes) p i ≡ endRests t (run x room′ (start x) ls′ .bytes) p i
+    -- "Every need is then met, and the plan costs at most twice as much as any choice of links that meets the needs."
+    pub needs-met : finished t (after .bytes) ≡ true → (v : ℕ) → v < x .probes → t .need v ≤ linksAt t (λ i. not (endRests t (after .bytes) v i)) v
+    pub cost-twice : finished t (after .bytes) ≡ true → (choice : ℕ → Bool) → Meets t choice
+        → costOf t (λ i. not (endRests t (after .bytes) (t .low i) i)) ≤ 2 * costOf t choice

@@ -1,0 +1,3 @@
+pub mod Fleet
+pub mod Demand3
+pub mod Samples

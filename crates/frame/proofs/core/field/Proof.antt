@@ -1,0 +1,20 @@
+use borrow.Author.Needs.{needs}
+use Rattle.frame.proofs.core.field.Statement.{statement}
+use Rattle.frame.proofs.core.field.Tie as tie
+use Rattle.frame.proofs.core.field.Reads as reads
+use Rattle.frame.proofs.core.field.Lts as lts
+use Rattle.hex.proofs.core.number.Reads as number-reads
+use native.Mathlib.Omega.{arith}
+use Rattle.frame.proofs.Laws.{frame-good}
+
+number-requires : tie.Need-number-requires
+number-requires c κs =
+    let g = frame-good (c .before .args .line .now) (c .before .pre .0) .length-is in
+    let p = c .before .pre in
+    (omega arith, p .2)
+
+returns : tie.Need-returns
+returns c = search needs
+
+pub field-spec : {M : Type 1} → statement M
+field-spec = tie.close (tie.spec number-requires returns)

@@ -1,0 +1,31 @@
+use borrow.Author.Needs.{needs}
+use Rattle.frame.specs.Frame.{frameLine}
+use Rattle.frame.proofs.core.write_frame.Statement.{statement}
+use Rattle.frame.proofs.core.write_frame.Tie as tie
+use Rattle.frame.proofs.core.write_frame.Reads as reads
+use Rattle.frame.proofs.core.write_frame.Lts as lts
+use Rattle.hex.proofs.core.put_number.Reads as put-number-reads
+use Rattle.table_write.proofs.core.put_triple.Reads as put-triple-reads
+use native.Mathlib.Omega.{arith}
+use Rattle.hex.specs.Digits.{digits}
+use Rattle.hex.proofs.Laws.{length-digits}
+use Rattle.range.proofs.Sets.{sets-then}
+use Rattle.table.specs.Text.{tripleLine}
+
+put-number-requires : tie.Need-put-number-requires
+put-number-requires c κs = search needs
+
+put-triple-requires : tie.Need-put-triple-requires
+put-triple-requires c κs = search needs
+
+same-length : tie.Need-same-length
+same-length c = search needs
+
+returns : tie.Need-returns
+unfolding frameLine
+returns c =
+    let a = c .before .before .before .before .before .before .before .before .before .args in
+    sets-then (a .out .now) _ _ 0 2 (digits 2 (a .kind)) (tripleLine (a .number) (a .from) (a .to)) (c .before .before .before .before .before .before .put-number .ensures) (omega (arith, length-digits 2 (a .kind))) (c .before .before .put-triple .ensures)
+
+pub write-frame-spec : {M : Type 1} → statement M
+write-frame-spec = tie.close (tie.spec put-number-requires put-triple-requires same-length returns)

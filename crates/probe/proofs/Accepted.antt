@@ -1,0 +1,106 @@
+-- What it means that a call of an end has no fault.
+use Prim.Native.Nat.{ℕ, _≤_, _<_}
+use mathlib.Core.Path.{_≡_}
+use mathlib.Core.Logic.{_⊎_, inl, inr}
+use mathlib.Core.Bool.{Bool, true, false, cond, _&&_, _||_}
+use mathlib.Core.List.{List}
+use lib.Dec.{ltb, eqb}
+use native.Mathlib.Omega.{arith}
+use native.Mathlib.Decide.{ℕ-discrete}
+use borrow.Author.Tests.{ltb-true, ne-eqb}
+use Rattle.range.specs.First.{orElse}
+use Rattle.range.proofs.Bools.{and-left, and-right, unless-none, decided}
+use Rattle.range.proofs.Faults.{or-left, or-right, or-through, or-past}
+use Rattle.table.specs.Table.{Table, touches}
+use Rattle.frame.specs.Frame.{Frame, frameOf, frameFault}
+use Rattle.record.specs.Record.{recordFault}
+use Rattle.rules.specs.declared.Event.the-variants.{Offer, Refusal}
+use Rattle.rules.specs.Frames.{between, numberFault, heardOf}
+use Rattle.rules.specs.Within.{EventWithin}
+use Rattle.probe.specs.Checks.{kindFault, toFault, probeFault, linkFault, untriedFault, fullFault, heardFault, hearFault, openFault, linkCallFault}
+
+module _ (t : Table) (p : ℕ) (l : List ℕ) (e : heardFault t p l ≡ 0) where
+  abbrev f : Frame
+  f = frameOf l
+
+  pub heard-frame : frameFault l ≡ 0
+  unfolding heardFault
+  heard-frame = or-left (frameFault l) (orElse (kindFault f) (orElse (numberFault t f) (toFault t p f))) e
+
+  -- the link is one of the table's
+  pub heard-link : between t (f .from) (f .to) < t .links
+  unfolding heardFault
+  heard-link =
+      let i = between t (f .from) (f .to) in
+      let a = or-right (frameFault l) (orElse (kindFault f) (orElse (numberFault t f) (toFault t p f))) e in
+      let b = or-right (kindFault f) (orElse (numberFault t f) (toFault t p f)) a in
+      let c = or-right (numberFault t f) (toFault t p f) b in
+      ltb-true i (t .links) (and-right (eqb (f .to) p) (ltb i (t .links)) (unless-none (eqb (f .to) p && ltb i (t .links)) 23 c))
+
+  pub heard-within : EventWithin (t .links) (heardOf t f)
+  heard-within = go (decided (eqb (f .kind) 1))
+    where
+      go : (eqb (f .kind) 1 ≡ true) ⊎ (eqb (f .kind) 1 ≡ false) → EventWithin (t .links) (heardOf t f)
+      go (inl k) = rw k heard-link
+      go (inr k) = rw k heard-link
+
+-- each stage of a call
+module _ (slices : ℕ) (t : Table) (p : ℕ) (e : List ℕ) where
+  pub hear-parts : (l : List ℕ) (free : ℕ) → hearFault slices t p e l free ≡ 0 → (slices ≡ 0) × (recordFault t p e ≡ 0) × (heardFault t p l ≡ 0)
+  unfolding hearFault
+  hear-parts l free f =
+      let last = orElse (untriedFault (heardOf t (frameOf l)) e) (fullFault free) in
+      let a = or-right slices (orElse (recordFault t p e) (orElse (heardFault t p l) last)) f in
+      let b = or-right (recordFault t p e) (orElse (heardFault t p l) last) a in
+      (or-left slices (orElse (recordFault t p e) (orElse (heardFault t p l) last)) f, or-left (recordFault t p e) (orElse (heardFault t p l) last) a, or-left (heardFault t p l) last b)
+
+  pub open-parts : (free : ℕ) → openFault slices t p e free ≡ 0 → (slices ≡ 0) × (recordFault t p e ≡ 0)
+  unfolding openFault
+  open-parts free f =
+      let a = or-right slices (orElse (recordFault t p e) (orElse (probeFault t p) (fullFault free))) f in
+      (or-left slices (orElse (recordFault t p e) (orElse (probeFault t p) (fullFault free))) f, or-left (recordFault t p e) (orElse (probeFault t p) (fullFault free)) a)
+
+  pub link-parts : (i : ℕ) → linkCallFault slices t p e i ≡ 0 → (slices ≡ 0) × (recordFault t p e ≡ 0) × (i < t .links)
+  unfolding linkCallFault
+  link-parts i f =
+      let a = or-right slices (orElse (recordFault t p e) (linkFault t p i)) f in
+      let b = or-right (recordFault t p e) (linkFault t p i) a in
+      (or-left slices (orElse (recordFault t p e) (linkFault t p i)) f, or-left (recordFault t p e) (linkFault t p i) a, ltb-true i (t .links) (and-left (ltb i (t .links)) (touches t p i) (unless-none (ltb i (t .links) && touches t p i) 23 b)))
+
+  -- table and record are checked as one stage: its fault is the call's, or the rest's is
+  module _ (r : ℕ) where
+    pub hear-early : (l : List ℕ) (free : ℕ) → r ≡ orElse slices (recordFault t p e) → (r ≡ 0 → ⊥) → r ≡ hearFault slices t p e l free
+    unfolding hearFault
+    hear-early l free = or-through r slices (recordFault t p e) (orElse (heardFault t p l) (orElse (untriedFault (heardOf t (frameOf l)) e) (fullFault free)))
+
+    pub hear-late : (l : List ℕ) (free : ℕ) → orElse slices (recordFault t p e) ≡ 0
+        → r ≡ orElse (heardFault t p l) (orElse (untriedFault (heardOf t (frameOf l)) e) (fullFault free)) → r ≡ hearFault slices t p e l free
+    unfolding hearFault
+    hear-late l free = or-past r slices (recordFault t p e) (orElse (heardFault t p l) (orElse (untriedFault (heardOf t (frameOf l)) e) (fullFault free)))
+
+    pub open-early : (free : ℕ) → r ≡ orElse slices (recordFault t p e) → (r ≡ 0 → ⊥) → r ≡ openFault slices t p e free
+    unfolding openFault
+    open-early free = or-through r slices (recordFault t p e) (orElse (probeFault t p) (fullFault free))
+
+    pub open-late : (free : ℕ) → orElse slices (recordFault t p e) ≡ 0 → r ≡ orElse (probeFault t p) (fullFault free) → r ≡ openFault slices t p e free
+    unfolding openFault
+    open-late free = or-past r slices (recordFault t p e) (orElse (probeFault t p) (fullFault free))
+
+    pub link-early : (i : ℕ) → r ≡ orElse slices (recordFault t p e) → (r ≡ 0 → ⊥) → r ≡ linkCallFault slices t p e i
+    unfolding linkCallFault
+    link-early i = or-through r slices (recordFault t p e) (linkFault t p i)
+
+    pub link-late : (i : ℕ) → orElse slices (recordFault t p e) ≡ 0 → r ≡ linkFault t p i → r ≡ linkCallFault slices t p e i
+    unfolding linkCallFault
+    link-late i = or-past r slices (recordFault t p e) (linkFault t p i)
+
+-- the code's tests of the kind
+pub known-kind : (k : ℕ) → (k ≡ 0 → ⊥) → k ≤ 2 → (eqb k 1 || eqb k 2) ≡ true
+known-kind k n l = go (ℕ-discrete k 1)
+  where
+    go : Dec (k ≡ 1) → (eqb k 1 || eqb k 2) ≡ true
+    go (yes e) = rw e
+    go (no e) = let two : k ≡ 2 = omega arith in rw two
+
+pub other-kind : (k : ℕ) → 2 < k → (eqb k 1 || eqb k 2) ≡ false
+other-kind k l = rw (ne-eqb k 1 (omega arith), ne-eqb k 2 (omega arith))

@@ -1,0 +1,32 @@
+-- A call of an end that is refused, and one that is accepted.
+use Prim.Native.Nat.{ℕ}
+use mathlib.Core.Path.{_≡_, sym, _∙_, ap}
+use mathlib.Core.List.{List}
+use borrow.Author.Tests.{ne-eqb}
+use Rattle.table.specs.Table.{Table, ofSlices}
+use Rattle.entry.specs.declared.Entry.{Entry}
+use Rattle.entry.specs.declared.Answer.the-variants.{Logged, Refused}
+use Rattle.rules.specs.declared.Event.{Event}
+use Rattle.rules.specs.declared.Outcome.{Outcome}
+use Rattle.rules.specs.Rules.{befalls, alter, entryOf}
+use Rattle.rules.proofs.Outcomes.{entry-same, befalls-same}
+use Rattle.probe.specs.Answers.{Befallen}
+
+pub refused-call : (fault : ℕ) (t : Table) (p : ℕ) (event : Event) (r : ℕ) (e : List ℕ) → r ≡ fault → (r ≡ 0 → ⊥) → Befallen fault t p event (Refused r) e e
+refused-call fault t p event r e same n =
+    record { answer = rw (← same, ne-eqb r 0 n); record-after = rw (← same, ne-eqb r 0 n) }
+
+pub accepted-call : (fault number probes links : ℕ) (needs lows highs costs : List ℕ) (p : ℕ) (event : Event) (e : List ℕ) (entry : Entry) (after : List ℕ)
+    → fault ≡ 0
+    → entry ≡ entryOf (ofSlices 0 probes links needs lows highs costs) p (befalls (ofSlices 0 probes links needs lows highs costs) p event e)
+    → after ≡ alter (befalls (ofSlices 0 probes links needs lows highs costs) p event e) e
+    → Befallen fault (ofSlices number probes links needs lows highs costs) p event (Logged entry) e after
+accepted-call fault number probes links needs lows highs costs p event e entry after none is bytes =
+    let same = befalls-same number probes links needs lows highs costs p event e in
+    let from = ap (λ (o : Outcome). entryOf (ofSlices 0 probes links needs lows highs costs) p o) same in
+    let plain = sym (entry-same 0 probes links needs lows highs costs p (befalls (ofSlices number probes links needs lows highs costs) p event e)) in
+    let full = entry-same number probes links needs lows highs costs p (befalls (ofSlices number probes links needs lows highs costs) p event e) in
+    record {
+      answer = rw none (ap Logged (is ∙ from ∙ plain ∙ full));
+      record-after = rw none (bytes ∙ ap (λ (o : Outcome). alter o e) same);
+    }

@@ -1,0 +1,81 @@
+use borrow.Author.Needs.{needs}
+use Rattle.probe.proofs.ask.Statement.{statement}
+use Rattle.probe.proofs.ask.Tie as tie
+use Rattle.probe.proofs.ask.Reads as reads
+use Rattle.probe.proofs.ask.Lts as lts
+use Rattle.frame.proofs.core.write_frame.Reads as write-frame-reads
+use Rattle.probe.proofs.core.is_sendable.Reads as is-sendable-reads
+use Rattle.probe.proofs.core.kind_of.Reads as kind-of-reads
+use Rattle.probe.proofs.core.link_call_fault.Reads as link-call-fault-reads
+use Rattle.rules.proofs.core.other.Reads as other-reads
+use mathlib.Core.Path.{_≡_, sym, _∙_, ap}
+use native.Mathlib.Omega.{arith}
+use borrow.Author.Tests.{eq-eqb, ne-eqb, lt-ltb, le-ltb, not-true, not-false}
+use Rattle.table.specs.Table.{Table, ofSlices}
+use Rattle.table.specs.Legal.{sliceFault}
+use Rattle.table.proofs.Slices.{given}
+use Rattle.record.proofs.Bytes.{record-good}
+use Rattle.probe.specs.Checks.{linkCallFault}
+use Rattle.probe.proofs.Accepted.{link-parts}
+
+returns : tie.Need-returns
+returns c = record { answer = rw (lt-ltb _ _ (c .if1 .taken)); line = rw (lt-ltb _ _ (c .if1 .taken)) }
+
+link-call-fault-requires : tie.Need-link-call-fault-requires
+link-call-fault-requires c κs = search needs
+
+returns-2 : tie.Need-returns-2
+unfolding linkCallFault
+returns-2 c = record { answer = rw (le-ltb _ _ (c .before .before .if1 .left), ← c .before .link-call-fault .ensures, ne-eqb _ _ (c .if2 .taken)); line = rw (le-ltb _ _ (c .before .before .if1 .left), ← c .before .link-call-fault .ensures, ne-eqb _ _ (c .if2 .taken)) }
+
+is-sendable-requires : tie.Need-is-sendable-requires
+is-sendable-requires c κs =
+    let a = c .before .before .before .before .before .before .before .before .before .args in
+    let t : Table = ofSlices 0 (a .probes) (a .links) (a .needs .now) (a .lows .now) (a .highs .now) (a .costs .now) in
+    let s = sliceFault 256 2048 0 (a .probes) (a .links) (a .needs .now) (a .lows .now) (a .highs .now) (a .costs .now) in
+    let p = link-parts s t (a .probe) (a .rec .now) (a .link) (sym (c .before .link-call-fault .ensures) ∙ c .if2 .left) in
+    let r = record-good t (a .probe) (a .rec .now) (p .1) in
+    omega (arith, r .0, p .2)
+
+returns-3 : tie.Need-returns-3
+unfolding linkCallFault
+returns-3 c = record { answer = rw (le-ltb _ _ (c .before .before .before .before .if1 .left), ← c .before .before .before .link-call-fault .ensures, eq-eqb _ _ (c .before .before .if2 .left), sym (c .before .is-sendable .ensures) ∙ not-true _ (c .if3 .taken)); line = rw (le-ltb _ _ (c .before .before .before .before .if1 .left), ← c .before .before .before .link-call-fault .ensures, eq-eqb _ _ (c .before .before .if2 .left), sym (c .before .is-sendable .ensures) ∙ not-true _ (c .if3 .taken)) }
+
+other-requires : tie.Need-other-requires
+other-requires c κs =
+    let a = c .before .before .before .before .before .before .before .before .before .before .before .args in
+    let t : Table = ofSlices 0 (a .probes) (a .links) (a .needs .now) (a .lows .now) (a .highs .now) (a .costs .now) in
+    let s = sliceFault 256 2048 0 (a .probes) (a .links) (a .needs .now) (a .lows .now) (a .highs .now) (a .costs .now) in
+    let p = link-parts s t (a .probe) (a .rec .now) (a .link) (sym (c .before .before .before .link-call-fault .ensures) ∙ c .before .before .if2 .left) in
+    let g = given 256 2048 0 (a .probes) (a .links) (a .needs .now) (a .lows .now) (a .highs .now) (a .costs .now) (p .0) in
+    (omega (arith, g .in-lows, p .2), omega (arith, g .in-highs, p .2))
+
+kind-of-requires : tie.Need-kind-of-requires
+kind-of-requires c κs = search needs
+
+write-frame-requires : tie.Need-write-frame-requires
+write-frame-requires c κs = search needs
+
+same-length : tie.Need-same-length
+same-length c = search needs
+
+returns-4 : tie.Need-returns-4
+unfolding linkCallFault
+returns-4 c =
+    let w = rw (c .before .before .before .kind-of .ensures, c .before .before .before .before .before .other .ensures) at (c .before .before .write-frame .ensures) in
+    record { answer = rw (le-ltb _ _ (c .before .before .before .before .before .before .before .before .before .before .if1 .left), ← c .before .before .before .before .before .before .before .before .before .link-call-fault .ensures, eq-eqb _ _ (c .before .before .before .before .before .before .before .before .if2 .left), sym (c .before .before .before .before .before .before .before .is-sendable .ensures) ∙ not-false _ (c .before .before .before .before .before .before .if3 .left)); line = rw (le-ltb _ _ (c .before .before .before .before .before .before .before .before .before .before .if1 .left), ← c .before .before .before .before .before .before .before .before .before .link-call-fault .ensures, eq-eqb _ _ (c .before .before .before .before .before .before .before .before .if2 .left), sym (c .before .before .before .before .before .before .before .is-sendable .ensures) ∙ not-false _ (c .before .before .before .before .before .before .if3 .left)) w }
+
+pub ask-spec : {M : Type 1} → statement M
+ask-spec =
+    tie.close
+    (tie.spec
+    returns
+    link-call-fault-requires
+    returns-2
+    is-sendable-requires
+    returns-3
+    other-requires
+    kind-of-requires
+    write-frame-requires
+    same-length
+    returns-4)

@@ -1,0 +1,68 @@
+use borrow.Author.Needs.{needs}
+use Rattle.probe.proofs.hear.Statement.{statement}
+use Rattle.probe.proofs.hear.Tie as tie
+use Rattle.probe.proofs.hear.Reads as reads
+use Rattle.probe.proofs.hear.Lts as lts
+use Rattle.probe.proofs.core.apply.Reads as apply-reads
+use Rattle.probe.proofs.core.event_of.Reads as event-of-reads
+use Rattle.probe.proofs.core.hear_fault.Reads as hear-fault-reads
+use mathlib.Core.Path.{_≡_, sym, _∙_, ap}
+use lib.ListN.{length}
+use Rattle.table.specs.Table.{Table, ofSlices}
+use Rattle.table.specs.Legal.{sliceFault}
+use Rattle.table.proofs.Slices.{given}
+use Rattle.rules.specs.Frames.{heardOf}
+use Rattle.rules.specs.declared.Event.{Event}
+use Rattle.rules.specs.Within.{EventWithin}
+use Rattle.rules.proofs.Ready.{ready}
+use Rattle.frame.specs.Frame.{frameOf}
+use Rattle.probe.specs.Checks.{heardFault, hearFault}
+use Rattle.probe.proofs.Accepted.{hear-parts, heard-frame, heard-within}
+use Rattle.probe.proofs.Calls.{refused-call, accepted-call}
+
+hear-fault-requires : tie.Need-hear-fault-requires
+hear-fault-requires c κs = search needs
+
+same-length : tie.Need-same-length
+same-length c = search needs
+
+returns : tie.Need-returns
+returns c = refused-call _ _ _ _ _ _ (c .before .hear-fault .ensures) (c .if1 .taken)
+
+event-of-requires : tie.Need-event-of-requires
+event-of-requires c κs =
+    let a = c .before .before .before .before .before .before .before .before .before .args in
+    let t : Table = ofSlices (a .number) (a .probes) (a .links) (a .needs .now) (a .lows .now) (a .highs .now) (a .costs .now) in
+    let s = sliceFault 256 2048 0 (a .probes) (a .links) (a .needs .now) (a .lows .now) (a .highs .now) (a .costs .now) in
+    let p = hear-parts s t (a .probe) (a .rec .now) (a .frame .now) (a .free) (sym (c .before .hear-fault .ensures) ∙ c .if1 .left) in
+    let g = given 256 2048 0 (a .probes) (a .links) (a .needs .now) (a .lows .now) (a .highs .now) (a .costs .now) (p .0) in
+    (g .in-lows, g .in-highs, heard-frame t (a .probe) (a .frame .now) (p .2))
+
+apply-requires : tie.Need-apply-requires
+apply-requires c κs =
+    let a = c .before .before .before .before .before .before .before .before .before .before .before .args in
+    let t : Table = ofSlices (a .number) (a .probes) (a .links) (a .needs .now) (a .lows .now) (a .highs .now) (a .costs .now) in
+    let s = sliceFault 256 2048 0 (a .probes) (a .links) (a .needs .now) (a .lows .now) (a .highs .now) (a .costs .now) in
+    let p = hear-parts s t (a .probe) (a .rec .now) (a .frame .now) (a .free) (sym (c .before .before .before .hear-fault .ensures) ∙ c .before .before .if1 .left) in
+    (ready 0 (a .probes) (a .links) (a .needs .now) (a .lows .now) (a .highs .now) (a .costs .now) (a .probe) (a .rec .now) (given 256 2048 0 (a .probes) (a .links) (a .needs .now) (a .lows .now) (a .highs .now) (a .costs .now) (p .0)) (p .1), rw (c .before .event-of .ensures) (heard-within t (a .probe) (a .frame .now) (p .2)))
+
+same-length-2 : tie.Need-same-length-2
+same-length-2 c = search needs
+
+returns-2 : tie.Need-returns-2
+returns-2 c =
+    let a = c .before .before .before .before .before .before .before .before .before .before .before .before .before .before .args in
+    let t : Table = ofSlices (a .number) (a .probes) (a .links) (a .needs .now) (a .lows .now) (a .highs .now) (a .costs .now) in
+    accepted-call _ (a .number) (a .probes) (a .links) (a .needs .now) (a .lows .now) (a .highs .now) (a .costs .now) (a .probe) (heardOf t (frameOf (a .frame .now))) (a .rec .now) _ _ (sym (c .before .before .before .before .before .before .hear-fault .ensures) ∙ c .before .before .before .before .before .if1 .left) (rw (c .before .before .before .before .event-of .ensures) at (c .before .before .apply .ensures .0)) (rw (c .before .before .before .before .event-of .ensures) at (c .before .before .apply .ensures .1))
+
+pub hear-spec : {M : Type 1} → statement M
+hear-spec =
+    tie.close
+    (tie.spec
+    hear-fault-requires
+    same-length
+    returns
+    event-of-requires
+    apply-requires
+    same-length-2
+    returns-2)

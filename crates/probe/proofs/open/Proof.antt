@@ -1,0 +1,53 @@
+use borrow.Author.Needs.{needs}
+use Rattle.probe.proofs.open.Statement.{statement}
+use Rattle.probe.proofs.open.Tie as tie
+use Rattle.probe.proofs.open.Reads as reads
+use Rattle.probe.proofs.open.Lts as lts
+use Rattle.probe.proofs.core.apply.Reads as apply-reads
+use Rattle.probe.proofs.core.open_fault.Reads as open-fault-reads
+use mathlib.Core.Path.{_≡_, sym, _∙_, ap}
+use lib.ListN.{length}
+use borrow.Author.Tests.{eq-eqb, ne-eqb}
+use Rattle.table.specs.Table.{Table, ofSlices}
+use Rattle.table.specs.Legal.{sliceFault}
+use Rattle.table.proofs.Slices.{given}
+use Rattle.entry.specs.Entry.{answerOf}
+use Rattle.rules.specs.declared.Event.the-variants.{Opening}
+use Rattle.rules.specs.Rules.{befalls, alter, entryOf}
+use Rattle.rules.proofs.Ready.{ready}
+use Rattle.probe.specs.Checks.{openFault}
+use Rattle.probe.proofs.Accepted.{open-parts}
+use Rattle.probe.proofs.Calls.{refused-call, accepted-call}
+
+open-fault-requires : tie.Need-open-fault-requires
+open-fault-requires c κs = search needs
+
+same-length : tie.Need-same-length
+same-length c = search needs
+
+returns : tie.Need-returns
+unfolding openFault
+returns c = refused-call _ _ _ _ _ _ (c .before .open-fault .ensures) (c .if1 .taken)
+
+apply-requires : tie.Need-apply-requires
+unfolding openFault
+apply-requires c κs =
+    let a = c .before .before .before .before .before .before .before .before .before .args in
+    let t : Table = ofSlices 0 (a .probes) (a .links) (a .needs .now) (a .lows .now) (a .highs .now) (a .costs .now) in
+    let s = sliceFault 256 2048 0 (a .probes) (a .links) (a .needs .now) (a .lows .now) (a .highs .now) (a .costs .now) in
+    let p = open-parts s t (a .probe) (a .rec .now) (a .free) (sym (c .before .before .open-fault .ensures) ∙ c .before .if1 .left) in
+    (ready 0 (a .probes) (a .links) (a .needs .now) (a .lows .now) (a .highs .now) (a .costs .now) (a .probe) (a .rec .now) (given 256 2048 0 (a .probes) (a .links) (a .needs .now) (a .lows .now) (a .highs .now) (a .costs .now) (p .0)) (p .1), tt)
+
+same-length-2 : tie.Need-same-length-2
+same-length-2 c = search needs
+
+returns-2 : tie.Need-returns-2
+unfolding openFault
+returns-2 c =
+    let a = c .before .before .before .before .before .before .before .before .before .before .before .before .args in
+    accepted-call _ (a .number) (a .probes) (a .links) (a .needs .now) (a .lows .now) (a .highs .now) (a .costs .now) (a .probe) Opening (a .rec .now) _ _ (sym (c .before .before .before .before .before .open-fault .ensures) ∙ c .before .before .before .before .if1 .left) (c .before .before .apply .ensures .0) (c .before .before .apply .ensures .1)
+
+pub open-spec : {M : Type 1} → statement M
+open-spec =
+    tie.close
+    (tie.spec open-fault-requires same-length returns apply-requires same-length-2 returns-2)

@@ -1,0 +1,51 @@
+-- What the calls of one end promise: the answer, and the lent buffers at exit.
+use Prim.Native.Nat.{ℕ}
+use mathlib.Core.Path.{_≡_}
+use mathlib.Core.Bool.{Bool, cond, _&&_}
+use mathlib.Core.List.{List}
+use lib.Dec.{ltb, eqb}
+use lib.Seq.{sets}
+use Rattle.table.specs.Table.{Table}
+use Rattle.frame.specs.Frame.{frameLine}
+use Rattle.entry.specs.declared.Answer.{Answer}
+use Rattle.entry.specs.Entry.{answerOf}
+use Rattle.rules.specs.declared.Event.{Event}
+use Rattle.rules.specs.declared.Event.the-variants.{Offer, Refusal}
+use Rattle.rules.specs.Rules.{befalls, alter, entryOf, other, sendable}
+use Rattle.probe.specs.declared.Kind.{Kind}
+use Rattle.probe.specs.declared.Kind.the-variants as kind
+use Rattle.probe.specs.declared.Asked.{Asked}
+use Rattle.probe.specs.declared.Asked.the-variants as asked
+use Rattle.probe.specs.declared.Resting.{Resting}
+use Rattle.probe.specs.declared.Resting.the-variants as resting
+
+-- an event at the probe p: its entry and the altered record, or the refusal alone and the record unchanged
+pub record Befallen (fault : ℕ) (t : Table) (p : ℕ) (event : Event) (r : Answer) (before after : List ℕ) : Type 0 where
+  pub answer : r ≡ answerOf fault (entryOf t p (befalls t p event before))
+  pub record-after : after ≡ cond (eqb fault 0) (alter (befalls t p event before) before) before
+
+-- a frame asked for: its kind's number, and what the other end would hear
+abbrev pub kindOf : Kind → ℕ
+kindOf kind.Offer = 1
+kindOf kind.Refusal = 2
+
+abbrev pub askedEvent : Kind → ℕ → Event
+askedEvent kind.Offer i = Offer i
+askedEvent kind.Refusal i = Refusal i
+
+-- 8 for a lent slice shorter than a frame's line
+abbrev pub lentFault : ℕ → ℕ
+lentFault lent = cond (ltb lent 15) 8 0
+
+-- the line of the frame from the probe p on the link i
+abbrev pub askedLine : Table → ℕ → Kind → ℕ → List ℕ
+askedLine t p k i = frameLine (record { kind = kindOf k; number = t .number; from = p; to = other t p i })
+
+-- "an end writes the frame's line at the start of a lent slice, or answers that it may not be sent now and writes nothing"
+pub record Asks (fault : ℕ) (t : Table) (p : ℕ) (k : Kind) (i : ℕ) (e : List ℕ) (r : Asked) (before after : List ℕ) : Type 0 where
+  pub answer : r ≡ cond (eqb fault 0) (cond (sendable (askedEvent k i) e) asked.Written asked.NotNow) (asked.Refused fault)
+  pub line : after ≡ cond (eqb fault 0 && sendable (askedEvent k i) e) (sets before 0 (askedLine t p k i)) before
+
+-- whether the end rests the link, or the refusal
+abbrev pub restingOf : ℕ → Bool → Resting
+restingOf fault b = cond (eqb fault 0) (resting.Rests b) (resting.Refused fault)

@@ -1,0 +1,56 @@
+-- The checks of one end alone: document 01, "Turned down for the state". A fault is a refusal's number, or 0 for none. `slices` is the fault of the table in its slices.
+use Prim.Native.Nat.{ℕ}
+use mathlib.Core.Bool.{cond, _&&_, _||_}
+use mathlib.Core.List.{List}
+use lib.Dec.{ltb, eqb}
+use Rattle.range.specs.First.{orElse}
+use Rattle.table.specs.Table.{Table, touches}
+use Rattle.frame.specs.Frame.{Frame, frameOf, frameFault}
+use Rattle.record.specs.Record.{outbound, recordFault}
+use Rattle.rules.specs.declared.Event.{Event}
+use Rattle.rules.specs.declared.Event.the-variants.{Opening, Offer, Refusal}
+use Rattle.rules.specs.Frames.{between, numberFault, heardOf}
+
+-- 9: "Kind 01 is an offer, 02 a refusal"; an end alone knows no other
+abbrev pub kindFault : Frame → ℕ
+kindFault f = cond (eqb (f .kind) 1 || eqb (f .kind) 2) 0 9
+
+-- 24: "No such probe, a frame for another probe, .. or no such link."
+abbrev pub toFault : Table → ℕ → Frame → ℕ
+toFault t p f = cond (eqb (f .to) p && ltb (between t (f .from) (f .to)) (t .links)) 0 24
+
+abbrev pub probeFault : Table → ℕ → ℕ
+probeFault t p = cond (ltb p (t .probes)) 0 24
+
+-- "A link not its own is refused by 24."
+abbrev pub linkFault : Table → ℕ → ℕ → ℕ
+linkFault t p i = cond (ltb i (t .links) && touches t p i) 0 24
+
+-- 25: "One end alone: a refusal where outbound is 0."
+abbrev pub untriedFault : Event → List ℕ → ℕ
+untriedFault Opening e = 0
+untriedFault (Offer i) e = 0
+untriedFault (Refusal i) e = cond (eqb (outbound e i) 0) 25 0
+
+-- 26: "The log is full."
+abbrev pub fullFault : ℕ → ℕ
+fullFault free = cond (eqb free 0) 26 0
+
+-- "the frame's 1, 2, 9, 23, 24"
+unfoldable pub heardFault : Table → ℕ → List ℕ → ℕ
+heardFault t p l =
+    let f = frameOf l in
+    orElse (frameFault l) (orElse (kindFault f) (orElse (numberFault t f) (toFault t p f)))
+
+-- "These come after the table's checks: 20, 21, 22, then the frame's 1, 2, 9, 23, 24, then 25 .., then 26."
+unfoldable pub hearFault : ℕ → Table → ℕ → List ℕ → List ℕ → ℕ → ℕ
+hearFault slices t p e l free =
+    orElse slices
+    (orElse (recordFault t p e) (orElse (heardFault t p l) (orElse (untriedFault (heardOf t (frameOf l)) e) (fullFault free))))
+
+unfoldable pub openFault : ℕ → Table → ℕ → List ℕ → ℕ → ℕ
+openFault slices t p e free = orElse slices (orElse (recordFault t p e) (orElse (probeFault t p) (fullFault free)))
+
+-- of a call about one link; 8 for a lent slice comes with the table's own
+unfoldable pub linkCallFault : ℕ → Table → ℕ → List ℕ → ℕ → ℕ
+linkCallFault slices t p e i = orElse slices (orElse (recordFault t p e) (linkFault t p i))

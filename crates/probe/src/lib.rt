@@ -1,0 +1,213 @@
+// One end of the bargaining, alone: it opens, hears frames, is asked for frames, and rests links. Links go by their place in the table.
+ghost use mathlib.Core.Path.{_≡_};
+ghost use lib.ListN.{length};
+ghost use Rattle.range.specs.First.{orElse};
+ghost use Rattle.table.specs.Table.{ofSlices};
+ghost use Rattle.table.specs.Legal.{sliceFault};
+ghost use Rattle.frame.specs.Frame.{frameOf};
+ghost use Rattle.rules.specs.declared.Event.the-variants.{Opening};
+ghost use Rattle.rules.specs.Rules.{rests};
+ghost use Rattle.rules.specs.Frames.{heardOf};
+ghost use Rattle.probe.specs.Checks.{hearFault, openFault, linkCallFault};
+ghost use Rattle.probe.specs.Answers.{Befallen, Asks, lentFault, restingOf};
+
+pub mod core;
+
+// A kind of frame to ask for.
+pub enum Kind {
+    Offer,
+    Refusal,
+}
+
+// The answer to asking: the line is written, or the frame may not be sent now, or the number of the refusal.
+pub enum Asked {
+    Written,
+    NotNow,
+    Refused(u8),
+}
+
+// Whether a link rests, or the number of the refusal.
+pub enum Resting {
+    Rests(bool),
+    Refused(u8),
+}
+
+// The probe opens. `free` entries of its log are free.
+pub fn open(
+    number: u16,
+    probes: u16,
+    links: u16,
+    needs: &[u16],
+    lows: &[u16],
+    highs: &[u16],
+    costs: &[u16],
+    probe: u16,
+    rec: &mut [u8],
+    free: usize,
+) -> entry::Answer
+    ensures { λ r. ⌜ Befallen
+        (openFault (sliceFault 256 2048 number probes links (now (needs .entry)) (now (lows .entry)) (now (highs .entry)) (now (costs .entry)))
+        (ofSlices number probes links (now (needs .entry)) (now (lows .entry)) (now (highs .entry)) (now (costs .entry))) probe (now (rec .entry)) free)
+        (ofSlices number probes links (now (needs .entry)) (now (lows .entry)) (now (highs .entry)) (now (costs .entry))) probe Opening
+        r (now (rec .entry)) (now (rec .exit)) ⌝ }
+{
+    let fault = core::open_fault(
+        probes as usize,
+        links as usize,
+        needs,
+        lows,
+        highs,
+        costs,
+        probe as usize,
+        rec,
+        free,
+    );
+    if fault != 0 {
+        return entry::Answer::Refused(fault);
+    }
+    let e = core::apply(
+        rules::Event::Opening,
+        probes as usize,
+        links as usize,
+        needs,
+        lows,
+        highs,
+        costs,
+        probe,
+        rec,
+    );
+    entry::Answer::Logged(e)
+}
+
+// The probe hears a frame, of any bytes.
+pub fn hear(
+    number: u16,
+    probes: u16,
+    links: u16,
+    needs: &[u16],
+    lows: &[u16],
+    highs: &[u16],
+    costs: &[u16],
+    probe: u16,
+    rec: &mut [u8],
+    frame: &[u8],
+    free: usize,
+) -> entry::Answer
+    ensures { λ r. ⌜ Befallen
+        (hearFault (sliceFault 256 2048 number probes links (now (needs .entry)) (now (lows .entry)) (now (highs .entry)) (now (costs .entry)))
+        (ofSlices number probes links (now (needs .entry)) (now (lows .entry)) (now (highs .entry)) (now (costs .entry))) probe (now (rec .entry)) (now (frame .entry)) free)
+        (ofSlices number probes links (now (needs .entry)) (now (lows .entry)) (now (highs .entry)) (now (costs .entry))) probe
+        (heardOf (ofSlices number probes links (now (needs .entry)) (now (lows .entry)) (now (highs .entry)) (now (costs .entry))) (frameOf (now (frame .entry))))
+        r (now (rec .entry)) (now (rec .exit)) ⌝ }
+{
+    let fault = core::hear_fault(
+        number,
+        probes as usize,
+        links as usize,
+        needs,
+        lows,
+        highs,
+        costs,
+        probe as usize,
+        rec,
+        frame,
+        free,
+    );
+    if fault != 0 {
+        return entry::Answer::Refused(fault);
+    }
+    let event = core::event_of(links as usize, lows, highs, frame);
+    let e = core::apply(
+        event,
+        probes as usize,
+        links as usize,
+        needs,
+        lows,
+        highs,
+        costs,
+        probe,
+        rec,
+    );
+    entry::Answer::Logged(e)
+}
+
+// The probe is asked for a frame on a link.
+pub fn ask(
+    number: u16,
+    probes: u16,
+    links: u16,
+    needs: &[u16],
+    lows: &[u16],
+    highs: &[u16],
+    costs: &[u16],
+    probe: u16,
+    rec: &[u8],
+    kind: Kind,
+    link: u16,
+    out: &mut [u8],
+) -> Asked
+    ensures { λ r. ⌜ Asks
+        (orElse (lentFault (length (now (out .entry)))) (linkCallFault (sliceFault 256 2048 number probes links (now (needs .entry)) (now (lows .entry)) (now (highs .entry)) (now (costs .entry)))
+        (ofSlices number probes links (now (needs .entry)) (now (lows .entry)) (now (highs .entry)) (now (costs .entry))) probe (now (rec .entry)) link))
+        (ofSlices number probes links (now (needs .entry)) (now (lows .entry)) (now (highs .entry)) (now (costs .entry))) probe kind link (now (rec .entry))
+        r (now (out .entry)) (now (out .exit)) ⌝ }
+{
+    if out.len() < 15 {
+        return Asked::Refused(8);
+    }
+    let fault = core::link_call_fault(
+        probes as usize,
+        links as usize,
+        needs,
+        lows,
+        highs,
+        costs,
+        probe as usize,
+        rec,
+        link as usize,
+    );
+    if fault != 0 {
+        return Asked::Refused(fault);
+    }
+    if !core::is_sendable(kind, rec, link as usize) {
+        return Asked::NotNow;
+    }
+    let to = rules::core::other(lows, highs, probe, link as usize);
+    frame::core::write_frame(out, core::kind_of(kind), number, probe, to);
+    Asked::Written
+}
+
+// Whether the probe rests a link.
+pub fn rests(
+    number: u16,
+    probes: u16,
+    links: u16,
+    needs: &[u16],
+    lows: &[u16],
+    highs: &[u16],
+    costs: &[u16],
+    probe: u16,
+    rec: &[u8],
+    link: u16,
+) -> Resting
+    ensures { λ r. ⌜ r ≡ restingOf
+        (linkCallFault (sliceFault 256 2048 number probes links (now (needs .entry)) (now (lows .entry)) (now (highs .entry)) (now (costs .entry)))
+        (ofSlices number probes links (now (needs .entry)) (now (lows .entry)) (now (highs .entry)) (now (costs .entry))) probe (now (rec .entry)) link)
+        (rests (now (rec .entry)) link) ⌝ }
+{
+    let fault = core::link_call_fault(
+        probes as usize,
+        links as usize,
+        needs,
+        lows,
+        highs,
+        costs,
+        probe as usize,
+        rec,
+        link as usize,
+    );
+    if fault != 0 {
+        return Resting::Refused(fault);
+    }
+    Resting::Rests(core::both_one(rec, link as usize))
+}

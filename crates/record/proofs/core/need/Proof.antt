@@ -1,0 +1,26 @@
+use borrow.Author.Needs.{needs}
+use Rattle.record.proofs.core.need.Statement.{statement}
+use Rattle.record.proofs.core.need.Tie as tie
+use Rattle.record.proofs.core.need.Reads as reads
+use Rattle.record.proofs.core.need.Lts as lts
+use Rattle.table.proofs.core.wide.Reads as wide-reads
+use mathlib.Core.Path.{sym}
+use lib.ListN.{List·getD-eq-default}
+
+returns : tie.Need-returns
+returns c = sym (List·getD-eq-default (c .before .before .args .needs .now) 0 (c .if1 .taken))
+
+mul-wide : tie.Need-mul-wide
+mul-wide c = search needs
+
+shared-slice-read-wide : tie.Need-shared-slice-read-wide
+shared-slice-read-wide c = search needs
+
+wide-requires : tie.Need-wide-requires
+wide-requires c κs = search needs
+
+returns-2 : tie.Need-returns-2
+returns-2 c = search needs
+
+pub need-spec : {M : Type 1} → statement M
+need-spec = tie.close (tie.spec returns mul-wide shared-slice-read-wide wide-requires returns-2)

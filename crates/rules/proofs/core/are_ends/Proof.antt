@@ -1,0 +1,15 @@
+use borrow.Author.Needs.{needs}
+use Rattle.rules.proofs.core.are_ends.Statement.{statement}
+use Rattle.rules.proofs.core.are_ends.Tie as tie
+use Rattle.rules.proofs.core.are_ends.Reads as reads
+use Rattle.rules.proofs.core.are_ends.Lts as lts
+use borrow.Author.Tests.{eq-eqb, ne-eqb}
+
+returns : tie.Need-returns
+returns c = rw (ne-eqb _ _ (c .if1 .taken))
+
+returns-2 : tie.Need-returns-2
+returns-2 c = rw (eq-eqb _ _ (c .if1 .left))
+
+pub are-ends-spec : {M : Type 1} → statement M
+are-ends-spec = tie.close (tie.spec returns returns-2)

@@ -1,0 +1,16 @@
+use borrow.Author.Needs.{needs}
+use Rattle.rules.proofs.core.entry_of.Statement.{statement}
+use Rattle.rules.proofs.core.entry_of.Tie as tie
+use Rattle.rules.proofs.core.entry_of.Reads as reads
+use Rattle.rules.proofs.core.entry_of.Lts as lts
+use Rattle.rules.proofs.core.what_of.Reads as what-of-reads
+use mathlib.Core.Path.{_≡_}
+
+what-of-requires : tie.Need-what-of-requires
+what-of-requires c κs = search needs
+
+returns : tie.Need-returns
+returns c = rw (c .what-of .ensures)
+
+pub entry-of-spec : {M : Type 1} → statement M
+entry-of-spec = tie.close (tie.spec what-of-requires returns)

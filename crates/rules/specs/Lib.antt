@@ -1,0 +1,3 @@
+pub mod Rules
+pub mod Frames
+pub mod Within

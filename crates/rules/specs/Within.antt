@@ -1,0 +1,37 @@
+-- What the functions of `core` ask of their arguments.
+use Prim.Native.Nat.{ℕ, _*_, _≤_, _<_}
+use mathlib.Core.Path.{_≡_}
+use mathlib.Core.List.{List}
+use lib.ListN.{length}
+use Rattle.range.specs.First.{first}
+use Rattle.table.specs.Table.{Table}
+use Rattle.table.specs.Legal.{Legal}
+use Rattle.record.specs.Record.{byteFault}
+use Rattle.rules.specs.declared.Event.{Event}
+use Rattle.rules.specs.declared.Event.the-variants.{Opening, Offer, Refusal}
+use Rattle.rules.specs.declared.Outcome.{Outcome}
+use Rattle.rules.specs.declared.Outcome.the-variants.{Opened, NothingToOpen, Taken, Displacing, Refused, Learnt, NoChange}
+
+-- the links are below a number
+abbrev pub EventWithin : ℕ → Event → Type 0
+EventWithin n Opening = Unit
+EventWithin n (Offer i) = i < n
+EventWithin n (Refusal i) = i < n
+
+abbrev pub Within : ℕ → Outcome → Type 0
+Within n (Opened i) = i < n
+Within n NothingToOpen = Unit
+Within n (Taken i) = i < n
+Within n (Displacing i c) = (i < n) × (c < n)
+Within n (Refused i) = i < n
+Within n (Learnt i) = i < n
+Within n (NoChange i) = i < n
+
+-- a legal table in slices of these lengths, and a record that 21 lets pass
+pub record Ready (t : Table) (p : ℕ) (e : List ℕ) (lows highs costs : ℕ) : Type 0 where
+  pub legal : Legal t
+  pub in-lows : t .links ≤ lows
+  pub in-highs : t .links ≤ highs
+  pub in-costs : t .links ≤ costs
+  pub room : 2 * t .links ≤ length e
+  pub bytes : first (byteFault t p e) (t .links) ≡ 0
