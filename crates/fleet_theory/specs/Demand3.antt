@@ -7,14 +7,14 @@ use mathlib.Core.List.{List, [], _∷_, _++_}
 use lib.ListN.{length}
 use Rattle.table.specs.Table.{Table, item, touches}
 use Rattle.cover_theory.specs.Plan.{rested, kept, linksAt, costOf, Meets}
-use Rattle.frame.specs.Frame.{Frame, frameOf, frameLine}
+use Rattle.frame.specs.Frame.{Frame, frameOf}
 use Rattle.entry.specs.declared.Entry.{Entry}
 use Rattle.entry.specs.declared.What.{What}
 use Rattle.entry.specs.declared.What.the-variants as what
 use Rattle.entry.specs.declared.Answer.the-variants.{Logged, Refused}
 use Rattle.rules.specs.Rules.{sendable, rests}
 use Rattle.rules.specs.Frames.{joins, heardOf}
-use Rattle.fleet_theory.specs.Fleet.{Slices, tableOf, slicesFault, State, start, own, lineFault, answerTo, next, run, changes, finished}
+use Rattle.fleet_theory.specs.Fleet.{Slices, tableOf, State, start, own, lineFault, answerTo, next, run, changes, finished}
 
 -- "a frame": a line's frame that is no opening
 abbrev pub IsFrame : Frame → Type 0

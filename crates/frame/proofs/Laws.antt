@@ -1,17 +1,16 @@
 -- Frame lines: what a good one has, and that a frame's line says the frame.
-use Prim.Native.Nat.{ℕ, _+_, _≤_, _<_}
-use mathlib.Core.Path.{_≡_, refl, sym, _∙_}
+use Prim.Native.Nat.{ℕ, _+_, _<_}
+use mathlib.Core.Path.{_≡_, _∙_}
 use mathlib.Core.Bool.{cond}
-use mathlib.Core.List.{List, [], _∷_, _++_}
+use mathlib.Core.List.{List, [], _∷_}
 use native.Mathlib.Nat.{zero-add}
 use native.Mathlib.Omega.{arith}
 use lib.Dec.{eqb}
-use lib.ListN.{length, getD, take, drop, length-append}
+use lib.ListN.{length, getD, length-append}
 use lib.Seq.{take-all}
 use borrow.Author.Tests.{eqb-true}
-use Rattle.range.specs.First.{orElse}
 use Rattle.range.proofs.Bools.{unless-none}
-use Rattle.range.proofs.Faults.{or-left, or-right, or-none}
+use Rattle.range.proofs.Faults.{or-left, or-right}
 use Rattle.hex.specs.Digits.{valueOf, digits}
 use Rattle.hex.proofs.Laws.{length-digits, digits-are, number-digits, number-fits}
 use Rattle.lines.specs.Digits.{lineFault}

@@ -2,7 +2,7 @@
 use Prim.Native.Nat.{ℕ, _≤_, _<_}
 use mathlib.Core.Path.{_≡_}
 use mathlib.Core.Logic.{_⊎_, inl, inr}
-use mathlib.Core.Bool.{Bool, true, false, cond, _&&_, _||_}
+use mathlib.Core.Bool.{true, false, _&&_, _||_}
 use mathlib.Core.List.{List}
 use lib.Dec.{ltb, eqb}
 use native.Mathlib.Omega.{arith}
@@ -14,7 +14,6 @@ use Rattle.range.proofs.Faults.{or-left, or-right, or-through, or-past}
 use Rattle.table.specs.Table.{Table, touches}
 use Rattle.frame.specs.Frame.{Frame, frameOf, frameFault}
 use Rattle.record.specs.Record.{recordFault}
-use Rattle.rules.specs.declared.Event.the-variants.{Offer, Refusal}
 use Rattle.rules.specs.Frames.{between, numberFault, heardOf}
 use Rattle.rules.specs.Within.{EventWithin}
 use Rattle.probe.specs.Checks.{kindFault, toFault, probeFault, linkFault, untriedFault, fullFault, heardFault, hearFault, openFault, linkCallFault}

@@ -1,7 +1,7 @@
 -- A frame against a table: document 01, refusals 9, 23 and 24, and the link of a frame.
 use Prim.Native.Nat.{ℕ}
 use mathlib.Core.Bool.{Bool, cond, _&&_, _||_}
-use lib.Dec.{ltb, eqb}
+use lib.Dec.{eqb}
 use Rattle.range.specs.Choice.{lowest}
 use Rattle.table.specs.Table.{Table}
 use Rattle.frame.specs.Frame.{Frame}

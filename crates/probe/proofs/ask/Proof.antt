@@ -1,14 +1,8 @@
+-- `probe::ask` meets its contract.
 use borrow.Author.Needs.{needs}
 use Rattle.probe.proofs.ask.Statement.{statement}
 use Rattle.probe.proofs.ask.Tie as tie
-use Rattle.probe.proofs.ask.Reads as reads
-use Rattle.probe.proofs.ask.Lts as lts
-use Rattle.frame.proofs.core.write_frame.Reads as write-frame-reads
-use Rattle.probe.proofs.core.is_sendable.Reads as is-sendable-reads
-use Rattle.probe.proofs.core.kind_of.Reads as kind-of-reads
-use Rattle.probe.proofs.core.link_call_fault.Reads as link-call-fault-reads
-use Rattle.rules.proofs.core.other.Reads as other-reads
-use mathlib.Core.Path.{_≡_, sym, _∙_, ap}
+use mathlib.Core.Path.{sym, _∙_}
 use native.Mathlib.Omega.{arith}
 use borrow.Author.Tests.{eq-eqb, ne-eqb, lt-ltb, le-ltb, not-true, not-false}
 use Rattle.table.specs.Table.{Table, ofSlices}

@@ -1,22 +1,14 @@
+-- `probe::hear` meets its contract.
 use borrow.Author.Needs.{needs}
 use Rattle.probe.proofs.hear.Statement.{statement}
 use Rattle.probe.proofs.hear.Tie as tie
-use Rattle.probe.proofs.hear.Reads as reads
-use Rattle.probe.proofs.hear.Lts as lts
-use Rattle.probe.proofs.core.apply.Reads as apply-reads
-use Rattle.probe.proofs.core.event_of.Reads as event-of-reads
-use Rattle.probe.proofs.core.hear_fault.Reads as hear-fault-reads
-use mathlib.Core.Path.{_≡_, sym, _∙_, ap}
-use lib.ListN.{length}
+use mathlib.Core.Path.{sym, _∙_}
 use Rattle.table.specs.Table.{Table, ofSlices}
 use Rattle.table.specs.Legal.{sliceFault}
 use Rattle.table.proofs.Slices.{given}
 use Rattle.rules.specs.Frames.{heardOf}
-use Rattle.rules.specs.declared.Event.{Event}
-use Rattle.rules.specs.Within.{EventWithin}
 use Rattle.rules.proofs.Ready.{ready}
 use Rattle.frame.specs.Frame.{frameOf}
-use Rattle.probe.specs.Checks.{heardFault, hearFault}
 use Rattle.probe.proofs.Accepted.{hear-parts, heard-frame, heard-within}
 use Rattle.probe.proofs.Calls.{refused-call, accepted-call}
 

@@ -1,19 +1,12 @@
+-- `probe::open` meets its contract.
 use borrow.Author.Needs.{needs}
 use Rattle.probe.proofs.open.Statement.{statement}
 use Rattle.probe.proofs.open.Tie as tie
-use Rattle.probe.proofs.open.Reads as reads
-use Rattle.probe.proofs.open.Lts as lts
-use Rattle.probe.proofs.core.apply.Reads as apply-reads
-use Rattle.probe.proofs.core.open_fault.Reads as open-fault-reads
-use mathlib.Core.Path.{_≡_, sym, _∙_, ap}
-use lib.ListN.{length}
-use borrow.Author.Tests.{eq-eqb, ne-eqb}
+use mathlib.Core.Path.{sym, _∙_}
 use Rattle.table.specs.Table.{Table, ofSlices}
 use Rattle.table.specs.Legal.{sliceFault}
 use Rattle.table.proofs.Slices.{given}
-use Rattle.entry.specs.Entry.{answerOf}
 use Rattle.rules.specs.declared.Event.the-variants.{Opening}
-use Rattle.rules.specs.Rules.{befalls, alter, entryOf}
 use Rattle.rules.proofs.Ready.{ready}
 use Rattle.probe.specs.Checks.{openFault}
 use Rattle.probe.proofs.Accepted.{open-parts}

@@ -1,11 +1,8 @@
+-- `probe::rests` meets its contract.
 use borrow.Author.Needs.{needs}
 use Rattle.probe.proofs.rests.Statement.{statement}
 use Rattle.probe.proofs.rests.Tie as tie
-use Rattle.probe.proofs.rests.Reads as reads
-use Rattle.probe.proofs.rests.Lts as lts
-use Rattle.probe.proofs.core.both_one.Reads as both-one-reads
-use Rattle.probe.proofs.core.link_call_fault.Reads as link-call-fault-reads
-use mathlib.Core.Path.{_≡_, sym, _∙_}
+use mathlib.Core.Path.{sym, _∙_}
 use native.Mathlib.Omega.{arith}
 use borrow.Author.Tests.{eq-eqb, ne-eqb}
 use Rattle.table.specs.Table.{Table, ofSlices}

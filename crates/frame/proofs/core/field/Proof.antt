@@ -1,9 +1,7 @@
+-- `frame::core::field` meets its contract.
 use borrow.Author.Needs.{needs}
 use Rattle.frame.proofs.core.field.Statement.{statement}
 use Rattle.frame.proofs.core.field.Tie as tie
-use Rattle.frame.proofs.core.field.Reads as reads
-use Rattle.frame.proofs.core.field.Lts as lts
-use Rattle.hex.proofs.core.number.Reads as number-reads
 use native.Mathlib.Omega.{arith}
 use Rattle.frame.proofs.Laws.{frame-good}
 

@@ -1,10 +1,8 @@
+-- `frame::core::frame_fault` meets its contract.
 use borrow.Author.Needs.{needs}
 use Rattle.frame.specs.Frame.{frameFault}
 use Rattle.frame.proofs.core.frame_fault.Statement.{statement}
 use Rattle.frame.proofs.core.frame_fault.Tie as tie
-use Rattle.frame.proofs.core.frame_fault.Reads as reads
-use Rattle.frame.proofs.core.frame_fault.Lts as lts
-use Rattle.lines.proofs.line_fault.Reads as line-fault-reads
 use borrow.Author.Tests.{ne-eqb, eq-eqb}
 
 returns : tie.Need-returns

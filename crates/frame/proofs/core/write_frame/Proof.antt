@@ -1,11 +1,8 @@
+-- `frame::core::write_frame` meets its contract.
 use borrow.Author.Needs.{needs}
 use Rattle.frame.specs.Frame.{frameLine}
 use Rattle.frame.proofs.core.write_frame.Statement.{statement}
 use Rattle.frame.proofs.core.write_frame.Tie as tie
-use Rattle.frame.proofs.core.write_frame.Reads as reads
-use Rattle.frame.proofs.core.write_frame.Lts as lts
-use Rattle.hex.proofs.core.put_number.Reads as put-number-reads
-use Rattle.table_write.proofs.core.put_triple.Reads as put-triple-reads
 use native.Mathlib.Omega.{arith}
 use Rattle.hex.specs.Digits.{digits}
 use Rattle.hex.proofs.Laws.{length-digits}

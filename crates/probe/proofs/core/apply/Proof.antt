@@ -1,20 +1,15 @@
+-- `probe::core::apply` meets its contract.
 use borrow.Author.Needs.{needs}
 use Rattle.probe.proofs.core.apply.Statement.{statement}
 use Rattle.probe.proofs.core.apply.Tie as tie
-use Rattle.probe.proofs.core.apply.Reads as reads
-use Rattle.probe.proofs.core.apply.Lts as lts
-use Rattle.rules.proofs.core.alter.Reads as alter-reads
-use Rattle.rules.proofs.core.decide.Reads as decide-reads
-use Rattle.rules.proofs.core.entry_of.Reads as entry-of-reads
-use mathlib.Core.Path.{_≡_, sym, _∙_, ap}
+use mathlib.Core.Path.{_∙_, ap}
 use Prim.Native.Nat.{_/_, _≤_}
 use native.Mathlib.Omega.{arith}
 use lib.ListN.{length}
 use Rattle.table.specs.Table.{Table, ofSlices}
 use Rattle.rules.proofs.Outcomes.{few-links}
 use Rattle.rules.specs.declared.Outcome.{Outcome}
-use Rattle.rules.specs.Rules.{befalls, alter, entryOf}
-use Rattle.rules.specs.Within.{Within}
+use Rattle.rules.specs.Rules.{befalls, alter}
 use Rattle.rules.proofs.Outcomes.{befalls-within, within-wider, entry-same}
 
 decide-requires : tie.Need-decide-requires

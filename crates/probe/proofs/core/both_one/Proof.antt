@@ -1,8 +1,7 @@
+-- `probe::core::both_one` meets its contract.
 use borrow.Author.Needs.{needs}
 use Rattle.probe.proofs.core.both_one.Statement.{statement}
 use Rattle.probe.proofs.core.both_one.Tie as tie
-use Rattle.probe.proofs.core.both_one.Reads as reads
-use Rattle.probe.proofs.core.both_one.Lts as lts
 use borrow.Author.Tests.{eq-eqb, ne-eqb}
 
 mul-if1 : tie.Need-mul-if1

@@ -1,10 +1,7 @@
+-- `probe::core::event_of` meets its contract.
 use borrow.Author.Needs.{needs}
 use Rattle.probe.proofs.core.event_of.Statement.{statement}
 use Rattle.probe.proofs.core.event_of.Tie as tie
-use Rattle.probe.proofs.core.event_of.Reads as reads
-use Rattle.probe.proofs.core.event_of.Lts as lts
-use Rattle.frame.proofs.core.field.Reads as field-reads
-use Rattle.rules.proofs.core.between.Reads as between-reads
 use borrow.Author.Tests.{eq-eqb, ne-eqb}
 
 field-requires : tie.Need-field-requires

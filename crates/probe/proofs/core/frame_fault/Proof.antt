@@ -1,13 +1,8 @@
+-- `probe::core::frame_fault` meets its contract.
 use borrow.Author.Needs.{needs}
 use Rattle.probe.proofs.core.frame_fault.Statement.{statement}
 use Rattle.probe.proofs.core.frame_fault.Tie as tie
-use Rattle.probe.proofs.core.frame_fault.Reads as reads
-use Rattle.probe.proofs.core.frame_fault.Lts as lts
-use Rattle.frame.proofs.core.field.Reads as field-reads
-use Rattle.frame.proofs.core.frame_fault.Reads as frame-fault-reads
-use Rattle.rules.proofs.core.between.Reads as between-reads
-use Rattle.table.proofs.core.wide.Reads as wide-reads
-use mathlib.Core.Path.{_≡_, sym, _∙_}
+use mathlib.Core.Path.{sym, _∙_}
 use borrow.Author.Tests.{lt-ltb, le-ltb, eq-eqb, ne-eqb}
 use Rattle.range.proofs.Faults.{or-here}
 use Rattle.probe.specs.Checks.{heardFault}

@@ -1,3 +1,4 @@
+-- `probe::core::hear_fault` meets its contract.
 use Prim.Native.Nat.{ℕ}
 use Rattle.probe.proofs.Accepted.{hear-early, hear-late, heard-frame, heard-within}
 use Rattle.range.specs.First.{orElse}
@@ -7,19 +8,13 @@ use Rattle.table.specs.Table.{Table, ofSlices}
 use borrow.Author.Needs.{needs}
 use Rattle.probe.proofs.core.hear_fault.Statement.{statement}
 use Rattle.probe.proofs.core.hear_fault.Tie as tie
-use Rattle.probe.proofs.core.hear_fault.Reads as reads
-use Rattle.probe.proofs.core.hear_fault.Lts as lts
-use Rattle.probe.proofs.core.event_of.Reads as event-of-reads
-use Rattle.probe.proofs.core.frame_fault.Reads as frame-fault-reads
-use Rattle.probe.proofs.core.state_fault.Reads as state-fault-reads
-use Rattle.probe.proofs.core.untried_fault.Reads as untried-fault-reads
 use mathlib.Core.Path.{_≡_, sym, _∙_}
 use native.Mathlib.Omega.{arith}
 use borrow.Author.Tests.{eq-eqb, ne-eqb}
 use Rattle.range.proofs.Faults.{or-here, or-left, or-right}
 use Rattle.table.proofs.Slices.{given}
 use Rattle.record.proofs.Bytes.{record-good}
-use Rattle.probe.specs.Checks.{heardFault, hearFault}
+use Rattle.probe.specs.Checks.{heardFault}
 
 state-fault-requires : tie.Need-state-fault-requires
 state-fault-requires c κs = search needs

@@ -1,9 +1,7 @@
+-- `probe::core::is_sendable` meets its contract.
 use borrow.Author.Needs.{needs}
 use Rattle.probe.proofs.core.is_sendable.Statement.{statement}
 use Rattle.probe.proofs.core.is_sendable.Tie as tie
-use Rattle.probe.proofs.core.is_sendable.Reads as reads
-use Rattle.probe.proofs.core.is_sendable.Lts as lts
-use mathlib.Core.Path.{_≡_}
 
 enum-told : tie.Need-enum-told
 enum-told c = search needs

@@ -1,3 +1,4 @@
+-- `probe::core::link_call_fault` meets its contract.
 use Prim.Native.Nat.{ℕ}
 use Rattle.probe.proofs.Accepted.{link-early, link-late}
 use Rattle.range.specs.First.{orElse}
@@ -7,16 +8,11 @@ use Rattle.table.specs.Table.{Table, ofSlices}
 use borrow.Author.Needs.{needs}
 use Rattle.probe.proofs.core.link_call_fault.Statement.{statement}
 use Rattle.probe.proofs.core.link_call_fault.Tie as tie
-use Rattle.probe.proofs.core.link_call_fault.Reads as reads
-use Rattle.probe.proofs.core.link_call_fault.Lts as lts
-use Rattle.probe.proofs.core.state_fault.Reads as state-fault-reads
-use Rattle.record.proofs.core.touches.Reads as touches-reads
 use mathlib.Core.Path.{_≡_, sym, _∙_}
 use native.Mathlib.Omega.{arith}
 use borrow.Author.Tests.{lt-ltb, le-ltb, not-true, not-false}
-use Rattle.range.proofs.Faults.{or-here, or-left, or-right}
+use Rattle.range.proofs.Faults.{or-left}
 use Rattle.table.proofs.Slices.{given}
-use Rattle.probe.specs.Checks.{linkFault, linkCallFault}
 
 state-fault-requires : tie.Need-state-fault-requires
 state-fault-requires c κs = search needs

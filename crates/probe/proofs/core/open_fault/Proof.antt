@@ -1,3 +1,4 @@
+-- `probe::core::open_fault` meets its contract.
 use Prim.Native.Nat.{ℕ}
 use Rattle.probe.proofs.Accepted.{open-early, open-late}
 use Rattle.range.specs.First.{orElse}
@@ -7,13 +8,8 @@ use Rattle.table.specs.Table.{Table, ofSlices}
 use borrow.Author.Needs.{needs}
 use Rattle.probe.proofs.core.open_fault.Statement.{statement}
 use Rattle.probe.proofs.core.open_fault.Tie as tie
-use Rattle.probe.proofs.core.open_fault.Reads as reads
-use Rattle.probe.proofs.core.open_fault.Lts as lts
-use Rattle.probe.proofs.core.state_fault.Reads as state-fault-reads
 use mathlib.Core.Path.{_≡_, sym, _∙_}
 use borrow.Author.Tests.{lt-ltb, le-ltb, eq-eqb, ne-eqb}
-use Rattle.range.proofs.Faults.{or-here, or-left, or-right}
-use Rattle.probe.specs.Checks.{openFault}
 
 state-fault-requires : tie.Need-state-fault-requires
 state-fault-requires c κs = search needs

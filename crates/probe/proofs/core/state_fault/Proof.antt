@@ -1,10 +1,7 @@
+-- `probe::core::state_fault` meets its contract.
 use borrow.Author.Needs.{needs}
 use Rattle.probe.proofs.core.state_fault.Statement.{statement}
 use Rattle.probe.proofs.core.state_fault.Tie as tie
-use Rattle.probe.proofs.core.state_fault.Reads as reads
-use Rattle.probe.proofs.core.state_fault.Lts as lts
-use Rattle.record.proofs.core.record_fault.Reads as record-fault-reads
-use Rattle.table.proofs.core.slice_fault.Reads as slice-fault-reads
 use mathlib.Core.Path.{sym, _∙_}
 use native.Mathlib.Omega.{arith}
 use Rattle.range.proofs.Faults.{or-here, or-next}

@@ -1,10 +1,7 @@
+-- `record::core::byte_fault` meets its contract.
 use borrow.Author.Needs.{needs}
 use Rattle.record.proofs.core.byte_fault.Statement.{statement}
 use Rattle.record.proofs.core.byte_fault.Tie as tie
-use Rattle.record.proofs.core.byte_fault.Reads as reads
-use Rattle.record.proofs.core.byte_fault.Lts as lts
-use Rattle.record.proofs.core.touches.Reads as touches-reads
-use mathlib.Core.Path.{sym, _∙_}
 use borrow.Author.Tests.{lt-ltb, le-ltb, eq-eqb, ne-eqb}
 
 mul-if1 : tie.Need-mul-if1

@@ -1,10 +1,8 @@
+-- `record::core::bytes_fault` meets its contract.
 use borrow.Author.Needs.{needs}
 use Rattle.record.proofs.core.bytes_fault.Statement.{statement}
 use Rattle.record.proofs.core.bytes_fault.Tie as tie
-use Rattle.record.proofs.core.bytes_fault.Reads as reads
-use Rattle.record.proofs.core.bytes_fault.Lts as lts
-use Rattle.record.proofs.core.byte_fault.Reads as byte-fault-reads
-use Prim.Native.Nat.{ℕ, _+_, _-_, _≤_}
+use Prim.Native.Nat.{ℕ, _-_, _≤_}
 use mathlib.Core.Path.{_≡_, refl, sym, _∙_}
 use mathlib.Core.List.{List, []}
 use native.Mathlib.Omega.{arith}

@@ -1,8 +1,7 @@
+-- `record::core::cheaper_later` meets its contract.
 use borrow.Author.Needs.{needs}
 use Rattle.record.proofs.core.cheaper_later.Statement.{statement}
 use Rattle.record.proofs.core.cheaper_later.Tie as tie
-use Rattle.record.proofs.core.cheaper_later.Reads as reads
-use Rattle.record.proofs.core.cheaper_later.Lts as lts
 use borrow.Author.Tests.{le-leb, lt-leb}
 
 returns : tie.Need-returns

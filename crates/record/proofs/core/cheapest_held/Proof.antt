@@ -1,14 +1,11 @@
+-- `record::core::cheapest_held` meets its contract.
 use borrow.Author.Needs.{needs}
 use Rattle.record.proofs.core.cheapest_held.Statement.{statement}
 use Rattle.record.proofs.core.cheapest_held.Tie as tie
-use Rattle.record.proofs.core.cheapest_held.Reads as reads
-use Rattle.record.proofs.core.cheapest_held.Lts as lts
-use Rattle.record.proofs.core.cheaper_later.Reads as cheaper-later-reads
-use Rattle.record.proofs.core.touches.Reads as touches-reads
-use Prim.Native.Nat.{ℕ, _+_, _*_, _-_, _≤_}
-use mathlib.Core.Path.{_≡_, refl, sym, _∙_, ap}
+use Prim.Native.Nat.{ℕ, _-_, _≤_}
+use mathlib.Core.Path.{_≡_, sym, _∙_, ap}
 use mathlib.Core.List.{List}
-use mathlib.Core.Bool.{Bool, and-false}
+use mathlib.Core.Bool.{and-false}
 use native.Mathlib.Omega.{arith}
 use borrow.Author.Tests.{eq-eqb, ne-eqb, not-true, not-false}
 use Rattle.range.proofs.Bools.{and-intro}

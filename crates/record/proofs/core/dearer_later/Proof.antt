@@ -1,8 +1,7 @@
+-- `record::core::dearer_later` meets its contract.
 use borrow.Author.Needs.{needs}
 use Rattle.record.proofs.core.dearer_later.Statement.{statement}
 use Rattle.record.proofs.core.dearer_later.Tie as tie
-use Rattle.record.proofs.core.dearer_later.Reads as reads
-use Rattle.record.proofs.core.dearer_later.Lts as lts
 use borrow.Author.Tests.{le-leb, lt-leb}
 
 returns : tie.Need-returns

@@ -1,14 +1,11 @@
+-- `record::core::dearest_untried` meets its contract.
 use borrow.Author.Needs.{needs}
 use Rattle.record.proofs.core.dearest_untried.Statement.{statement}
 use Rattle.record.proofs.core.dearest_untried.Tie as tie
-use Rattle.record.proofs.core.dearest_untried.Reads as reads
-use Rattle.record.proofs.core.dearest_untried.Lts as lts
-use Rattle.record.proofs.core.dearer_later.Reads as dearer-later-reads
-use Rattle.record.proofs.core.touches.Reads as touches-reads
-use Prim.Native.Nat.{ℕ, _+_, _*_, _-_, _≤_}
-use mathlib.Core.Path.{_≡_, refl, sym, _∙_, ap}
+use Prim.Native.Nat.{ℕ, _-_, _≤_}
+use mathlib.Core.Path.{_≡_, sym, _∙_, ap}
 use mathlib.Core.List.{List}
-use mathlib.Core.Bool.{Bool, and-false}
+use mathlib.Core.Bool.{and-false}
 use native.Mathlib.Omega.{arith}
 use borrow.Author.Tests.{eq-eqb, ne-eqb, not-true, not-false}
 use Rattle.range.proofs.Bools.{and-intro}

@@ -1,10 +1,8 @@
+-- `record::core::degree` meets its contract.
 use borrow.Author.Needs.{needs}
 use Rattle.record.proofs.core.degree.Statement.{statement}
 use Rattle.record.proofs.core.degree.Tie as tie
-use Rattle.record.proofs.core.degree.Reads as reads
-use Rattle.record.proofs.core.degree.Lts as lts
-use Rattle.record.proofs.core.touches.Reads as touches-reads
-use Prim.Native.Nat.{ℕ, _+_, _*_, _-_, _≤_}
+use Prim.Native.Nat.{ℕ, _-_, _≤_}
 use mathlib.Core.Path.{_≡_, refl, sym, _∙_}
 use mathlib.Core.List.{List, []}
 use mathlib.Core.Bool.{Bool}

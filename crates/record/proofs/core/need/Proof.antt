@@ -1,9 +1,7 @@
+-- `record::core::need` meets its contract.
 use borrow.Author.Needs.{needs}
 use Rattle.record.proofs.core.need.Statement.{statement}
 use Rattle.record.proofs.core.need.Tie as tie
-use Rattle.record.proofs.core.need.Reads as reads
-use Rattle.record.proofs.core.need.Lts as lts
-use Rattle.table.proofs.core.wide.Reads as wide-reads
 use mathlib.Core.Path.{sym}
 use lib.ListN.{List·getD-eq-default}
 

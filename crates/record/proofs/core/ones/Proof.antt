@@ -1,8 +1,7 @@
+-- `record::core::ones` meets its contract.
 use borrow.Author.Needs.{needs}
 use Rattle.record.proofs.core.ones.Statement.{statement}
 use Rattle.record.proofs.core.ones.Tie as tie
-use Rattle.record.proofs.core.ones.Reads as reads
-use Rattle.record.proofs.core.ones.Lts as lts
 use Prim.Native.Nat.{ℕ, _+_, _*_, _-_, _≤_}
 use mathlib.Core.Path.{_≡_, refl, sym, _∙_}
 use mathlib.Core.List.{List}

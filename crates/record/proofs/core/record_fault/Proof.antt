@@ -1,14 +1,9 @@
+-- `record::core::record_fault` meets its contract.
 use borrow.Author.Needs.{needs}
 use Rattle.record.proofs.core.record_fault.Statement.{statement}
 use Rattle.record.proofs.core.record_fault.Tie as tie
-use Rattle.record.proofs.core.record_fault.Reads as reads
-use Rattle.record.proofs.core.record_fault.Lts as lts
-use Rattle.record.proofs.core.bytes_fault.Reads as bytes-fault-reads
-use Rattle.record.proofs.core.ones.Reads as ones-reads
-use Rattle.record.proofs.core.spare.Reads as spare-reads
-use Prim.Native.Nat.{ℕ}
 use mathlib.Core.Path.{_≡_, sym, _∙_}
-use mathlib.Core.List.{List, []}
+use mathlib.Core.List.{[]}
 use borrow.Author.Tests.{lt-ltb, le-ltb, eq-eqb, ne-eqb}
 use Rattle.range.specs.First.{first}
 use Rattle.range.proofs.Faults.{or-here}

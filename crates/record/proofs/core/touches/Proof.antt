@@ -1,10 +1,7 @@
+-- `record::core::touches` meets its contract.
 use borrow.Author.Needs.{needs}
 use Rattle.record.proofs.core.touches.Statement.{statement}
 use Rattle.record.proofs.core.touches.Tie as tie
-use Rattle.record.proofs.core.touches.Reads as reads
-use Rattle.record.proofs.core.touches.Lts as lts
-use Rattle.table.proofs.core.wide.Reads as wide-reads
-use mathlib.Core.Path.{sym, _∙_}
 use borrow.Author.Tests.{eq-eqb, ne-eqb}
 
 mul-wide : tie.Need-mul-wide

@@ -1,11 +1,9 @@
+-- `rules::core::alter` meets its contract.
 use borrow.Author.Needs.{needs}
 use Rattle.rules.proofs.core.alter.Statement.{statement}
 use Rattle.rules.proofs.core.alter.Tie as tie
-use Rattle.rules.proofs.core.alter.Reads as reads
-use Rattle.rules.proofs.core.alter.Lts as lts
 use native.Mathlib.Omega.{arith}
-use mathlib.Core.Path.{_∙_}
-use lib.ListN.{length, length-set}
+use lib.ListN.{length-set}
 
 enum-known-outcome : tie.Need-enum-known-outcome
 enum-known-outcome c = search needs

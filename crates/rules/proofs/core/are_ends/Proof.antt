@@ -1,8 +1,6 @@
-use borrow.Author.Needs.{needs}
+-- `rules::core::are_ends` meets its contract.
 use Rattle.rules.proofs.core.are_ends.Statement.{statement}
 use Rattle.rules.proofs.core.are_ends.Tie as tie
-use Rattle.rules.proofs.core.are_ends.Reads as reads
-use Rattle.rules.proofs.core.are_ends.Lts as lts
 use borrow.Author.Tests.{eq-eqb, ne-eqb}
 
 returns : tie.Need-returns

@@ -1,11 +1,9 @@
+-- `rules::core::between` meets its contract.
 use borrow.Author.Needs.{needs}
 use Rattle.rules.proofs.core.between.Statement.{statement}
 use Rattle.rules.proofs.core.between.Tie as tie
-use Rattle.rules.proofs.core.between.Reads as reads
-use Rattle.rules.proofs.core.between.Lts as lts
-use Rattle.rules.proofs.core.joins.Reads as joins-reads
 use Prim.Native.Nat.{ℕ, _+_, _-_, _≤_, _<_}
-use mathlib.Core.Path.{_≡_, refl, sym, _∙_}
+use mathlib.Core.Path.{_≡_, sym, _∙_}
 use mathlib.Core.List.{List, []}
 use mathlib.Core.Bool.{Bool, false}
 use native.Mathlib.Omega.{arith}

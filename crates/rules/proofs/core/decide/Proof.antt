@@ -1,12 +1,8 @@
+-- `rules::core::decide` meets its contract.
 use borrow.Author.Needs.{needs}
 use Rattle.rules.proofs.core.decide.Statement.{statement}
 use Rattle.rules.proofs.core.decide.Tie as tie
-use Rattle.rules.proofs.core.decide.Reads as reads
-use Rattle.rules.proofs.core.decide.Lts as lts
-use Rattle.rules.proofs.core.decide_offer.Reads as decide-offer-reads
-use Rattle.rules.proofs.core.decide_opening.Reads as decide-opening-reads
 use native.Mathlib.Omega.{arith}
-use mathlib.Core.Path.{_∙_}
 use borrow.Author.Tests.{eq-eqb, ne-eqb}
 
 enum-told : tie.Need-enum-told

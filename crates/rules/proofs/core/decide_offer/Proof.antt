@@ -1,12 +1,7 @@
+-- `rules::core::decide_offer` meets its contract.
 use borrow.Author.Needs.{needs}
 use Rattle.rules.proofs.core.decide_offer.Statement.{statement}
 use Rattle.rules.proofs.core.decide_offer.Tie as tie
-use Rattle.rules.proofs.core.decide_offer.Reads as reads
-use Rattle.rules.proofs.core.decide_offer.Lts as lts
-use Rattle.record.proofs.core.cheapest_held.Reads as cheapest-held-reads
-use Rattle.record.proofs.core.ones.Reads as ones-reads
-use Rattle.record.proofs.core.spare.Reads as spare-reads
-use Rattle.rules.proofs.core.dearer.Reads as dearer-reads
 use mathlib.Core.Path.{sym, _∙_}
 use borrow.Author.Tests.{lt-ltb, le-ltb}
 use Rattle.table.specs.Table.{Table, ofSlices}

@@ -1,14 +1,8 @@
+-- `rules::core::decide_opening` meets its contract.
 use borrow.Author.Needs.{needs}
 use Rattle.rules.proofs.core.decide_opening.Statement.{statement}
 use Rattle.rules.proofs.core.decide_opening.Tie as tie
-use Rattle.rules.proofs.core.decide_opening.Reads as reads
-use Rattle.rules.proofs.core.decide_opening.Lts as lts
-use Rattle.record.proofs.core.dearest_untried.Reads as dearest-untried-reads
-use Rattle.record.proofs.core.ones.Reads as ones-reads
-use Rattle.record.proofs.core.spare.Reads as spare-reads
-use mathlib.Core.Path.{sym, _∙_}
 use borrow.Author.Tests.{lt-ltb, le-ltb}
-use mathlib.Core.Bool.{and-false}
 use Rattle.table.specs.Table.{Table, ofSlices}
 use Rattle.record.proofs.Bytes.{ones-standing}
 

@@ -1,10 +1,7 @@
+-- `rules::core::entry_of` meets its contract.
 use borrow.Author.Needs.{needs}
 use Rattle.rules.proofs.core.entry_of.Statement.{statement}
 use Rattle.rules.proofs.core.entry_of.Tie as tie
-use Rattle.rules.proofs.core.entry_of.Reads as reads
-use Rattle.rules.proofs.core.entry_of.Lts as lts
-use Rattle.rules.proofs.core.what_of.Reads as what-of-reads
-use mathlib.Core.Path.{_≡_}
 
 what-of-requires : tie.Need-what-of-requires
 what-of-requires c κs = search needs

@@ -1,10 +1,7 @@
+-- `rules::core::joins` meets its contract.
 use borrow.Author.Needs.{needs}
 use Rattle.rules.proofs.core.joins.Statement.{statement}
 use Rattle.rules.proofs.core.joins.Tie as tie
-use Rattle.rules.proofs.core.joins.Reads as reads
-use Rattle.rules.proofs.core.joins.Lts as lts
-use Rattle.rules.proofs.core.are_ends.Reads as are-ends-reads
-use Rattle.table.proofs.core.wide.Reads as wide-reads
 use mathlib.Core.Path.{sym, _∙_}
 
 mul-wide : tie.Need-mul-wide

@@ -1,8 +1,7 @@
+-- `rules::core::other` meets its contract.
 use borrow.Author.Needs.{needs}
 use Rattle.rules.proofs.core.other.Statement.{statement}
 use Rattle.rules.proofs.core.other.Tie as tie
-use Rattle.rules.proofs.core.other.Reads as reads
-use Rattle.rules.proofs.core.other.Lts as lts
 use borrow.Author.Tests.{eq-eqb, ne-eqb}
 
 mul-if1 : tie.Need-mul-if1

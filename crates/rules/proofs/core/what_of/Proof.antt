@@ -1,11 +1,8 @@
+-- `rules::core::what_of` meets its contract.
 use borrow.Author.Needs.{needs}
 use Rattle.rules.proofs.core.what_of.Statement.{statement}
 use Rattle.rules.proofs.core.what_of.Tie as tie
-use Rattle.rules.proofs.core.what_of.Reads as reads
-use Rattle.rules.proofs.core.what_of.Lts as lts
-use Rattle.rules.proofs.core.other.Reads as other-reads
 use native.Mathlib.Omega.{arith}
-use mathlib.Core.Path.{_∙_}
 
 enum-known-outcome : tie.Need-enum-known-outcome
 enum-known-outcome c = search needs

@@ -1,0 +1,195 @@
+// The events of one end with its wake log: a lent slice of entries, and the count of its used ones.
+ghost use mathlib.Core.Path.{_≡_};
+ghost use Prim.Native.Nat.{_-_};
+ghost use lib.ListN.{length};
+ghost use Rattle.table.specs.Table.{ofSlices};
+ghost use Rattle.table.specs.Legal.{sliceFault};
+ghost use Rattle.frame.specs.Frame.{frameOf};
+ghost use Rattle.rules.specs.declared.Event.the-variants.{Opening};
+ghost use Rattle.rules.specs.Frames.{heardOf};
+ghost use Rattle.probe.specs.Checks.{hearFault, openFault};
+ghost use Rattle.probe_log.specs.Logged.{toldOf, ToldCall, Logs};
+
+// An answer, with its entry and the entry's place in the log.
+pub struct Told {
+    pub at: usize,
+    pub entry: entry::Entry,
+    pub answer: entry::Answer,
+}
+
+fn free(used: usize, room: usize) -> usize
+    ensures { λ r. ⌜ r ≡ room - used ⌝ }
+{
+    if room < used {
+        return 0;
+    }
+    room - used
+}
+
+fn tell(answer: entry::Answer, used: usize, room: usize) -> Told
+    ensures { λ r. ⌜ r ≡ toldOf used room answer ⌝ }
+{
+    match answer {
+        entry::Answer::Logged(e) => Told {
+            at: used,
+            entry: e,
+            answer: entry::Answer::Logged(e),
+        },
+        entry::Answer::Refused(n) => Told {
+            at: room,
+            entry: entry::Entry {
+                probe: 0,
+                what: entry::What::NothingToOpen,
+            },
+            answer: entry::Answer::Refused(n),
+        },
+    }
+}
+
+fn open_told(
+    number: u16,
+    probes: u16,
+    links: u16,
+    needs: &[u16],
+    lows: &[u16],
+    highs: &[u16],
+    costs: &[u16],
+    probe: u16,
+    rec: &mut [u8],
+    used: usize,
+    room: usize,
+) -> Told
+    ensures { λ r. ⌜ ToldCall
+        (openFault (sliceFault 256 2048 number probes links (now (needs .entry)) (now (lows .entry)) (now (highs .entry)) (now (costs .entry)))
+        (ofSlices number probes links (now (needs .entry)) (now (lows .entry)) (now (highs .entry)) (now (costs .entry))) probe (now (rec .entry)) (room - used))
+        (ofSlices number probes links (now (needs .entry)) (now (lows .entry)) (now (highs .entry)) (now (costs .entry))) probe Opening
+        used room r (now (rec .entry)) (now (rec .exit)) ⌝ }
+{
+    let answer = probe::open(
+        number,
+        probes,
+        links,
+        needs,
+        lows,
+        highs,
+        costs,
+        probe,
+        rec,
+        free(used, room),
+    );
+    tell(answer, used, room)
+}
+
+fn hear_told(
+    number: u16,
+    probes: u16,
+    links: u16,
+    needs: &[u16],
+    lows: &[u16],
+    highs: &[u16],
+    costs: &[u16],
+    probe: u16,
+    rec: &mut [u8],
+    frame: &[u8],
+    used: usize,
+    room: usize,
+) -> Told
+    ensures { λ r. ⌜ ToldCall
+        (hearFault (sliceFault 256 2048 number probes links (now (needs .entry)) (now (lows .entry)) (now (highs .entry)) (now (costs .entry)))
+        (ofSlices number probes links (now (needs .entry)) (now (lows .entry)) (now (highs .entry)) (now (costs .entry))) probe (now (rec .entry)) (now (frame .entry)) (room - used))
+        (ofSlices number probes links (now (needs .entry)) (now (lows .entry)) (now (highs .entry)) (now (costs .entry))) probe
+        (heardOf (ofSlices number probes links (now (needs .entry)) (now (lows .entry)) (now (highs .entry)) (now (costs .entry))) (frameOf (now (frame .entry))))
+        used room r (now (rec .entry)) (now (rec .exit)) ⌝ }
+{
+    let answer = probe::hear(
+        number,
+        probes,
+        links,
+        needs,
+        lows,
+        highs,
+        costs,
+        probe,
+        rec,
+        frame,
+        free(used, room),
+    );
+    tell(answer, used, room)
+}
+
+// The probe opens; the entry goes behind the used ones.
+pub fn open_logged(
+    number: u16,
+    probes: u16,
+    links: u16,
+    needs: &[u16],
+    lows: &[u16],
+    highs: &[u16],
+    costs: &[u16],
+    probe: u16,
+    rec: &mut [u8],
+    log: &mut [entry::Entry],
+    used: usize,
+) -> entry::Answer
+    ensures { λ r. ⌜ Logs
+        (openFault (sliceFault 256 2048 number probes links (now (needs .entry)) (now (lows .entry)) (now (highs .entry)) (now (costs .entry)))
+        (ofSlices number probes links (now (needs .entry)) (now (lows .entry)) (now (highs .entry)) (now (costs .entry))) probe (now (rec .entry)) (length (now (log .entry)) - used))
+        (ofSlices number probes links (now (needs .entry)) (now (lows .entry)) (now (highs .entry)) (now (costs .entry))) probe Opening
+        r (now (rec .entry)) (now (rec .exit)) used (now (log .entry)) (now (log .exit)) ⌝ }
+{
+    let t = open_told(
+        number,
+        probes,
+        links,
+        needs,
+        lows,
+        highs,
+        costs,
+        probe,
+        rec,
+        used,
+        log.len(),
+    );
+    wake_log::append(log, t.at, t.entry);
+    t.answer
+}
+
+// The probe hears a frame; the entry goes behind the used ones.
+pub fn hear_logged(
+    number: u16,
+    probes: u16,
+    links: u16,
+    needs: &[u16],
+    lows: &[u16],
+    highs: &[u16],
+    costs: &[u16],
+    probe: u16,
+    rec: &mut [u8],
+    frame: &[u8],
+    log: &mut [entry::Entry],
+    used: usize,
+) -> entry::Answer
+    ensures { λ r. ⌜ Logs
+        (hearFault (sliceFault 256 2048 number probes links (now (needs .entry)) (now (lows .entry)) (now (highs .entry)) (now (costs .entry)))
+        (ofSlices number probes links (now (needs .entry)) (now (lows .entry)) (now (highs .entry)) (now (costs .entry))) probe (now (rec .entry)) (now (frame .entry)) (length (now (log .entry)) - used))
+        (ofSlices number probes links (now (needs .entry)) (now (lows .entry)) (now (highs .entry)) (now (costs .entry))) probe
+        (heardOf (ofSlices number probes links (now (needs .entry)) (now (lows .entry)) (now (highs .entry)) (now (costs .entry))) (frameOf (now (frame .entry))))
+        r (now (rec .entry)) (now (rec .exit)) used (now (log .entry)) (now (log .exit)) ⌝ }
+{
+    let t = hear_told(
+        number,
+        probes,
+        links,
+        needs,
+        lows,
+        highs,
+        costs,
+        probe,
+        rec,
+        frame,
+        used,
+        log.len(),
+    );
+    wake_log::append(log, t.at, t.entry);
+    t.answer
+}
