@@ -15,6 +15,13 @@ impl<T: Copy + PartialEq> Buffer<T> {
         Buffer { whole, length }
     }
 
+    /// With these entries lent.
+    pub fn holding(entries: &[T], margin: impl FnMut() -> T) -> Buffer<T> {
+        let mut buffer = Buffer::filled(entries.len(), margin);
+        buffer.lend().copy_from_slice(entries);
+        buffer
+    }
+
     pub fn entries(&self) -> &[T] {
         &self.whole[MARGIN..MARGIN + self.length]
     }

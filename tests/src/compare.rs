@@ -19,7 +19,7 @@ fn lend(buffers: &mut [Buffer<u16>; 4]) -> Lent<'_> {
 
 /// The answers as numbers, then the buffers: the library's and the second implementation's.
 #[track_caller]
-fn assert_same<T: PartialEq>(call: &str, [answer, expected]: [u64; 2], buffers: [&T; 2]) {
+pub fn assert_same<T: PartialEq>(call: &str, [answer, expected]: [u64; 2], buffers: [&T; 2]) {
     assert!(
         answer == expected,
         "{call}: answer {answer:x}, not {expected:x}"

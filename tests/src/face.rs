@@ -1,5 +1,6 @@
 //! The static library's face: each lent slice passes as a pointer and a length in entries.
 
+use crate::ends::{Entry, Kind};
 use crate::reference::{Behind, Lent, Plan, Slices, Table};
 
 extern "C" {
@@ -93,6 +94,97 @@ extern "C" {
         out: *mut u8,
         out_length: usize,
     ) -> u64;
+    fn planner_probe_open(
+        number: u16,
+        probes: u16,
+        links: u16,
+        needs: *const u16,
+        needs_length: usize,
+        lows: *const u16,
+        lows_length: usize,
+        highs: *const u16,
+        highs_length: usize,
+        costs: *const u16,
+        costs_length: usize,
+        probe: u16,
+        rec: *mut u8,
+        rec_length: usize,
+        free: usize,
+    ) -> u64;
+    fn planner_probe_hear(
+        number: u16,
+        probes: u16,
+        links: u16,
+        needs: *const u16,
+        needs_length: usize,
+        lows: *const u16,
+        lows_length: usize,
+        highs: *const u16,
+        highs_length: usize,
+        costs: *const u16,
+        costs_length: usize,
+        probe: u16,
+        rec: *mut u8,
+        rec_length: usize,
+        frame: *const u8,
+        frame_length: usize,
+        free: usize,
+    ) -> u64;
+    fn planner_probe_ask_offer(
+        number: u16,
+        probes: u16,
+        links: u16,
+        needs: *const u16,
+        needs_length: usize,
+        lows: *const u16,
+        lows_length: usize,
+        highs: *const u16,
+        highs_length: usize,
+        costs: *const u16,
+        costs_length: usize,
+        probe: u16,
+        rec: *const u8,
+        rec_length: usize,
+        link: u16,
+        out: *mut u8,
+        out_length: usize,
+    ) -> u64;
+    fn planner_probe_ask_refusal(
+        number: u16,
+        probes: u16,
+        links: u16,
+        needs: *const u16,
+        needs_length: usize,
+        lows: *const u16,
+        lows_length: usize,
+        highs: *const u16,
+        highs_length: usize,
+        costs: *const u16,
+        costs_length: usize,
+        probe: u16,
+        rec: *const u8,
+        rec_length: usize,
+        link: u16,
+        out: *mut u8,
+        out_length: usize,
+    ) -> u64;
+    fn planner_probe_rests(
+        number: u16,
+        probes: u16,
+        links: u16,
+        needs: *const u16,
+        needs_length: usize,
+        lows: *const u16,
+        lows_length: usize,
+        highs: *const u16,
+        highs_length: usize,
+        costs: *const u16,
+        costs_length: usize,
+        probe: u16,
+        rec: *const u8,
+        rec_length: usize,
+        link: u16,
+    ) -> u64;
 }
 
 const ACCEPTED: u64 = 1 << 48;
@@ -129,6 +221,25 @@ pub fn write_answer(result: &Result<usize, u8>) -> u64 {
     }
 }
 
+/// The number that stands for the answer to an event.
+pub fn entry_answer(result: &Result<Entry, u8>) -> u64 {
+    match result {
+        Ok(Entry { probe, what }) => {
+            let [code, link, displaced] = what.numbers();
+            (1 << 63) + ((*probe as u64) << 40) + (code << 32) + (link << 16) + displaced
+        }
+        Err(refusal) => *refusal as u64,
+    }
+}
+
+/// The number that stands for whether a line is written, and for whether a link rests.
+pub fn yes_answer(result: &Result<bool, u8>) -> u64 {
+    match result {
+        Ok(yes) => ACCEPTED + *yes as u64,
+        Err(refusal) => *refusal as u64,
+    }
+}
+
 pub fn read_table(text: &[u8], behind: Behind, lent: Lent) -> u64 {
     let read = match behind {
         Behind::Nothing => planner_read_table,
@@ -151,7 +262,7 @@ pub fn read_table(text: &[u8], behind: Behind, lent: Lent) -> u64 {
     }
 }
 
-/// Calls a function that takes a table in slices first.
+/// Calls a function that takes a table in slices first, and then these arguments.
 macro_rules! call_with_table {
     ($function:ident, $given:ident $(, $more:expr)*) => {
         unsafe {
@@ -167,7 +278,7 @@ macro_rules! call_with_table {
                 $given.highs.len(),
                 $given.costs.as_ptr(),
                 $given.costs.len(),
-                $($more.as_mut_ptr(), $more.len()),*
+                $($more),*
             )
         }
     };
@@ -178,17 +289,83 @@ pub fn check_table(given: Slices) -> u8 {
 }
 
 pub fn write_table(given: Slices, out: &mut [u8]) -> u64 {
-    call_with_table!(planner_write_table, given, out)
+    call_with_table!(planner_write_table, given, out.as_mut_ptr(), out.len())
 }
 
 pub fn plan_slse(given: Slices, plan: &mut [u8]) -> u64 {
-    call_with_table!(planner_plan_slse, given, plan)
+    call_with_table!(planner_plan_slse, given, plan.as_mut_ptr(), plan.len())
 }
 
 pub fn plan_turns(given: Slices, plan: &mut [u8], work: &mut [u8]) -> u64 {
-    call_with_table!(planner_plan_turns, given, plan, work)
+    call_with_table!(
+        planner_plan_turns,
+        given,
+        plan.as_mut_ptr(),
+        plan.len(),
+        work.as_mut_ptr(),
+        work.len()
+    )
 }
 
 pub fn plan_text(text: &[u8], out: &mut [u8]) -> u64 {
     unsafe { planner_plan_text(text.as_ptr(), text.len(), out.as_mut_ptr(), out.len()) }
+}
+
+pub fn probe_open(given: Slices, probe: u16, record: &mut [u8], free: usize) -> u64 {
+    call_with_table!(
+        planner_probe_open,
+        given,
+        probe,
+        record.as_mut_ptr(),
+        record.len(),
+        free
+    )
+}
+
+pub fn probe_hear(given: Slices, probe: u16, record: &mut [u8], frame: &[u8], free: usize) -> u64 {
+    call_with_table!(
+        planner_probe_hear,
+        given,
+        probe,
+        record.as_mut_ptr(),
+        record.len(),
+        frame.as_ptr(),
+        frame.len(),
+        free
+    )
+}
+
+pub fn probe_ask(
+    given: Slices,
+    probe: u16,
+    record: &[u8],
+    kind: Kind,
+    link: u16,
+    out: &mut [u8],
+) -> u64 {
+    let ask = match kind {
+        Kind::Offer => planner_probe_ask_offer,
+        Kind::Refusal => planner_probe_ask_refusal,
+    };
+    call_with_table!(
+        ask,
+        given,
+        probe,
+        record.as_ptr(),
+        record.len(),
+        link,
+        out.as_mut_ptr(),
+        out.len()
+    )
+}
+
+pub fn probe_rests(given: Slices, probe: u16, record: &[u8], link: u16) -> u64 {
+    call_with_table!(
+        planner_probe_rests,
+        given,
+        probe,
+        record.as_ptr(),
+        record.len(),
+        link
+    )
 }

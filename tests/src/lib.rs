@@ -2,6 +2,9 @@
 
 pub mod buffer;
 pub mod compare;
+pub mod compare_ends;
+pub mod ends;
+pub mod events;
 pub mod face;
 pub mod methods;
 pub mod random;

@@ -16,7 +16,12 @@ use Rattle.cover.specs.Planning.{Plans, PlansByTurns}
 use Rattle.cover.specs.declared.Planning.{Planning}
 use Rattle.plan_output.specs.Output.{Outputs}
 use Rattle.plan_output.specs.declared.Output.{Output}
-use Rattle.exports.specs.Packed.{packedOutput, OutputsPacked, packedPlanning, PlansPacked, TurnsPacked, packedReading, packedWriting, ReadsPacked, WritesPacked}
+use Rattle.entry.specs.declared.Answer.{Answer}
+use Rattle.rules.specs.declared.Event.{Event}
+use Rattle.probe.specs.Answers.{Befallen, Asks}
+use Rattle.probe.specs.declared.Kind.{Kind}
+use Rattle.probe.specs.declared.Asked.{Asked}
+use Rattle.exports.specs.Packed.{packedAnswer, BefallenPacked, packedAsked, AsksPacked, packedOutput, OutputsPacked, packedPlanning, PlansPacked, TurnsPacked, packedReading, packedWriting, ReadsPacked, WritesPacked}
 
 pub reads-packed : (fault : ℕ) (t : Site) (a : Reading) (r : ℕ) (needs needs′ lows lows′ highs highs′ costs costs′ : List ℕ)
     → Reads fault t a needs needs′ lows lows′ highs highs′ costs costs′ → r ≡ packedReading a → ReadsPacked fault t r needs needs′ lows lows′ highs highs′ costs costs′
@@ -49,3 +54,13 @@ length-is fault t a n before after g e = go (eqb fault 0) (sym e ∙ g .answer)
 
 pub outputs-packed : (text : List ℕ) (a b : Output) (r : ℕ) (before after : List ℕ) → Outputs text a before after → a ≡ b → r ≡ packedOutput b → OutputsPacked text r before after
 outputs-packed text a b r before after g e f = record { answered = a; answer = f ∙ ap packedOutput (sym e); lent = g }
+
+pub befallen-packed : (fault : ℕ) (t : Site) (p : ℕ) (event : Event) (a : Answer) (r : ℕ) (before after : List ℕ) → Befallen fault t p event a before after → r ≡ packedAnswer a
+    → BefallenPacked fault t p event r before after
+befallen-packed fault t p event a r before after g e =
+    record { answer = e ∙ ap packedAnswer (g .answer); lent = record { answer = refl; record-after = g .record-after } }
+
+pub asks-packed : (fault : ℕ) (t : Site) (p : ℕ) (k : Kind) (i : ℕ) (rec : List ℕ) (a : Asked) (r : ℕ) (before after : List ℕ) → Asks fault t p k i rec a before after → r ≡ packedAsked a
+    → AsksPacked fault t p k i rec r before after
+asks-packed fault t p k i rec a r before after g e =
+    record { answer = e ∙ ap packedAsked (g .answer); lent = record { answer = refl; line = g .line } }

@@ -1,7 +1,9 @@
 -- Answers as one number, for callers in other languages. A refusal is its number; any other answer is 2 ^ 48 or more.
 use Prim.Native.Nat.{ℕ, _+_, _*_, _^_}
 use mathlib.Core.Path.{_≡_}
+use mathlib.Core.Bool.{Bool, cond}
 use mathlib.Core.List.{List}
+use lib.Dec.{eqb}
 use Rattle.table.specs.Table.{Table as Site}
 use Rattle.table_read.specs.Reading.{readingOf, Reads}
 use Rattle.table_write.specs.Writing.{writingOf, Writes}
@@ -15,6 +17,17 @@ use Rattle.plan_output.specs.declared.Output.{Output}
 use Rattle.plan_output.specs.declared.Output.the-variants.{Length as Printed, Refused as Unprinted}
 use Rattle.table_write.specs.declared.Writing.{Writing}
 use Rattle.table_write.specs.declared.Writing.the-variants.{Length, Refused as Unwritten}
+use Rattle.entry.specs.declared.Answer.{Answer}
+use Rattle.entry.specs.declared.Answer.the-variants.{Logged, Refused as Unlogged}
+use Rattle.entry.specs.Entry.{codeOf, linkOf, displacedOf, answerOf}
+use Rattle.rules.specs.declared.Event.{Event}
+use Rattle.rules.specs.Rules.{befalls, entryOf, sendable}
+use Rattle.probe.specs.Answers.{Befallen, Asks, askedEvent}
+use Rattle.probe.specs.declared.Kind.{Kind}
+use Rattle.probe.specs.declared.Asked.{Asked}
+use Rattle.probe.specs.declared.Asked.the-variants.{Written, NotNow, Refused as Unasked}
+use Rattle.probe.specs.declared.Resting.{Resting}
+use Rattle.probe.specs.declared.Resting.the-variants.{Rests, Refused as Untold}
 
 -- the table's number, probe count and link count, 16 bits each, the link count lowest
 abbrev pub packedReading : Reading → ℕ
@@ -33,6 +46,26 @@ packedWriting (Unwritten refusal) = refusal
 abbrev pub packedOutput : Output → ℕ
 packedOutput (Printed length) = 2 ^ 48 + length
 packedOutput (Unprinted refusal) = refusal
+
+-- an entry: the probe above its code, 8 bits, above the link's place and the displaced probe, 16 bits each
+abbrev pub packedAnswer : Answer → ℕ
+packedAnswer (Logged e) = 2 ^ 63 + e .probe * 2 ^ 40 + codeOf (e .what) * 2 ^ 32 + linkOf (e .what) * 2 ^ 16 + displacedOf (e .what)
+packedAnswer (Unlogged refusal) = refusal
+
+-- 1 where the line is written, 0 where it may not be sent now
+abbrev pub packedAsked : Asked → ℕ
+packedAsked Written = 2 ^ 48 + 1
+packedAsked NotNow = 2 ^ 48
+packedAsked (Unasked refusal) = refusal
+
+-- 1 where the link rests
+abbrev pub packedResting : Resting → ℕ
+packedResting (Rests rests) = 2 ^ 48 + cond rests 1 0
+packedResting (Untold refusal) = refusal
+
+-- the answer to asking by the fault found and whether the frame may be sent
+abbrev pub askedOf : ℕ → Bool → Asked
+askedOf fault sendable = cond (eqb fault 0) (cond sendable Written NotNow) (Unasked fault)
 
 -- the answer packed, and the lent slices as the functions that are called leave them
 
@@ -57,3 +90,11 @@ pub record OutputsPacked (text : List ℕ) (r : ℕ) (before after : List ℕ) :
   pub answered : Output
   pub answer : r ≡ packedOutput answered
   pub lent : Outputs text answered before after
+
+pub record BefallenPacked (fault : ℕ) (t : Site) (p : ℕ) (event : Event) (r : ℕ) (before after : List ℕ) : Type 0 where
+  pub answer : r ≡ packedAnswer (answerOf fault (entryOf t p (befalls t p event before)))
+  pub lent : Befallen fault t p event (answerOf fault (entryOf t p (befalls t p event before))) before after
+
+pub record AsksPacked (fault : ℕ) (t : Site) (p : ℕ) (k : Kind) (i : ℕ) (e : List ℕ) (r : ℕ) (before after : List ℕ) : Type 0 where
+  pub answer : r ≡ packedAsked (askedOf fault (sendable (askedEvent k i) e))
+  pub lent : Asks fault t p k i e (askedOf fault (sendable (askedEvent k i) e)) before after

@@ -2,15 +2,29 @@
 ghost use mathlib.Core.Path.{_≡_};
 ghost use mathlib.Core.Bool.{true, false};
 ghost use lib.ListN.{length};
+ghost use Rattle.range.specs.First.{orElse};
 ghost use Rattle.table.specs.Table.{ofSlices};
 ghost use Rattle.table.specs.Legal.{sliceFault};
 ghost use Rattle.table.specs.Checking.{checkingOf, refusalOf};
 ghost use Rattle.table.specs.Text.{ofText, readFault};
 ghost use Rattle.table_write.specs.Writing.{writeFault};
 ghost use Rattle.cover.specs.Planning.{planFault, turnsFault};
-ghost use Rattle.exports.specs.Packed.{packedReading, packedPlanning, ReadsPacked, WritesPacked, PlansPacked, TurnsPacked, OutputsPacked};
+ghost use Rattle.frame.specs.Frame.{frameOf};
+ghost use Rattle.entry.specs.Entry.{codeOf, linkOf, displacedOf};
+ghost use Rattle.rules.specs.declared.Event.the-variants.{Opening};
+ghost use Rattle.rules.specs.Rules.{rests};
+ghost use Rattle.rules.specs.Frames.{heardOf};
+ghost use Rattle.probe.specs.declared.Kind.the-variants.{Offer, Refusal};
+ghost use Rattle.probe.specs.Checks.{hearFault, openFault, linkCallFault};
+ghost use Rattle.probe.specs.Answers.{lentFault, restingOf};
+ghost use Rattle.exports.specs.Packed.{packedReading, packedPlanning, packedAnswer, packedAsked, packedResting, ReadsPacked, WritesPacked, PlansPacked, TurnsPacked, OutputsPacked, BefallenPacked, AsksPacked};
 use cover::Planning;
+use entry::Answer;
+use entry::What;
 use plan_output::Output;
+use probe::Asked;
+use probe::Kind;
+use probe::Resting;
 use table::Checking;
 use table_read::Reading;
 use table_write::Writing;
@@ -181,4 +195,270 @@ pub extern "C" fn planner_plan_text(text: &[u8], out: &mut [u8]) -> u64
         Output::Length(length) => length as u64 + 281474976710656,
         Output::Refused(refusal) => refusal as u64,
     }
+}
+
+// 01's code of what befell a probe.
+fn code(what: What) -> u8
+    ensures { λ r. ⌜ r ≡ codeOf what ⌝ }
+{
+    match what {
+        What::Opened(_) => 0,
+        What::NothingToOpen => 1,
+        What::Taken(_) => 2,
+        What::TakenDisplacing {
+            link: _,
+            displaced: _,
+        } => 3,
+        What::Refused(_) => 4,
+        What::RefusalLearnt(_) => 5,
+        What::NoChange(_) => 6,
+    }
+}
+
+// The link's place, or ffff.
+fn link_place(what: What) -> u16
+    ensures { λ r. ⌜ r ≡ linkOf what ⌝ }
+{
+    match what {
+        What::Opened(link) => link,
+        What::NothingToOpen => 65535,
+        What::Taken(link) => link,
+        What::TakenDisplacing { link, displaced: _ } => link,
+        What::Refused(link) => link,
+        What::RefusalLearnt(link) => link,
+        What::NoChange(link) => link,
+    }
+}
+
+// The displaced probe, or ffff.
+fn displaced_probe(what: What) -> u16
+    ensures { λ r. ⌜ r ≡ displacedOf what ⌝ }
+{
+    match what {
+        What::Opened(_) => 65535,
+        What::NothingToOpen => 65535,
+        What::Taken(_) => 65535,
+        What::TakenDisplacing { link: _, displaced } => displaced,
+        What::Refused(_) => 65535,
+        What::RefusalLearnt(_) => 65535,
+        What::NoChange(_) => 65535,
+    }
+}
+
+fn packed_answer(r: Answer) -> u64
+    ensures { λ n. ⌜ n ≡ packedAnswer r ⌝ }
+{
+    match r {
+        Answer::Logged(e) => {
+            let what = e.what;
+            9223372036854775808
+                + (e.probe as u64) * 1099511627776
+                + (code(what) as u64) * 4294967296
+                + (link_place(what) as u64) * 65536
+                + (displaced_probe(what) as u64)
+        }
+        Answer::Refused(refusal) => refusal as u64,
+    }
+}
+
+// `probe::open`, its answer packed.
+#[no_mangle]
+pub extern "C" fn planner_probe_open(
+    number: u16,
+    probes: u16,
+    links: u16,
+    needs: &[u16],
+    lows: &[u16],
+    highs: &[u16],
+    costs: &[u16],
+    probe: u16,
+    rec: &mut [u8],
+    free: usize,
+) -> u64
+    ensures { λ r. ⌜ BefallenPacked
+        (openFault (sliceFault 256 2048 number probes links (now (needs .entry)) (now (lows .entry)) (now (highs .entry)) (now (costs .entry)))
+        (ofSlices number probes links (now (needs .entry)) (now (lows .entry)) (now (highs .entry)) (now (costs .entry))) probe (now (rec .entry)) free)
+        (ofSlices number probes links (now (needs .entry)) (now (lows .entry)) (now (highs .entry)) (now (costs .entry))) probe Opening
+        r (now (rec .entry)) (now (rec .exit)) ⌝ }
+{
+    packed_answer(probe::open(
+        number,
+        probes,
+        links,
+        needs,
+        lows,
+        highs,
+        costs,
+        probe,
+        rec,
+        free,
+    ))
+}
+
+// `probe::hear`, its answer packed.
+#[no_mangle]
+pub extern "C" fn planner_probe_hear(
+    number: u16,
+    probes: u16,
+    links: u16,
+    needs: &[u16],
+    lows: &[u16],
+    highs: &[u16],
+    costs: &[u16],
+    probe: u16,
+    rec: &mut [u8],
+    frame: &[u8],
+    free: usize,
+) -> u64
+    ensures { λ r. ⌜ BefallenPacked
+        (hearFault (sliceFault 256 2048 number probes links (now (needs .entry)) (now (lows .entry)) (now (highs .entry)) (now (costs .entry)))
+        (ofSlices number probes links (now (needs .entry)) (now (lows .entry)) (now (highs .entry)) (now (costs .entry))) probe (now (rec .entry)) (now (frame .entry)) free)
+        (ofSlices number probes links (now (needs .entry)) (now (lows .entry)) (now (highs .entry)) (now (costs .entry))) probe
+        (heardOf (ofSlices number probes links (now (needs .entry)) (now (lows .entry)) (now (highs .entry)) (now (costs .entry))) (frameOf (now (frame .entry))))
+        r (now (rec .entry)) (now (rec .exit)) ⌝ }
+{
+    packed_answer(probe::hear(
+        number,
+        probes,
+        links,
+        needs,
+        lows,
+        highs,
+        costs,
+        probe,
+        rec,
+        frame,
+        free,
+    ))
+}
+
+fn packed_asked(r: Asked) -> u64
+    ensures { λ n. ⌜ n ≡ packedAsked r ⌝ }
+{
+    match r {
+        Asked::Written => 281474976710657,
+        Asked::NotNow => 281474976710656,
+        Asked::Refused(refusal) => refusal as u64,
+    }
+}
+
+// `probe::ask` for an offer, its answer packed.
+#[no_mangle]
+pub extern "C" fn planner_probe_ask_offer(
+    number: u16,
+    probes: u16,
+    links: u16,
+    needs: &[u16],
+    lows: &[u16],
+    highs: &[u16],
+    costs: &[u16],
+    probe: u16,
+    rec: &[u8],
+    link: u16,
+    out: &mut [u8],
+) -> u64
+    ensures { λ r. ⌜ AsksPacked
+        (orElse (lentFault (length (now (out .entry)))) (linkCallFault (sliceFault 256 2048 number probes links (now (needs .entry)) (now (lows .entry)) (now (highs .entry)) (now (costs .entry)))
+        (ofSlices number probes links (now (needs .entry)) (now (lows .entry)) (now (highs .entry)) (now (costs .entry))) probe (now (rec .entry)) link))
+        (ofSlices number probes links (now (needs .entry)) (now (lows .entry)) (now (highs .entry)) (now (costs .entry))) probe Offer link (now (rec .entry))
+        r (now (out .entry)) (now (out .exit)) ⌝ }
+{
+    packed_asked(probe::ask(
+        number,
+        probes,
+        links,
+        needs,
+        lows,
+        highs,
+        costs,
+        probe,
+        rec,
+        Kind::Offer,
+        link,
+        out,
+    ))
+}
+
+// `probe::ask` for a refusal, its answer packed.
+#[no_mangle]
+pub extern "C" fn planner_probe_ask_refusal(
+    number: u16,
+    probes: u16,
+    links: u16,
+    needs: &[u16],
+    lows: &[u16],
+    highs: &[u16],
+    costs: &[u16],
+    probe: u16,
+    rec: &[u8],
+    link: u16,
+    out: &mut [u8],
+) -> u64
+    ensures { λ r. ⌜ AsksPacked
+        (orElse (lentFault (length (now (out .entry)))) (linkCallFault (sliceFault 256 2048 number probes links (now (needs .entry)) (now (lows .entry)) (now (highs .entry)) (now (costs .entry)))
+        (ofSlices number probes links (now (needs .entry)) (now (lows .entry)) (now (highs .entry)) (now (costs .entry))) probe (now (rec .entry)) link))
+        (ofSlices number probes links (now (needs .entry)) (now (lows .entry)) (now (highs .entry)) (now (costs .entry))) probe Refusal link (now (rec .entry))
+        r (now (out .entry)) (now (out .exit)) ⌝ }
+{
+    packed_asked(probe::ask(
+        number,
+        probes,
+        links,
+        needs,
+        lows,
+        highs,
+        costs,
+        probe,
+        rec,
+        Kind::Refusal,
+        link,
+        out,
+    ))
+}
+
+fn packed_resting(r: Resting) -> u64
+    ensures { λ n. ⌜ n ≡ packedResting r ⌝ }
+{
+    match r {
+        Resting::Rests(rests) => {
+            if rests {
+                return 281474976710657;
+            }
+            281474976710656
+        }
+        Resting::Refused(refusal) => refusal as u64,
+    }
+}
+
+// `probe::rests`, its answer packed.
+#[no_mangle]
+pub extern "C" fn planner_probe_rests(
+    number: u16,
+    probes: u16,
+    links: u16,
+    needs: &[u16],
+    lows: &[u16],
+    highs: &[u16],
+    costs: &[u16],
+    probe: u16,
+    rec: &[u8],
+    link: u16,
+) -> u64
+    ensures { λ r. ⌜ r ≡ packedResting (restingOf
+        (linkCallFault (sliceFault 256 2048 number probes links (now (needs .entry)) (now (lows .entry)) (now (highs .entry)) (now (costs .entry)))
+        (ofSlices number probes links (now (needs .entry)) (now (lows .entry)) (now (highs .entry)) (now (costs .entry))) probe (now (rec .entry)) link)
+        (rests (now (rec .entry)) link)) ⌝ }
+{
+    packed_resting(probe::rests(
+        number,
+        probes,
+        links,
+        needs,
+        lows,
+        highs,
+        costs,
+        probe,
+        rec,
+        link,
+    ))
 }

@@ -12,11 +12,12 @@ use Rattle.record.specs.Record.{outbound, inbound}
 use Rattle.rules.specs.declared.Outcome.{Outcome}
 use Rattle.rules.specs.declared.Outcome.the-variants.{Opened, NothingToOpen, Taken, Displacing, Refused, Learnt, NoChange}
 use Rattle.rules.specs.Rules.{alter}
+use Rattle.rules.specs.Within.{OwnLink, OwnOutcome}
 use Rattle.bargain.proofs.State.{store}
 use Rattle.bargain.proofs.Bytes.{Cell, here, there, cell}
 use Rattle.fleet_theory.specs.Fleet.{outAt, inAt, own, alterFleet}
-use Rattle.fleet_theory.proofs.Own.{outOf, inOf, OwnLink, length-own}
-use Rattle.fleet_theory.proofs.Bytes.{OwnOutcome, storedOut, storedIn, out-set, out-in-set, in-set, in-out-set, altered-out, altered-in}
+use Rattle.fleet_theory.proofs.Own.{outOf, inOf, length-own}
+use Rattle.fleet_theory.proofs.Bytes.{storedOut, storedIn, out-set, out-in-set, in-set, in-out-set, altered-out, altered-in}
 
 -- records of ends that are equal byte by byte
 pairs-equal : (n : ℕ) (e f : List ℕ) → length e ≡ 2 * n → length f ≡ 2 * n → ((i : ℕ) → i < n → outbound e i ≡ outbound f i)

@@ -13,9 +13,10 @@ use Rattle.cover_theory.proofs.Order.{Sound}
 use Rattle.cover_theory.proofs.Plan.{touches-low, touches-high}
 use Rattle.rules.specs.declared.Outcome.{Outcome}
 use Rattle.rules.specs.declared.Outcome.the-variants.{Opened, NothingToOpen, Taken, Displacing, Refused, Learnt, NoChange}
+use Rattle.rules.specs.Within.{OwnLink, OwnOutcome}
 use Rattle.bargain.proofs.State.{store, Same}
 use Rattle.fleet_theory.specs.Fleet.{outAt, inAt, alterFleet}
-use Rattle.fleet_theory.proofs.Own.{outOf, inOf, OwnLink, out-reads, in-reads, out-not-in, set-other, set-own}
+use Rattle.fleet_theory.proofs.Own.{outOf, inOf, out-reads, in-reads, out-not-in, set-other, set-own}
 
 -- "outbound from low, inbound at high, outbound from high, inbound at low"
 module _ (t : Table) (s : Sound t) (r : List ℕ) (i : ℕ) (l : i < t .links) where
@@ -56,16 +57,6 @@ byte-of t s r j l = go (ℕ-discrete (j % 4) 0) (ℕ-discrete (j % 4) 1) (ℕ-di
     go (no a) (yes b) c = let e : j ≡ 4 * i + 1 = omega arith in (t .high i, inr (ap (item r) e ∙ second-byte t s r i within))
     go (no a) (no b) (yes c) = let e : j ≡ 4 * i + 2 = omega arith in (t .high i, inl (ap (item r) e ∙ third-byte t s r i within))
     go (no a) (no b) (no c) = let e : j ≡ 4 * i + 3 = omega arith in (t .low i, inr (ap (item r) e ∙ fourth-byte t s r i within))
-
--- the links of an outcome are the probe's own
-abbrev pub OwnOutcome : Table → ℕ → Outcome → Type 0
-OwnOutcome t p (Opened i) = OwnLink t p i
-OwnOutcome t p NothingToOpen = Unit
-OwnOutcome t p (Taken i) = OwnLink t p i
-OwnOutcome t p (Displacing i c) = OwnLink t p i × OwnLink t p c
-OwnOutcome t p (Refused i) = OwnLink t p i
-OwnOutcome t p (Learnt i) = OwnLink t p i
-OwnOutcome t p (NoChange i) = Unit
 
 -- the outbound and the inbound bytes after an outcome of the probe
 abbrev pub storedOut : ℕ → Outcome → (ℕ → ℕ → ℕ) → ℕ → ℕ → ℕ

@@ -18,10 +18,10 @@ use Rattle.cover_theory.proofs.Settled.{Across}
 use Rattle.frame.specs.Frame.{Frame, frameOf, frameFault}
 use Rattle.rules.specs.declared.Event.the-variants.{Opening, Offer, Refusal}
 use Rattle.rules.specs.Frames.{between, numberFault, heardOf}
+use Rattle.rules.proofs.Frames.{between-across}
 use Rattle.fleet_theory.specs.Fleet.{own, kindFault, endsFault, lineFault, eventOf, unsentFault, outcomeOf}
 use Rattle.fleet_theory.specs.Demand3.{MaySend}
 use Rattle.fleet_theory.proofs.Own.{outOf, inOf}
-use Rattle.fleet_theory.proofs.Lines.{between-across}
 use Rattle.fleet_theory.proofs.Connect.{Came, StepBy, befalls-step}
 
 -- an opening of a probe, or an offer or a refusal from one end of a link to the other

@@ -12,4 +12,5 @@ pub mod Live
 pub mod Finish
 pub mod Demand3
 pub mod Alone
+pub mod Ends
 pub mod Samples

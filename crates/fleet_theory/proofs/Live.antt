@@ -15,6 +15,7 @@ use Rattle.table.specs.Legal.{Legal}
 use Rattle.cover_theory.proofs.Plan.{at-end}
 use Rattle.cover_theory.proofs.Settled.{Across, near, back}
 use Rattle.record.specs.Record.{outbound, ownWith, standing, held, dearestUntried, cheapestHeld}
+use Rattle.record.proofs.Search.{dearest}
 use Rattle.frame.specs.Frame.{Frame, frameOf, frameLine}
 use Rattle.rules.specs.declared.Event.{Event}
 use Rattle.rules.specs.declared.Event.the-variants.{Opening, Offer, Refusal}
@@ -27,7 +28,7 @@ use Rattle.fleet_theory.specs.Demand3.{MaySend}
 use Rattle.fleet_theory.proofs.Own.{outOf, inOf}
 use Rattle.fleet_theory.proofs.Bytes.{storedIn, altered-out, altered-in}
 use Rattle.fleet_theory.proofs.Lines.{opening-line, frame-line}
-use Rattle.fleet_theory.proofs.Connect.{dearest, befalls-step}
+use Rattle.fleet_theory.proofs.Connect.{befalls-step}
 use Rattle.fleet_theory.proofs.Events.{Says, an-opening, an-offer, a-refusal, says, may-offer, may-refuse, NotUnsent}
 
 -- 27 turns down no opening and no frame that may be sent

@@ -2,24 +2,20 @@
 use Prim.Native.Nat.{ℕ, _<_}
 use mathlib.Core.Path.{_≡_, refl, sym, _∙_}
 use mathlib.Core.Logic.{_⊎_, inl, inr}
-use mathlib.Core.Bool.{true, false}
 use mathlib.Core.List.{List, [], _∷_, _++_}
 use native.Mathlib.Omega.{arith}
-use lib.Dec.{eqb}
-use borrow.Author.Tests.{eqb-true}
-use Rattle.range.proofs.Bools.{decided}
-use Rattle.table.specs.Table.{Table, touches}
+use Rattle.table.specs.Table.{Table}
 use Rattle.table.specs.Legal.{Legal}
-use Rattle.cover_theory.proofs.Settled.{Across, up, down}
 use Rattle.entry.specs.declared.Entry.{Entry}
 use Rattle.rules.specs.declared.Outcome.{Outcome}
 use Rattle.rules.specs.declared.Outcome.the-variants.{Opened, NothingToOpen, Taken, Displacing, Refused, Learnt, NoChange}
 use Rattle.rules.specs.Rules.{other, whatOf}
+use Rattle.rules.specs.Within.{OwnOutcome}
+use Rattle.rules.proofs.Frames.{joins-across, across-joins, other-across, one-link}
 use Rattle.bargain.proofs.State.{store}
 use Rattle.bargain.proofs.Bytes.{Cell, here, there, cell, stored, before-store, Swap, gone, new, old, swap}
 use Rattle.fleet_theory.specs.Demand3.{Refuses, RefusedIn}
-use Rattle.fleet_theory.proofs.Bytes.{OwnOutcome, storedIn}
-use Rattle.fleet_theory.proofs.Lines.{joins-across, across-joins, one-link}
+use Rattle.fleet_theory.proofs.Bytes.{storedIn}
 
 -- an entry more
 module _ (t : Table) (i : ℕ) (e : Entry) where
@@ -39,13 +35,6 @@ module _ (t : Table) (i : ℕ) (e : Entry) where
       go : RefusedIn t i es ⊎ Refuses t i (e .probe) (e .what) → RefusedIn t i (d ∷ es) ⊎ Refuses t i (e .probe) (e .what)
       go (inl b) = inl (inr b)
       go (inr b) = inr b
-
-other-across : (t : Table) (p i : ℕ) → touches t p i ≡ true → Across t i p (other t p i)
-other-across t p i e = go (decided (eqb p (t .low i)))
-  where
-    go : (eqb p (t .low i) ≡ true) ⊎ (eqb p (t .low i) ≡ false) → Across t i p (other t p i)
-    go (inl a) = rw a (rw (eqb-true p (t .low i) a) up)
-    go (inr a) = rw a (rw (eqb-true p (t .high i) (rw a at e)) down)
 
 module _ (t : Table) (p : ℕ) (n : ℕ → ℕ → ℕ) where
   -- a byte 2 was there before, or the entry says it

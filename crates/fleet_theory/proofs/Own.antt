@@ -15,6 +15,7 @@ use Rattle.range.proofs.Bools.{decided}
 use Rattle.range.proofs.Lists.{length-joined, joined-at}
 use Rattle.table.specs.Table.{Table, item, touches}
 use Rattle.record.specs.Record.{outbound, inbound}
+use Rattle.rules.specs.Within.{OwnLink}
 use Rattle.bargain.proofs.State.{store, Same}
 use Rattle.bargain.proofs.Bytes.{Cell, here, there, cell}
 use Rattle.fleet_theory.specs.Fleet.{outAt, inAt, ownPair, own}
@@ -25,10 +26,6 @@ outOf t r p i = outbound (own t p r) i
 
 abbrev pub inOf : Table → List ℕ → ℕ → ℕ → ℕ
 inOf t r p i = inbound (own t p r) i
-
--- the link is the probe's own
-abbrev pub OwnLink : Table → ℕ → ℕ → Type 0
-OwnLink t p i = (i < t .links) × (touches t p i ≡ true)
 
 pub own-or-not : (t : Table) (p i : ℕ) → OwnLink t p i ⊎ (OwnLink t p i → ⊥)
 own-or-not t p i = go (decLt i (t .links)) (decided (touches t p i))

@@ -17,13 +17,13 @@ use Rattle.table.specs.Legal.{Legal}
 use Rattle.cover_theory.proofs.Plan.{at-end}
 use Rattle.cover_theory.proofs.Settled.{Across, up, down, back}
 use Rattle.record.specs.Record.{outbound, ownWith, standing, dearestUntried}
+use Rattle.record.proofs.Search.{dearest}
 use Rattle.frame.specs.Frame.{Frame, frameOf}
 use Rattle.bargain.proofs.State.{onesAt, Quiet}
 use Rattle.bargain.proofs.Bytes.{legal-sound}
 use Rattle.fleet_theory.specs.Fleet.{own, lineFault, alteredBy, opens, stirs, finished}
 use Rattle.fleet_theory.specs.Demand3.{MaySend}
 use Rattle.fleet_theory.proofs.Own.{outOf, inOf}
-use Rattle.fleet_theory.proofs.Connect.{dearest}
 use Rattle.fleet_theory.proofs.Events.{Says, an-opening, an-offer, a-refusal, says, may-offer, may-refuse}
 
 module _ (t : Table) (legal : Legal t) (r : List ℕ) where

@@ -19,12 +19,13 @@ use Rattle.record.specs.Record.{standing, held, spareFault}
 use Rattle.frame.specs.Frame.{frameOf}
 use Rattle.rules.specs.declared.Outcome.{Outcome}
 use Rattle.rules.specs.Rules.{whatOf, entryOf}
+use Rattle.rules.specs.Within.{OwnLink}
 use Rattle.bargain.proofs.State.{Same, Step, idle, Sent, Denied, Good}
 use Rattle.bargain.proofs.Bytes.{legal-sound}
 use Rattle.bargain.proofs.Rise.{fresh-good, in-rises, good-step}
 use Rattle.fleet_theory.specs.Fleet.{outAt, inAt, own, fleetFault, lineFault, Slices, tableOf, slicesFault, outcomeOf, State, start, faultOf, accepted, next, run}
 use Rattle.fleet_theory.specs.Demand3.{RefusedIn, Refuses}
-use Rattle.fleet_theory.proofs.Own.{outOf, inOf, OwnLink, own-or-not, Reads, out-reads, in-reads}
+use Rattle.fleet_theory.proofs.Own.{outOf, inOf, own-or-not, Reads, out-reads, in-reads}
 use Rattle.fleet_theory.proofs.Bytes.{byte-of, length-altered, altered-in}
 use Rattle.fleet_theory.proofs.Connect.{StepBy}
 use Rattle.fleet_theory.proofs.Events.{unsentOf, NotUnsent, line-step}
@@ -129,7 +130,7 @@ module _ (x : Slices) (fine : slicesFault x ≡ 0) where
       abbrev full : ℕ
       full = fullFault (length (s .log)) room
 
-      passed : faultOf x room s l ≡ 0 → Passed x room s l
+      pub passed : faultOf x room s l ≡ 0 → Passed x room s l
       passed e =
           let a = sym (fault-is room l) ∙ e in
           let b = or-right (lineFault t l) (orElse unsent full) a in

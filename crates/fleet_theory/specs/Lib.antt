@@ -1,3 +1,4 @@
 pub mod Fleet
 pub mod Demand3
+pub mod Ends
 pub mod Samples

@@ -7,7 +7,7 @@ use mathlib.Core.List.{List}
 use lib.Dec.{ltb, eqb}
 use native.Mathlib.Omega.{arith}
 use native.Mathlib.Decide.{ℕ-discrete}
-use borrow.Author.Tests.{ltb-true, ne-eqb}
+use borrow.Author.Tests.{ltb-true, eqb-true, ne-eqb}
 use Rattle.range.specs.First.{orElse}
 use Rattle.range.proofs.Bools.{and-left, and-right, unless-none, decided}
 use Rattle.range.proofs.Faults.{or-left, or-right, or-through, or-past}
@@ -26,15 +26,22 @@ module _ (t : Table) (p : ℕ) (l : List ℕ) (e : heardFault t p l ≡ 0) where
   unfolding heardFault
   heard-frame = or-left (frameFault l) (orElse (kindFault f) (orElse (numberFault t f) (toFault t p f))) e
 
-  -- the link is one of the table's
-  pub heard-link : between t (f .from) (f .to) < t .links
+  to-passes : (eqb (f .to) p && ltb (between t (f .from) (f .to)) (t .links)) ≡ true
   unfolding heardFault
-  heard-link =
-      let i = between t (f .from) (f .to) in
+  to-passes =
       let a = or-right (frameFault l) (orElse (kindFault f) (orElse (numberFault t f) (toFault t p f))) e in
       let b = or-right (kindFault f) (orElse (numberFault t f) (toFault t p f)) a in
       let c = or-right (numberFault t f) (toFault t p f) b in
-      ltb-true i (t .links) (and-right (eqb (f .to) p) (ltb i (t .links)) (unless-none (eqb (f .to) p && ltb i (t .links)) 23 c))
+      unless-none (eqb (f .to) p && ltb (between t (f .from) (f .to)) (t .links)) 23 c
+
+  pub heard-to : f .to ≡ p
+  heard-to = eqb-true (f .to) p (and-left (eqb (f .to) p) (ltb (between t (f .from) (f .to)) (t .links)) to-passes)
+
+  -- the link is one of the table's
+  pub heard-link : between t (f .from) (f .to) < t .links
+  heard-link =
+      let i = between t (f .from) (f .to) in
+      ltb-true i (t .links) (and-right (eqb (f .to) p) (ltb i (t .links)) to-passes)
 
   pub heard-within : EventWithin (t .links) (heardOf t f)
   heard-within = go (decided (eqb (f .kind) 1))

@@ -1,16 +1,22 @@
--- A call of an end that is refused, and one that is accepted.
+-- A call of an end that is refused, and one that is accepted; the event of a frame asked for.
 use Prim.Native.Nat.{ℕ}
 use mathlib.Core.Path.{_≡_, sym, _∙_, ap}
 use mathlib.Core.List.{List}
 use borrow.Author.Tests.{ne-eqb}
 use Rattle.table.specs.Table.{Table, ofSlices}
+use Rattle.table.specs.Legal.{Legal}
 use Rattle.entry.specs.declared.Entry.{Entry}
 use Rattle.entry.specs.declared.Answer.the-variants.{Logged, Refused}
 use Rattle.rules.specs.declared.Event.{Event}
 use Rattle.rules.specs.declared.Outcome.{Outcome}
-use Rattle.rules.specs.Rules.{befalls, alter, entryOf}
+use Rattle.rules.specs.Rules.{befalls, alter, entryOf, other}
+use Rattle.rules.specs.Frames.{heardOf}
+use Rattle.rules.specs.Within.{OwnLink}
+use Rattle.rules.proofs.Frames.{other-across, between-is}
 use Rattle.rules.proofs.Outcomes.{entry-same, befalls-same}
-use Rattle.probe.specs.Answers.{Befallen}
+use Rattle.probe.specs.declared.Kind.{Kind}
+use Rattle.probe.specs.declared.Kind.the-variants as kind
+use Rattle.probe.specs.Answers.{Befallen, askedEvent, askedFrame}
 
 pub refused-call : (fault : ℕ) (t : Table) (p : ℕ) (event : Event) (r : ℕ) (e : List ℕ) → r ≡ fault → (r ≡ 0 → ⊥) → Befallen fault t p event (Refused r) e e
 refused-call fault t p event r e same n =
@@ -30,3 +36,8 @@ accepted-call fault number probes links needs lows highs costs p event e entry a
       answer = rw none (ap Logged (is ∙ from ∙ plain ∙ full));
       record-after = rw none (bytes ∙ ap (λ (o : Outcome). alter o e) same);
     }
+
+-- the frame asked for is heard as what was asked for
+pub asked-event : (t : Table) → Legal t → (p i : ℕ) → OwnLink t p i → (k : Kind) → heardOf t (askedFrame t p k i) ≡ askedEvent k i
+asked-event t legal p i a kind.Offer = rw (between-is t legal i p (other t p i) (a .0) (other-across t p i (a .1)))
+asked-event t legal p i a kind.Refusal = rw (between-is t legal i p (other t p i) (a .0) (other-across t p i (a .1)))

@@ -6,7 +6,7 @@ use mathlib.Core.List.{List}
 use lib.Dec.{ltb, eqb}
 use lib.Seq.{sets}
 use Rattle.table.specs.Table.{Table}
-use Rattle.frame.specs.Frame.{frameLine}
+use Rattle.frame.specs.Frame.{Frame, frameLine}
 use Rattle.entry.specs.declared.Answer.{Answer}
 use Rattle.entry.specs.Entry.{answerOf}
 use Rattle.rules.specs.declared.Event.{Event}
@@ -37,9 +37,12 @@ askedEvent kind.Refusal i = Refusal i
 abbrev pub lentFault : ℕ → ℕ
 lentFault lent = cond (ltb lent 15) 8 0
 
--- the line of the frame from the probe p on the link i
+-- the frame from the probe p on the link i, and its line
+abbrev pub askedFrame : Table → ℕ → Kind → ℕ → Frame
+askedFrame t p k i = record { kind = kindOf k; number = t .number; from = p; to = other t p i }
+
 abbrev pub askedLine : Table → ℕ → Kind → ℕ → List ℕ
-askedLine t p k i = frameLine (record { kind = kindOf k; number = t .number; from = p; to = other t p i })
+askedLine t p k i = frameLine (askedFrame t p k i)
 
 -- "an end writes the frame's line at the start of a lent slice, or answers that it may not be sent now and writes nothing"
 pub record Asks (fault : ℕ) (t : Table) (p : ℕ) (k : Kind) (i : ℕ) (e : List ℕ) (r : Asked) (before after : List ℕ) : Type 0 where

@@ -1,16 +1,33 @@
--- Searching links in rising order: of two links of equal cost the later is the dearer.
+-- The links that the searches answer. Searching in rising order: of two links of equal cost the later is the dearer.
 use Prim.Native.Nat.{ℕ, _<_}
 use mathlib.Core.Path.{_≡_, refl, sym, _∙_}
 use mathlib.Core.Logic.{_⊎_, inl, inr}
 use mathlib.Core.Bool.{Bool, true, false, _&&_, _||_}
+use mathlib.Core.List.{List}
+use native.Mathlib.Nat.{le-refl}
 use native.Mathlib.Omega.{arith}
 use native.Mathlib.Decide.{decLt}
 use lib.Dec.{ltb, leb, eqb}
 use borrow.Author.Tests.{lt-ltb, le-ltb, le-leb, lt-leb, eq-eqb, ne-eqb, leb-true, leb-false}
 use Rattle.range.proofs.Bools.{or-cases, or-false-left, or-false-right}
-use Rattle.table.specs.Table.{Table, dearer}
+use Rattle.range.proofs.Choice.{Best, best-is}
+use Rattle.table.specs.Table.{Table, dearer, cheaper}
 use Rattle.table.specs.Legal.{Legal}
-use Rattle.cover_theory.proofs.Order.{sound, dearer-by-place}
+use Rattle.cover_theory.proofs.Places.{Order, opposite}
+use Rattle.cover_theory.proofs.Order.{sound, dearer-by-place, dearer-order}
+use Rattle.record.specs.Record.{outbound, inbound, ownWith, dearestUntried, cheapestHeld}
+
+module _ (t : Table) (legal : Legal t) (p : ℕ) (e : List ℕ) where
+  abbrev order : Order (t .links) (dearer t)
+  order = dearer-order t (sound 256 2048 t legal .order)
+
+  pub dearest : Best (dearer t) (ownWith t p (outbound e) 0) (t .links) (t .links) (dearestUntried t p e)
+  dearest = best-is (dearer t) (ownWith t p (outbound e) 0) (t .links) (order .irreflexive) (order .transitive) (t .links) (le-refl (t .links))
+
+  pub cheapest : Best (cheaper t) (ownWith t p (inbound e) 1) (t .links) (t .links) (cheapestHeld t p e)
+  cheapest =
+      let o = opposite order in
+      best-is (cheaper t) (ownWith t p (inbound e) 1) (t .links) (o .irreflexive) (o .transitive) (t .links) (le-refl (t .links))
 
 module _ (t : Table) (legal : Legal t) (k b : ℕ) (l : k < t .links) where
   later-dearer : b < k → dearer t k b ≡ leb (t .cost b) (t .cost k)

@@ -1,20 +1,18 @@
--- Walks along a probe's chain.
+-- Searches along a probe's chains: down its links, and up its held offers.
 use Prim.Native.Nat.{ℕ, _+_, _-_, _*_, _/_, _%_, _≤_, _<_}
-use mathlib.Core.Path.{_≡_, refl, sym, _∙_, ap}
-use mathlib.Core.Bool.{Bool, true, false, cond, _&&_}
+use mathlib.Core.Path.{_≡_, sym, _∙_, ap}
+use mathlib.Core.Bool.{Bool, true, cond, _&&_}
 use mathlib.Core.List.{List}
 use native.Mathlib.Omega.{arith}
 use native.Mathlib.Decide.{decLt, ℕ-discrete}
 use lib.Dec.{ltb, eqb}
-use lib.ListN.{length}
-use borrow.Author.Tests.{ltb-true, lt-ltb, le-ltb, eqb-true, eq-eqb, ne-eqb}
-use Rattle.range.specs.Sum.{count}
+use borrow.Author.Tests.{lt-ltb, le-ltb, eqb-true, eq-eqb, ne-eqb}
 use Rattle.range.proofs.Bools.{and-left, and-right, and-intro}
-use Rattle.range.proofs.Sums.{sum-same, sum-add, sum-one, weigh-le, none-count}
+use Rattle.range.proofs.Sums.{weigh-le, count-less, member}
 use Rattle.table.specs.Table.{item}
-use Rattle.suitor.specs.Offers.{Site, rivals, Shut, NoneLeft, Sought}
+use Rattle.suitor.specs.Offers.{Site, holds, rivals, Shut, Inv, Grows, Sought, Cheapest, Walk, Floor}
 use Rattle.suitor.specs.Record.{endOf, keyOf, siteOf, Fits}
-use Rattle.suitor.specs.Chain.{opposite, Below, Chain}
+use Rattle.suitor.specs.Chain.{opposite, Below, Follows, Falling, Rising, turnedKey}
 use Rattle.suitor.proofs.Record.{end-even, end-odd, distinct}
 
 opposite-even : (d : ℕ) → d % 2 ≡ 0 → opposite d ≡ d + 1
@@ -25,7 +23,7 @@ opposite-odd : (d : ℕ) → (d % 2 ≡ 0 → ⊥) → opposite d ≡ d - 1
 unfolding opposite
 opposite-odd d n = rw (ne-eqb (d % 2) 0 n)
 
-pub opposite-half : (d : ℕ) → opposite d / 2 ≡ d / 2
+opposite-half : (d : ℕ) → opposite d / 2 ≡ d / 2
 opposite-half d = go (ℕ-discrete (d % 2) 0)
   where
     go : Dec (d % 2 ≡ 0) → opposite d / 2 ≡ d / 2
@@ -46,64 +44,81 @@ opposite-end a b d = go (ℕ-discrete (d % 2) 0)
         let h = opposite-odd d n in
         end-even a b (opposite d) (omega arith) ∙ ap (item a) (opposite-half d) ∙ sym (end-odd b a d n)
 
-pub opposite-key : (costs : List ℕ) (d : ℕ) → keyOf costs (opposite d) ≡ keyOf costs d
+opposite-key : (costs : List ℕ) (d : ℕ) → keyOf costs (opposite d) ≡ keyOf costs d
 unfolding keyOf
 opposite-key costs d = rw (opposite-half d)
 
--- the walk along u's chain stands at e: what is dearer is tried or would not be taken
-pub record Walk (s : Site) (o : ℕ → ℕ) (u e : ℕ) : Type 0 where
-  pub own : e < s .dirs → s .source e ≡ u
-  pub top : e < s .dirs → (g : ℕ) → g < s .dirs → s .source g ≡ u → o g ≡ 0 → s .key e < s .key g → Shut s o g
-  pub end : s .dirs ≤ e → NoneLeft s o u
-
--- the walk along the chain of d's target stands at f, not past d's own link: n dearer ones are held
-pub record Counted (links : ℕ) (lows highs costs : List ℕ) (o : ℕ → ℕ) (d f n : ℕ) : Type 0 where
-  pub below : f < 2 * links
-  pub own : endOf lows highs f ≡ endOf highs lows d
-  pub over : keyOf costs d ≤ keyOf costs f
-  pub number : n ≡ count (2 * links) (λ g. (eqb (endOf highs lows g) (endOf highs lows d) && ltb (keyOf costs f) (keyOf costs g)) && eqb (o g) 1)
-  pub few : n ≤ 4294967296 - keyOf costs f
-
 -- a number that falls along a chain
-abbrev pub height : ℕ → List ℕ → ℕ → ℕ
-height links costs e = cond (ltb e (2 * links)) (keyOf costs e + 1) 0
+abbrev pub height : ℕ → (ℕ → ℕ) → ℕ → ℕ
+height dirs key e = cond (ltb e dirs) (key e + 1) 0
 
-module _ (links : ℕ) (lows highs costs spares heads nexts : List ℕ) (fits : Fits links lows highs costs spares) (chain : Chain links lows highs costs heads nexts) where
+pub falls : (dirs : ℕ) (source key : ℕ → ℕ) (nexts : List ℕ) → Follows dirs source key nexts → (d e : ℕ) → d < dirs → e ≡ item nexts d → height dirs key e < height dirs key d
+falls dirs source key nexts follows d e l q = rw (lt-ltb d dirs l) (go (decLt e dirs))
+  where
+    b : Below dirs source key (source d) (key d) e
+    b = rw q (follows .next d l)
+
+    go : Dec (e < dirs) → height dirs key e < key d + 1
+    go (yes k) = let a = b .less k in rw (lt-ltb e dirs k) (omega arith)
+    go (no k) = rw (le-ltb e dirs (omega arith)) (omega arith)
+
+-- what the searches know stays so
+pub walk-grows : (s : Site) (o o′ : ℕ → ℕ) → Grows s o o′ → (u e : ℕ) → Walk s o u e → Walk s o′ u e
+walk-grows s o o′ grows u e w =
+    record {
+      own = w .own;
+      top = λ l g lg own z m. grows .shut g lg (w .top l g lg own (grows .tried g z) m);
+      end = λ l g lg own z. grows .shut g lg (w .end l g lg own (grows .tried g z));
+    }
+
+pub floor-grows : (s : Site) (o o′ : ℕ → ℕ) → Grows s o o′ → (v f : ℕ) → Floor s o v f → Floor s o′ v f
+floor-grows s o o′ grows v f h =
+    record { below = h .below; own = h .own; low = λ g lg at m. grows .shut g lg (h .low g lg at m) }
+
+pub walk-sought : (s : Site) (o : ℕ → ℕ) (u r : ℕ) → Sought s o u r → Walk s o u r
+walk-sought s o u r h = record { own = λ l. h .some l .own; top = λ l. h .some l .dearest; end = h .none }
+
+module _ (links : ℕ) (lows highs costs spares : List ℕ) (fits : Fits links lows highs costs spares) where
   abbrev site : Site
   site = siteOf links lows highs costs spares
 
-  pub falls : (d e : ℕ) → d < 2 * links → e ≡ item nexts d → height links costs e < height links costs d
-  falls d e l q = rw (lt-ltb d (2 * links) l) (go (decLt e (2 * links)))
-    where
-      b : Below links lows highs costs (endOf lows highs d) (keyOf costs d) e
-      b = rw q (chain .linked .follows d l (chain .small d l))
+  small : (d : ℕ) → d < 2 * links → keyOf costs d < 4294967296
+  unfolding keyOf
+  small d l = let a = fits .cheap (d / 2) in let b = fits .few in omega arith
 
-      go : Dec (e < 2 * links) → height links costs e < keyOf costs d + 1
-      go (yes k) = let a = b .less k in rw (lt-ltb e (2 * links) k) (omega arith)
-      go (no k) = rw (le-ltb e (2 * links) (omega arith)) (omega arith)
+  pub walk-start : (o : ℕ → ℕ) (u e : ℕ) → Below (2 * links) (endOf lows highs) (keyOf costs) u 4294967296 e → Walk site o u e
+  walk-start o u e b =
+      record {
+        own = b .own;
+        top = λ k g lg own z m. let a = b .most k g lg own (small g lg) in absurd (omega arith);
+        end = λ k g lg own z. absurd (b .none k g lg own (small g lg));
+      }
+
+  pub floor-start : (o : ℕ → ℕ) (v f : ℕ) → Below (2 * links) (endOf lows highs) (turnedKey costs) v 4294967296 f → (d : ℕ) → d < 2 * links → endOf highs lows d ≡ v → Floor site o v f
+  floor-start o v f b d l at = go (decLt f (2 * links))
+    where
+      go : Dec (f < 2 * links) → Floor site o v f
+      go (no n) = absurd (b .none (omega arith) (opposite d) (opposite-below links d l) (opposite-end lows highs d ∙ at) (omega arith))
+      go (yes k) = record { below = k; own = b .own k; low = λ g lg own m. absurd (none g lg own m) }
+        where
+          none : (g : ℕ) → g < 2 * links → endOf highs lows g ≡ v → keyOf costs g < keyOf costs f → ⊥
+          none g lg own m =
+              let a = b .most k (opposite g) (opposite-below links g lg) (opposite-end lows highs g ∙ own) (omega arith) in
+              let e = opposite-key costs g in
+              let x = small f k in
+              omega arith
 
   module _ (o : ℕ → ℕ) (u : ℕ) where
-    pub walk-start : (e : ℕ) → u < length heads → e ≡ item heads u → Walk site o u e
-    walk-start e l q =
-        record {
-          own = λ k. b .own k;
-          top = λ k g lg own z m. let a = b .most k g lg own (chain .small g lg) in absurd (omega arith);
-          end = λ k g lg own z. absurd (b .none k g lg own (chain .small g lg));
-        }
-      where
-        b : Below links lows highs costs u 4294967296 e
-        b = rw q (chain .linked .firsts u l)
-
-    pub walk-next : (d e : ℕ) → d < 2 * links → Walk site o u d → (o d ≡ 0 → Shut site o d) → e ≡ item nexts d → Walk site o u e
-    walk-next d e l w past q =
+    pub walk-next : (nexts : List ℕ) → Falling links lows highs costs nexts → (d e : ℕ) → d < 2 * links → Walk site o u d → (o d ≡ 0 → Shut site o d) → e ≡ item nexts d → Walk site o u e
+    walk-next nexts chain d e l w past q =
         record {
           own = λ k. b .own k ∙ w .own l;
           top = λ k g lg own z m. go g lg own z (λ a. let x = b .most k g lg (own ∙ sym (w .own l)) a in omega arith) (decLt (keyOf costs g) (keyOf costs d)) (decLt (keyOf costs d) (keyOf costs g));
           end = λ k g lg own z. go g lg own z (λ a. b .none k g lg (own ∙ sym (w .own l)) a) (decLt (keyOf costs g) (keyOf costs d)) (decLt (keyOf costs d) (keyOf costs g));
         }
       where
-        b : Below links lows highs costs (endOf lows highs d) (keyOf costs d) e
-        b = rw q (chain .linked .follows d l (chain .small d l))
+        b : Below (2 * links) (endOf lows highs) (keyOf costs) (endOf lows highs d) (keyOf costs d) e
+        b = rw q (chain .next d l)
 
         go : (g : ℕ) → g < 2 * links → endOf lows highs g ≡ u → o g ≡ 0 → (keyOf costs g < keyOf costs d → ⊥) → Dec (keyOf costs g < keyOf costs d) → Dec (keyOf costs d < keyOf costs g) → Shut site o g
         go g lg own z n (yes a) c = absurd (n a)
@@ -122,147 +137,146 @@ module _ (links : ℕ) (lows highs costs spares heads nexts : List ℕ) (fits : 
     pub walk-end : (e : ℕ) → 2 * links ≤ e → Walk site o u e → Sought site o u (2 * links)
     walk-end e l w = record { some = λ k. absurd (omega arith); none = λ k. w .end l }
 
-  pub target-wide : (d : ℕ) → d < 2 * links → endOf highs lows d < length heads
-  target-wide d l = rw (opposite-end lows highs d) at (chain .wide (opposite d) (opposite-below links d l))
+  -- the offers that v holds, of which f's opposite may be the cheapest
+  module _ (o : ℕ → ℕ) (inv : Inv site o) (v : ℕ) where
+    abbrev holder : ℕ → Bool
+    holder g = eqb (endOf highs lows g) v && eqb (o g) 1
 
-  module _ (o : ℕ → ℕ) (d : ℕ) (l : d < 2 * links) where
-    -- d's own link at its target
-    back-below : opposite d < 2 * links
-    back-below = opposite-below links d l
+    holder-at : (g : ℕ) → holder g ≡ true → endOf highs lows g ≡ v
+    holder-at g h = eqb-true (endOf highs lows g) v (and-left (eqb (endOf highs lows g) v) (eqb (o g) 1) h)
 
-    back-own : endOf lows highs (opposite d) ≡ endOf highs lows d
-    back-own = opposite-end lows highs d
+    holder-on : (g : ℕ) → holder g ≡ true → o g ≡ 1
+    holder-on g h = eqb-true (o g) 1 (and-right (eqb (endOf highs lows g) v) (eqb (o g) 1) h)
 
-    back-key : keyOf costs (opposite d) ≡ keyOf costs d
-    back-key = opposite-key costs d
+    held-is : (g : ℕ) → endOf highs lows g ≡ v → o g ≡ 1 → holder g ≡ true
+    held-is g at e = and-intro (eq-eqb (endOf highs lows g) v at) (eq-eqb (o g) 1 e)
 
-    pub counted-start : (f : ℕ) → f ≡ item heads (endOf highs lows d) → endOf highs lows d < length heads → Counted links lows highs costs o d f 0
-    counted-start f q lv = go (decLt f (2 * links))
-      where
-        b : Below links lows highs costs (endOf highs lows d) 4294967296 f
-        b = rw q (chain .linked .firsts (endOf highs lows d) lv)
+    abbrev rival : ℕ → ℕ → Bool
+    rival d g = (eqb (endOf highs lows g) (endOf highs lows d) && ltb (keyOf costs d) (keyOf costs g)) && eqb (o g) 1
 
-        go : Dec (f < 2 * links) → Counted links lows highs costs o d f 0
-        go (no n) = absurd (b .none (omega arith) (opposite d) back-below back-own (chain .small (opposite d) back-below))
-        go (yes k) =
-            record {
-              below = k;
-              own = b .own k;
-              over = let a = b .most k (opposite d) back-below back-own (chain .small (opposite d) back-below) in let e = back-key in omega arith;
-              number = sym (none-count (2 * links) (λ g. (eqb (endOf highs lows g) (endOf highs lows d) && ltb (keyOf costs f) (keyOf costs g)) && eqb (o g) 1) none);
-              few = omega arith;
-            }
-          where
-            none : (g : ℕ) → g < 2 * links → ((eqb (endOf highs lows g) (endOf highs lows d) && ltb (keyOf costs f) (keyOf costs g)) && eqb (o g) 1) ≡ true → ⊥
-            none g lg h =
-                let x = eqb (endOf highs lows g) (endOf highs lows d) in
-                let y = ltb (keyOf costs f) (keyOf costs g) in
-                let both = and-left (x && y) (eqb (o g) 1) h in
-                let at = eqb-true (endOf highs lows g) (endOf highs lows d) (and-left x y both) in
-                let m = ltb-true (keyOf costs f) (keyOf costs g) (and-right x y both) in
-                let a = b .most k (opposite g) (opposite-below links g lg) (opposite-end lows highs g ∙ at) (chain .small (opposite g) (opposite-below links g lg)) in
-                let e = opposite-key costs g in
-                omega arith
-
-    pub counted-next : (f n e bit : ℕ) → Counted links lows highs costs o d f n → (f ≡ opposite d → ⊥) → e ≡ item nexts f → bit ≡ cond (eqb (o (opposite f)) 1) 1 0 → Counted links lows highs costs o d e (n + bit)
-    counted-next f n e bit c far q eb = go (decLt e (2 * links))
-      where
-        b : Below links lows highs costs (endOf lows highs f) (keyOf costs f) e
-        b = rw q (chain .linked .follows f (c .below) (chain .small f (c .below)))
-
-        -- d's own link is further on
-        ahead : keyOf costs d < keyOf costs f
-        ahead = less (decLt (keyOf costs d) (keyOf costs f))
-          where
-            less : Dec (keyOf costs d < keyOf costs f) → keyOf costs d < keyOf costs f
-            less (yes a) = a
-            less (no a) =
-                let e = back-key in
-                let m = c .over in
-                absurd (far (distinct links lows highs costs spares fits .sources f (opposite d) (c .below) back-below (c .own ∙ sym back-own) (omega arith)))
-
-        back-less : keyOf costs (opposite d) < keyOf costs f
-        back-less = let a = ahead in let e = back-key in omega arith
-
-        go : Dec (e < 2 * links) → Counted links lows highs costs o d e (n + bit)
-        go (no m) = absurd (b .none (omega arith) (opposite d) back-below (back-own ∙ sym (c .own)) back-less)
-        go (yes k) =
-            record {
-              below = k;
-              own = b .own k ∙ c .own;
-              over = let a = b .most k (opposite d) back-below (back-own ∙ sym (c .own)) back-less in let e = back-key in omega arith;
-              number = number;
-              few = let a = c .few in let x = b .less k in let y = bit-most (eqb (o (opposite f)) 1) in let z = chain .small f (c .below) in omega arith;
-            }
-          where
-            bit-most : (b : Bool) → cond b 1 0 ≤ 1
-            bit-most true = omega arith
-            bit-most false = omega arith
-
-            at : ℕ → Bool
-            at g = eqb (endOf highs lows g) (endOf highs lows d)
-
-            opp-end : endOf highs lows (opposite f) ≡ endOf highs lows d
-            opp-end = opposite-end highs lows f ∙ c .own
-
-            -- those dearer than e are those dearer than f, and f's own
-            point : (g : ℕ) → g < 2 * links → Dec (g ≡ opposite f) → Dec (endOf highs lows g ≡ endOf highs lows d) → Dec (keyOf costs f < keyOf costs g) → Dec (keyOf costs e < keyOf costs g)
-                → cond ((at g && ltb (keyOf costs e) (keyOf costs g)) && eqb (o g) 1) 1 0
-                ≡ cond ((at g && ltb (keyOf costs f) (keyOf costs g)) && eqb (o g) 1) 1 0 + cond (eqb g (opposite f)) (cond (eqb (o g) 1) 1 0) 0
-            point g lg (yes w) x y z =
-                let kf = opposite-key costs f in
-                let m = b .less k in
-                rw (
-                  w,
-                  eq-eqb (opposite f) (opposite f) refl,
-                  eq-eqb (endOf highs lows (opposite f)) (endOf highs lows d) opp-end,
-                  lt-ltb (keyOf costs e) (keyOf costs (opposite f)) (omega arith),
-                  le-ltb (keyOf costs f) (keyOf costs (opposite f)) (omega arith),
-                ) (omega arith)
-            point g lg (no w) (no x) y z = rw (ne-eqb g (opposite f) w, ne-eqb (endOf highs lows g) (endOf highs lows d) x)
-            point g lg (no w) (yes x) (yes y) z =
-                let m = b .less k in
-                rw (ne-eqb g (opposite f) w, lt-ltb (keyOf costs f) (keyOf costs g) y, lt-ltb (keyOf costs e) (keyOf costs g) (omega arith)) (omega arith)
-            point g lg (no w) (yes x) (no y) (no z) =
-                rw (ne-eqb g (opposite f) w, le-ltb (keyOf costs f) (keyOf costs g) (omega arith), le-ltb (keyOf costs e) (keyOf costs g) (omega arith)) (omega arith)
-            point g lg (no w) (yes x) (no y) (yes z) = absurd (sure (decLt (keyOf costs g) (keyOf costs f)))
-              where
-                sure : Dec (keyOf costs g < keyOf costs f) → ⊥
-                sure (yes a) =
-                    let kg = opposite-key costs g in
-                    let m = b .most k (opposite g) (opposite-below links g lg) (opposite-end lows highs g ∙ x ∙ sym (c .own)) (omega arith) in
-                    omega arith
-                sure (no a) =
-                    let kf = opposite-key costs f in
-                    w (distinct links lows highs costs spares fits .targets g (opposite f) lg (opposite-below links f (c .below)) (x ∙ sym opp-end) (omega arith))
-
-            number : n + bit ≡ count (2 * links) (λ g. (at g && ltb (keyOf costs e) (keyOf costs g)) && eqb (o g) 1)
-            number =
-                let a = sum-same (2 * links) (λ g. cond ((at g && ltb (keyOf costs e) (keyOf costs g)) && eqb (o g) 1) 1 0)
-                (λ g. cond ((at g && ltb (keyOf costs f) (keyOf costs g)) && eqb (o g) 1) 1 0 + cond (eqb g (opposite f)) (cond (eqb (o g) 1) 1 0) 0)
-                (λ g lg. point g lg (ℕ-discrete g (opposite f)) (ℕ-discrete (endOf highs lows g) (endOf highs lows d)) (decLt (keyOf costs f) (keyOf costs g)) (decLt (keyOf costs e) (keyOf costs g))) in
-                let x = sum-add (2 * links) (λ g. cond ((at g && ltb (keyOf costs f) (keyOf costs g)) && eqb (o g) 1) 1 0) (λ g. cond (eqb g (opposite f)) (cond (eqb (o g) 1) 1 0) 0) in
-                let y = sum-one (2 * links) (λ g. cond (eqb (o g) 1) 1 0) (opposite f) (opposite-below links f (c .below)) in
-                let z = c .number in
-                omega arith
-
-    -- as many dearer ones as the spare are enough to shut d
-    pub counted-shut : (f n : ℕ) → Counted links lows highs costs o d f n → item spares (endOf highs lows d) ≤ n → Shut site o d
-    counted-shut f n c m =
-        let a = weigh-le (2 * links) (λ g. (eqb (endOf highs lows g) (endOf highs lows d) && ltb (keyOf costs f) (keyOf costs g)) && eqb (o g) 1)
-        (λ g. (eqb (endOf highs lows g) (endOf highs lows d) && ltb (keyOf costs d) (keyOf costs g)) && eqb (o g) 1) (λ g. 1)
-        (λ g lg h.
+    -- a rival of an offer to v is held by v
+    rival-held : (d : ℕ) → endOf highs lows d ≡ v → (g : ℕ) → rival d g ≡ true → holder g ≡ true
+    rival-held d at g h =
         let x = eqb (endOf highs lows g) (endOf highs lows d) in
-        let y = ltb (keyOf costs f) (keyOf costs g) in
+        let y = ltb (keyOf costs d) (keyOf costs g) in
         let both = and-left (x && y) (eqb (o g) 1) h in
-        let k = ltb-true (keyOf costs f) (keyOf costs g) (and-right x y both) in
-        let v = c .over in
-        and-intro (and-intro (and-left x y both) (lt-ltb (keyOf costs d) (keyOf costs g) (omega arith))) (and-right (x && y) (eqb (o g) 1) h)) in
-        let b = c .number in
+        held-is g (eqb-true (endOf highs lows g) (endOf highs lows d) (and-left x y both) ∙ at) (eqb-true (o g) 1 (and-right (x && y) (eqb (o g) 1) h))
+
+    -- v holds g, which is not dearer than d: not all that v holds is dearer
+    some-cheaper : (d : ℕ) → endOf highs lows d ≡ v → (g : ℕ) → g < 2 * links → endOf highs lows g ≡ v → o g ≡ 1 → keyOf costs g ≤ keyOf costs d → rivals site o d < item spares v
+    some-cheaper d at g lg own e m =
+        let a = count-less (2 * links) (rival d) holder g (λ j l h. rival-held d at j h) lg (rw (eq-eqb (endOf highs lows g) (endOf highs lows d) (own ∙ sym at), le-ltb (keyOf costs d) (keyOf costs g) m)) (held-is g own e) in
+        let b = inv .holding v in
         omega arith
 
-    pub counted-free : (f n : ℕ) → Counted links lows highs costs o d f n → f ≡ opposite d → n < item spares (endOf highs lows d) → rivals site o d < item spares (endOf highs lows d)
-    counted-free f n c q m =
-        let e : keyOf costs f ≡ keyOf costs d = ap (keyOf costs) q ∙ back-key in
-        let a = rw e at (c .number) in
+    pub taken-free : (d n : ℕ) → endOf highs lows d ≡ v → n ≡ holds site o v → n < item spares v → rivals site o d < item spares (endOf highs lows d)
+    taken-free d n at e m =
+        let a = weigh-le (2 * links) (rival d) holder (λ g. 1) (λ j l h. rival-held d at j h) in
+        let b = ap (item spares) at in
         omega arith
+
+    pub floor-at : 0 < holds site o v → (f : ℕ) → ((d : ℕ) → d < 2 * links → endOf highs lows d ≡ v → Floor site o v f) → Floor site o v f
+    floor-at some f h = let m = member (2 * links) holder some in h (m .0) (m .1) (holder-at (m .0) (m .2))
+
+    module _ (f : ℕ) (floor : Floor site o v f) where
+      back-below : opposite f < 2 * links
+      back-below = opposite-below links f (floor .below)
+
+      back-at : endOf highs lows (opposite f) ≡ v
+      back-at = opposite-end highs lows f ∙ floor .own
+
+      back-key : keyOf costs (opposite f) ≡ keyOf costs f
+      back-key = opposite-key costs f
+
+      -- what v holds is not below its floor
+      not-below : (g : ℕ) → g < 2 * links → endOf highs lows g ≡ v → o g ≡ 1 → keyOf costs g < keyOf costs f → ⊥
+      not-below g lg own e m =
+          let a = some-cheaper g own g lg own e (omega arith) in
+          let b = floor .low g lg own m in
+          let k = ap (item spares) own in
+          omega arith
+
+      pub floor-cheapest : o (opposite f) ≡ 1 → Cheapest site o v (opposite f)
+      floor-cheapest e =
+          record {
+            below = back-below;
+            own = back-at;
+            held = e;
+            least = λ g lg own h. least g lg own h (decLt (keyOf costs g) (keyOf costs f));
+          }
+        where
+          least : (g : ℕ) → g < 2 * links → endOf highs lows g ≡ v → o g ≡ 1 → Dec (keyOf costs g < keyOf costs f) → keyOf costs (opposite f) ≤ keyOf costs g
+          least g lg own h (yes m) = absurd (not-below g lg own h m)
+          least g lg own h (no m) = let a = back-key in omega arith
+
+      pub floor-wanted : (d : ℕ) → endOf highs lows d ≡ v → keyOf costs f < keyOf costs d → o (opposite f) ≡ 1 → rivals site o d < item spares (endOf highs lows d)
+      floor-wanted d at m e =
+          let a = some-cheaper d at (opposite f) back-below back-at e (let k = back-key in omega arith) in
+          let b = ap (item spares) at in
+          omega arith
+
+      module _ (full : item spares v ≤ holds site o v) where
+        -- v holds nothing as cheap as d
+        pub floor-shut : (d : ℕ) → d < 2 * links → endOf highs lows d ≡ v → (o d ≡ 1 → ⊥) → keyOf costs d ≤ keyOf costs f → Shut site o d
+        floor-shut d ld at off m =
+            let a = weigh-le (2 * links) holder (rival d) (λ g. 1) (λ g lg h.
+            and-intro (and-intro (eq-eqb (endOf highs lows g) (endOf highs lows d) (holder-at g h ∙ sym at))
+            (lt-ltb (keyOf costs d) (keyOf costs g) (less g lg (holder-at g h) (holder-on g h) (decLt (keyOf costs g) (keyOf costs f)) (decLt (keyOf costs d) (keyOf costs g))))) (eq-eqb (o g) 1 (holder-on g h))) in
+            let b = ap (item spares) at in
+            omega arith
+          where
+            less : (g : ℕ) → g < 2 * links → endOf highs lows g ≡ v → o g ≡ 1 → Dec (keyOf costs g < keyOf costs f) → Dec (keyOf costs d < keyOf costs g) → keyOf costs d < keyOf costs g
+            less g lg own e (yes x) y = absurd (not-below g lg own e x)
+            less g lg own e (no x) (yes y) = y
+            less g lg own e (no x) (no y) =
+                let q : g ≡ d = distinct links lows highs costs spares fits .targets g d lg ld (own ∙ sym at) (omega arith) in
+                absurd (off (sym (ap o q) ∙ e))
+
+        pub floor-next : (ups : List ℕ) → Rising links lows highs costs ups → (o (opposite f) ≡ 1 → ⊥) → (d : ℕ) → d < 2 * links → endOf highs lows d ≡ v → keyOf costs f < keyOf costs d
+            → (e : ℕ) → e ≡ item ups f → Floor site o v e
+        floor-next ups chain off d ld at more e q = go (decLt e (2 * links))
+          where
+            b : Below (2 * links) (endOf lows highs) (turnedKey costs) (endOf lows highs f) (turnedKey costs f) e
+            b = rw q (chain .next f (floor .below))
+
+            -- what is dearer than f
+            above : (g : ℕ) → g < 2 * links → endOf highs lows g ≡ v → keyOf costs f < keyOf costs g → (endOf lows highs (opposite g) ≡ endOf lows highs f) × (turnedKey costs (opposite g) < turnedKey costs f)
+            above g lg own m =
+                (opposite-end lows highs g ∙ own ∙ sym (floor .own), let a = opposite-key costs g in let x = small g lg in omega arith)
+
+            go : Dec (e < 2 * links) → Floor site o v e
+            go (no n) = let a = above d ld at more in absurd (b .none (omega arith) (opposite d) (opposite-below links d ld) (a .0) (a .1))
+            go (yes k) =
+                record {
+                  below = k;
+                  own = b .own k ∙ floor .own;
+                  low = λ g lg own m. low g lg own m (decLt (keyOf costs g) (keyOf costs f)) (decLt (keyOf costs f) (keyOf costs g));
+                }
+              where
+                low : (g : ℕ) → g < 2 * links → endOf highs lows g ≡ v → keyOf costs g < keyOf costs e → Dec (keyOf costs g < keyOf costs f) → Dec (keyOf costs f < keyOf costs g) → Shut site o g
+                low g lg own m (yes x) y = floor .low g lg own x
+                low g lg own m (no x) (yes y) =
+                    let a = above g lg own y in
+                    let w = b .most k (opposite g) (opposite-below links g lg) (a .0) (a .1) in
+                    let z = opposite-key costs g in
+                    let t = small e k in
+                    absurd (omega arith)
+                low g lg own m (no x) (no y) =
+                    let z = back-key in
+                    let t : g ≡ opposite f = distinct links lows highs costs spares fits .targets g (opposite f) lg back-below (own ∙ sym back-at) (omega arith) in
+                    floor-shut g lg own (λ w. off (sym (ap o t) ∙ w)) (omega arith)
+
+        -- what v holds is further up
+        pub floor-step : (ups : List ℕ) → Rising links lows highs costs ups → (o (opposite f) ≡ 1 → ⊥) → 0 < holds site o v → (e : ℕ) → e ≡ item ups f → Floor site o v e
+        floor-step ups chain off some e q =
+            let m = member (2 * links) holder some in
+            let g = m .0 in
+            floor-next ups chain off g (m .1) (holder-at g (m .2)) (dearer g (m .1) (m .2) (decLt (keyOf costs g) (keyOf costs f)) (decLt (keyOf costs f) (keyOf costs g))) e q
+          where
+            dearer : (g : ℕ) → g < 2 * links → holder g ≡ true → Dec (keyOf costs g < keyOf costs f) → Dec (keyOf costs f < keyOf costs g) → keyOf costs f < keyOf costs g
+            dearer g lg h (yes x) y = absurd (not-below g lg (holder-at g h) (holder-on g h) x)
+            dearer g lg h (no x) (yes y) = y
+            dearer g lg h (no x) (no y) =
+                let z = back-key in
+                let t : g ≡ opposite f = distinct links lows highs costs spares fits .targets g (opposite f) lg back-below (holder-at g h ∙ sym back-at) (omega arith) in
+                absurd (off (sym (ap o t) ∙ holder-on g h))

@@ -1,7 +1,7 @@
 pub mod Offers
 pub mod Record
+pub mod Kept
 pub mod Steps
-pub mod Searches
 pub mod Turns
 pub mod Bytes
 pub mod Plan

@@ -181,7 +181,7 @@ module _ (s : Site) (laws : Distinct s) (o : ℕ → ℕ) (i : Inv s o) (u d : �
     pub apart : d ≡ c → ⊥
     apart q = let a = ap o q in let b = next .untried in let e = low .held in omega arith
 
-    on-swap : (q : ℕ → Bool) → on s o′ q + cond (q c) 1 0 ≡ on s o q + cond (q d) 1 0
+    pub on-swap : (q : ℕ → Bool) → on s o′ q + cond (q c) 1 0 ≡ on s o q + cond (q d) 1 0
     on-swap q =
         let p = sum-same (s .dirs) (λ f. cond (q f && eqb (o′ f) 1) 1 0 + cond (eqb f c) (cond (q f) 1 0) 0)
         (λ f. cond (q f && eqb (o f) 1) 1 0 + cond (eqb f d) (cond (q f) 1 0) 0) (λ f k. part f (ℕ-discrete f d) (ℕ-discrete f c)) in
@@ -324,13 +324,16 @@ module _ (s : Site) (laws : Distinct s) (o : ℕ → ℕ) (i : Inv s o) (u d : �
             let b = i .standing (s .source c) in
             omega arith
 
+    pub swap-grows : Grows s o o′
+    swap-grows = record { tried = λ e z. swap-step .tried e z .0; shut = shut-kept }
+
     pub swap-made : (o″ : ℕ → ℕ) → Made s o′ o″ (s .source c) → Made s o o″ u
     swap-made o″ m =
         record {
           inv = m .inv;
           grows = record {
-            tried = λ e z. swap-step .tried e (m .grows .tried e z) .0;
-            shut = λ e l h. m .grows .shut e l (shut-kept e l h);
+            tried = λ e z. swap-grows .tried e (m .grows .tried e z);
+            shut = λ e l h. m .grows .shut e l (swap-grows .shut e l h);
           };
           more = λ w. more w (m .more w);
         }

@@ -8,26 +8,26 @@ use native.Mathlib.Omega.{arith}
 use native.Mathlib.Numerals.{add-one}
 use native.Mathlib.Decide.{decLt, ℕ-discrete}
 use lib.Dec.{ltb, eqb}
-use lib.ListN.{length, replicate, length-replicate}
+use lib.ListN.{length}
 use borrow.Author.Tests.{ltb-true, lt-ltb, eqb-true, eq-eqb, ne-eqb}
 use Rattle.range.specs.Sum.{sum, count}
 use Rattle.range.specs.Lists.{stored}
-use Rattle.range.proofs.Bools.{and-right, same-bool, or-cases}
+use Rattle.range.proofs.Bools.{same-bool, or-cases}
 use Rattle.range.proofs.Sums.{sum-same, weigh-same, none-count}
-use Rattle.range.proofs.Lists.{zeros-at, stored-same, stored-at, stored-beyond}
+use Rattle.range.proofs.Lists.{stored-same, stored-at, stored-beyond}
 use Rattle.table.specs.Table.{Table, item, ofSlices, touches, degree, spare, dearer}
 use Rattle.table.specs.Legal.{Legal, sizeFault, linkFault, needFault}
 use Rattle.table.proofs.Faults.{Ends, size-good}
 use Rattle.range.specs.First.{orElse, first}
-use Rattle.range.proofs.Faults.{or-left}
+use Rattle.range.proofs.Faults.{or-left, or-right}
 use Rattle.cover_theory.specs.Plan.{linksAt, rested, kept}
 use Rattle.cover_theory.proofs.Order.{Sound, sound, dear, on-dear, Dear}
 use Rattle.cover_theory.proofs.Plan.{dearerAt}
 use Rattle.cover_theory.proofs.Settled.{Across, up, down, Settled, settled-is-plan}
 use Rattle.suitor.specs.Offers.{Site, on, Shut}
-use Rattle.suitor.specs.Record.{endOf, keyOf, siteOf, outbound, inbound, keptByte, Fits, Ready, Over}
+use Rattle.suitor.specs.Record.{endOf, keyOf, siteOf, outbound, inbound, keptByte, Fits, Over}
 use Rattle.suitor.proofs.Offers.{explained}
-use Rattle.suitor.proofs.Record.{end-even, end-odd}
+use Rattle.suitor.proofs.Record.{end-from, end-back}
 
 -- a count over directions, link by link
 sides : (p : ℕ → Bool) (n : ℕ) → count (2 * n) p ≡ sum n (λ i. cond (p (2 * i)) 1 0 + cond (p (2 * i + 1)) 1 0)
@@ -39,12 +39,6 @@ sides p (suc n) =
     let b = add-one (2 * n) in
     let k = ap {B = ℕ} (λ (x : ℕ). cond (p x) 1 0) b in
     rw e (omega arith)
-
-pub end-from : (a b : List ℕ) (i : ℕ) → endOf a b (2 * i) ≡ item a i
-end-from a b i = end-even a b (2 * i) (omega arith) ∙ (let e : 2 * i / 2 ≡ i = omega arith in rw e)
-
-pub end-back : (a b : List ℕ) (i : ℕ) → endOf a b (2 * i + 1) ≡ item b i
-end-back a b i = end-odd a b (2 * i + 1) (λ z. omega arith) ∙ (let e : (2 * i + 1) / 2 ≡ i = omega arith in rw e)
 
 -- the byte of the direction of the link i that starts at u, among first and second ends
 abbrev byteOf : List ℕ → List ℕ → ℕ → ℕ → Bool
@@ -96,18 +90,25 @@ module _ (probes links : ℕ) (needs lows highs costs : List ℕ) (legal : Legal
       let s = size-good 256 2048 probes links (or-left (sizeFault 256 2048 probes links) (orElse (first (linkFault probes (item lows) (item highs)) links) (first (needFault table) probes)) legal) in
       (s .few, s .within)
 
+  pub no-fault : first (linkFault probes (item lows) (item highs)) links ≡ 0
+  no-fault =
+      or-left (first (linkFault probes (item lows) (item highs)) links) (first (needFault table) probes)
+      (or-right (sizeFault 256 2048 probes links) (orElse (first (linkFault probes (item lows) (item highs)) links) (first (needFault table) probes)) legal)
+
   pub ends : (i : ℕ) → i < links → Ends probes (item lows i) (item highs i)
   ends = good .ends
 
-  pub fits : (spares : List ℕ) → length spares ≡ 256 → links ≤ length lows → links ≤ length highs → links ≤ length costs → Fits links lows highs costs spares
-  fits spares e a b d =
+  pub fits : (spares : List ℕ) → length spares ≡ 256 → links ≤ length lows → links ≤ length highs → links ≤ length costs → ((i : ℕ) → item costs i < 65536) → Fits links lows highs costs spares
+  fits spares e a b d cheap =
       record {
         few = let s = small in omega (arith, s .1);
         in-lows = a;
         in-highs = b;
         in-costs = d;
+        cheap = cheap;
         rises = λ i l. ends i l .rises;
         ends = λ i l. let s = small in let k = ends i l .below in omega (arith, s .0);
+        within = omega arith;
       }
 
   module _ (spares r : List ℕ) (right : (v : ℕ) → item spares v ≡ spare table v) (over : Over links lows highs costs spares r probes) where
@@ -234,26 +235,6 @@ module _ (probes links : ℕ) (needs lows highs costs : List ℕ) (legal : Legal
             let t = over .ready .paired .twin in
             turn-byte (eqb (inbound r (2 * i)) 1) (eqb (inbound r (2 * i + 1)) 1) (rested table i)
             (ap (λ (x : ℕ). eqb x 1) (t (2 * i)) ∙ sym (stand-low i) ∙ p .0) (ap (λ (x : ℕ). eqb x 1) (t (2 * i + 1)) ∙ sym (stand-high i l) ∙ p .1)
-
--- with no offer made, all is as it has to be
-pub zeros-ready : (links n : ℕ) (lows highs costs spares r : List ℕ) → r ≡ replicate n 0 → 4 * links ≤ n → Fits links lows highs costs spares → Ready links lows highs costs spares r
-zeros-ready links n lows highs costs spares r e m f =
-    record {
-      fits = f;
-      paired = record { room = rw (e, length-replicate {A = ℕ} n 0) m; twin = λ d. none (2 * d + 1) ∙ sym (none (2 * d)) };
-      inv = record {
-        standing = λ u. let a = nothing (λ f. eqb (endOf lows highs f) u) in omega arith;
-        holding = λ v. let a = nothing (λ f. eqb (endOf highs lows f) v) in omega arith;
-        refused = λ d l n0 n1. absurd (n0 (none (2 * d)));
-        order = λ x y lx ly s one z. let a = none (2 * x) in absurd (omega arith);
-      };
-    }
-  where
-    none : (j : ℕ) → item r j ≡ 0
-    none j = rw e (zeros-at n j)
-
-    nothing : (q : ℕ → Bool) → count (2 * links) (λ f. q f && eqb (outbound r f) 1) ≡ 0
-    nothing q = none-count (2 * links) (λ f. q f && eqb (outbound r f) 1) (λ f l h. let a = none (2 * f) in let b = eqb-true (outbound r f) 1 (and-right (q f) (eqb (outbound r f) 1) h) in omega arith)
 
 -- the spares, of the counted links
 pub spares-right : (probes links : ℕ) (needs lows highs counts spares : List ℕ) → ((i : ℕ) → i < links → Ends probes (item lows i) (item highs i))

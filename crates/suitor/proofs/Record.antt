@@ -5,10 +5,11 @@ use mathlib.Core.Bool.{true}
 use mathlib.Core.List.{List}
 use native.Mathlib.Omega.{arith}
 use native.Mathlib.Decide.{ℕ-discrete}
-use lib.Dec.{eqb}
+use lib.Dec.{ltb, eqb}
 use lib.ListN.{length, set, length-set}
 use lib.Seq.{getD-set-same, getD-set-other}
-use borrow.Author.Tests.{eqb-true, eq-eqb, ne-eqb}
+use borrow.Author.Tests.{ltb-true, lt-ltb, eqb-true, eq-eqb, ne-eqb}
+use Rattle.range.proofs.Bools.{same-bool}
 use Rattle.range.proofs.Sums.{weigh-le, count-less}
 use Rattle.table.specs.Table.{item}
 use Rattle.suitor.specs.Record.{endOf, keyOf, siteOf, outbound, inbound, put, untriedCount, Fits, Paired}
@@ -21,6 +22,27 @@ end-even a b d e = rw (eq-eqb (d % 2) 0 e)
 pub end-odd : (a b : List ℕ) (d : ℕ) → (d % 2 ≡ 0 → ⊥) → endOf a b d ≡ item b (d / 2)
 unfolding endOf
 end-odd a b d n = rw (ne-eqb (d % 2) 0 n)
+
+pub end-from : (a b : List ℕ) (i : ℕ) → endOf a b (2 * i) ≡ item a i
+end-from a b i = end-even a b (2 * i) (omega arith) ∙ (let e : 2 * i / 2 ≡ i = omega arith in rw e)
+
+pub end-back : (a b : List ℕ) (i : ℕ) → endOf a b (2 * i + 1) ≡ item b i
+end-back a b i = end-odd a b (2 * i + 1) (λ z. omega arith) ∙ (let e : (2 * i + 1) / 2 ≡ i = omega arith in rw e)
+
+same-test : (a b c d : ℕ) → (a < b → c < d) → (c < d → a < b) → ltb a b ≡ ltb c d
+same-test a b c d f g = same-bool (ltb a b) (ltb c d) (λ e. lt-ltb c d (f (ltb-true a b e))) (λ e. lt-ltb a b (g (ltb-true c d e)))
+
+-- the order of the keys, at unequal and at equal costs
+module _ (costs : List ℕ) (f d : ℕ) (lf : f < 131072) (ld : d < 131072) where
+  pub key-by-cost : (item costs (f / 2) ≡ item costs (d / 2) → ⊥) → ltb (keyOf costs f) (keyOf costs d) ≡ ltb (item costs (f / 2)) (item costs (d / 2))
+  unfolding keyOf
+  key-by-cost n =
+      same-test (item costs (f / 2) * 65536 + f / 2) (item costs (d / 2) * 65536 + d / 2) (item costs (f / 2)) (item costs (d / 2)) (λ a. omega (arith, n)) (λ a. omega arith)
+
+  pub key-by-place : item costs (f / 2) ≡ item costs (d / 2) → ltb (keyOf costs f) (keyOf costs d) ≡ ltb (f / 2) (d / 2)
+  unfolding keyOf
+  key-by-place e =
+      same-test (item costs (f / 2) * 65536 + f / 2) (item costs (d / 2) * 65536 + d / 2) (f / 2) (d / 2) (λ a. omega arith) (λ a. omega arith)
 
 pub length-put : (r : List ℕ) (d b : ℕ) → length (put r d b) ≡ length r
 unfolding put
@@ -69,7 +91,7 @@ module _ (links : ℕ) (r r′ : List ℕ) (tried : (e : ℕ) → outbound r′ 
       count-less (2 * links) (λ e. eqb (outbound r′ e) 0) (λ e. eqb (outbound r e) 0) d zero-was l (ne-eqb (outbound r′ d) 0 n) (eq-eqb (outbound r d) 0 z)
 
 -- one end and one key: one direction
-same-direction : (links : ℕ) (a b costs : List ℕ) → links ≤ 65536 → ((i : ℕ) → i < links → item a i ≡ item b i → ⊥)
+same-direction : (links : ℕ) (a b costs : List ℕ) → links ≤ 2048 → ((i : ℕ) → i < links → item a i ≡ item b i → ⊥)
     → (f g : ℕ) → f < 2 * links → g < 2 * links → endOf a b f ≡ endOf a b g → keyOf costs f ≡ keyOf costs g → f ≡ g
 unfolding keyOf
 same-direction links a b costs few apart f g lf lg e k = go (ℕ-discrete (f % 2) 0) (ℕ-discrete (g % 2) 0)

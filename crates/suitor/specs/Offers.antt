@@ -83,3 +83,15 @@ pub record Cheapest (s : Site) (o : ℕ → ℕ) (v c : ℕ) : Type 0 where
   pub own : s .target c ≡ v
   pub held : o c ≡ 1
   pub least : (f : ℕ) → f < s .dirs → s .target f ≡ v → o f ≡ 1 → s .key c ≤ s .key f
+
+-- the search along u's links stands at e: what is dearer is tried or would not be taken
+pub record Walk (s : Site) (o : ℕ → ℕ) (u e : ℕ) : Type 0 where
+  pub own : e < s .dirs → s .source e ≡ u
+  pub top : e < s .dirs → (g : ℕ) → g < s .dirs → s .source g ≡ u → o g ≡ 0 → s .key e < s .key g → Shut s o g
+  pub end : s .dirs ≤ e → NoneLeft s o u
+
+-- the search along the offers held by v stands at v's link f: what is cheaper would not be taken
+pub record Floor (s : Site) (o : ℕ → ℕ) (v f : ℕ) : Type 0 where
+  pub below : f < s .dirs
+  pub own : s .source f ≡ v
+  pub low : (g : ℕ) → g < s .dirs → s .target g ≡ v → s .key g < s .key f → Shut s o g

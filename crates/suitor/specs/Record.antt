@@ -7,7 +7,7 @@ use lib.Dec.{eqb}
 use lib.ListN.{length, set}
 use Rattle.range.specs.Sum.{count}
 use Rattle.table.specs.Table.{item}
-use Rattle.suitor.specs.Offers.{Site, stands, holds, NoneLeft, Satisfied, Inv, Made, Next}
+use Rattle.suitor.specs.Offers.{Site, stands, holds, NoneLeft, Satisfied, Inv, Made, Next, Walk, Floor}
 
 -- the direction 2 * i is the link i from its first end, 2 * i + 1 the other way
 unfoldable pub endOf : List ℕ → List ℕ → ℕ → ℕ
@@ -42,12 +42,14 @@ keptByte r i = cond (eqb (inbound r (2 * i)) 1 && eqb (inbound r (2 * i + 1)) 1)
 
 -- the links fit the slices, and the links' ends the spares
 pub record Fits (links : ℕ) (lows highs costs spares : List ℕ) : Type 0 where
-  pub few : links ≤ 65536
+  pub few : links ≤ 2048
   pub in-lows : links ≤ length lows
   pub in-highs : links ≤ length highs
   pub in-costs : links ≤ length costs
+  pub cheap : (i : ℕ) → item costs i < 65536
   pub rises : (i : ℕ) → i < links → item lows i < item highs i
   pub ends : (i : ℕ) → i < links → item highs i < length spares
+  pub within : length spares ≤ 256
 
 -- the bytes are there, and a direction's two are equal
 pub record Paired (links : ℕ) (r : List ℕ) : Type 0 where
@@ -58,6 +60,23 @@ pub record Ready (links : ℕ) (lows highs costs spares r : List ℕ) : Type 0 w
   pub fits : Fits links lows highs costs spares
   pub paired : Paired links r
   pub inv : Inv (siteOf links lows highs costs spares) (outbound r)
+
+-- the k-th of the four entries of a probe
+abbrev pub mark : List ℕ → ℕ → ℕ → ℕ
+mark marks v k = item marks (4 * v + k)
+
+-- the first n probes' entries where no offer is made and the searches start at `cursors` and `floors`
+pub record FirstMarks (cursors floors marks : List ℕ) (n : ℕ) : Type 0 where
+  pub none : (v : ℕ) → (mark marks v 0 ≡ 0) × (mark marks v 1 ≡ 0)
+  pub starts : (v : ℕ) → v < n → (mark marks v 2 ≡ item cursors v) × (mark marks v 3 ≡ item floors v)
+
+-- the entries beside the bytes: how many of a probe's offers stand and how many it holds, and where the searches along its links and along its held offers stand
+pub record Kept (links : ℕ) (lows highs costs spares r marks : List ℕ) : Type 0 where
+  pub room : 4 * length spares ≤ length marks
+  pub standing : (u : ℕ) → u < length spares → mark marks u 0 ≡ stands (siteOf links lows highs costs spares) (outbound r) u
+  pub held : (v : ℕ) → v < length spares → mark marks v 1 ≡ holds (siteOf links lows highs costs spares) (outbound r) v
+  pub cursors : (u : ℕ) → u < length spares → Walk (siteOf links lows highs costs spares) (outbound r) u (mark marks u 2)
+  pub floors : (v : ℕ) → v < length spares → (d : ℕ) → d < 2 * links → endOf highs lows d ≡ v → Floor (siteOf links lows highs costs spares) (outbound r) v (mark marks v 3)
 
 -- an offer of u was made, or none was left to make
 pub record Offered (links : ℕ) (lows highs costs spares r r′ : List ℕ) (u : ℕ) (made? : Bool) : Type 0 where

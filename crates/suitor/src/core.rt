@@ -1,19 +1,28 @@
-// Offers by turn. A record has four bytes a link: outbound and inbound of each direction.
+// Offers by turn. A record has four bytes a link: outbound and inbound of each direction. Beside it are four entries a probe, the marks.
 ghost use mathlib.Core.Path.{_≡_};
-ghost use mathlib.Core.Bool.{true, cond, _&&_};
+ghost use mathlib.Core.Bool.{true, cond};
 ghost use mathlib.Core.List.{[]};
 ghost use Prim.Native.Nat.{ℕ, _+_, _*_, _-_, _<_, _≤_};
-ghost use lib.Dec.{eqb};
+ghost use lib.Dec.{ltb};
 ghost use lib.ListN.{length, replicate, getD, set};
-ghost use Rattle.range.specs.Sum.{count};
+ghost use Rattle.range.specs.First.{first};
 ghost use Rattle.range.specs.Lists.{stored};
-ghost use Rattle.table.specs.Table.{item, ofSlices, degree, spare};
-ghost use Rattle.table.specs.Legal.{tableFault};
-ghost use Rattle.table.proofs.Faults.{Ends};
+ghost use Rattle.table.specs.Table.{item, ofSlices, spare};
+ghost use Rattle.table.specs.Legal.{linkFault, tableFault};
 ghost use Rattle.cover_theory.specs.Plan.{kept};
-ghost use Rattle.suitor.specs.Chain.{opposite, Chain, FromFloor};
-ghost use Rattle.suitor.specs.Offers.{Sought, Cheapest, stands, holds};
-ghost use Rattle.suitor.specs.Record.{endOf, keyOf, siteOf, outbound, inbound, put, keptByte, Fits, Paired, Ready, Offered, Displaces, Turned, Over};
+ghost use Rattle.suitor.specs.Chain.{opposite, Falling, Rising, Started, LinkedBy};
+ghost use Rattle.suitor.specs.Offers.{Sought, Cheapest, Floor, holds};
+ghost use Rattle.suitor.specs.Record.{endOf, keyOf, siteOf, outbound, put, mark, keptByte, Ready, FirstMarks, Kept, Offered, Displaces, Turned, Over};
+
+// A probe's marks: how many of its offers stand and how many it holds, and the links where the searches for its next offer and for
+// its cheapest held offer stand.
+const STANDING: usize = 0;
+
+const HELD: usize = 1;
+
+const CURSOR: usize = 2;
+
+const FLOOR: usize = 3;
 
 // The end of a direction among the links' first and second ends: with lows first its source, with highs first its target.
 fn end_of(firsts: &[u16], seconds: &[u16], d: usize) -> usize
@@ -27,14 +36,17 @@ fn end_of(firsts: &[u16], seconds: &[u16], d: usize) -> usize
     table::core::wide(seconds[i])
 }
 
-// The order of links as one number.
-fn key_of(costs: &[u16], d: usize) -> usize
-    requires { ⌜ (d < 2 * length (now costs)) × (d < 131072) ⌝ }
-    ensures { λ r. ⌜ (r ≡ keyOf (now (costs .entry)) d) × (r < 4294967296) ⌝ }
+// Whether the direction f is cheaper than d: by cost, at equal cost by the link's place in the table.
+fn cheaper(costs: &[u16], f: usize, d: usize) -> bool
+    requires { ⌜ (f < 2 * length (now costs)) × (d < 2 * length (now costs)) × (f < 131072) × (d < 131072) ⌝ }
+    ensures { λ r. ⌜ r ≡ ltb (keyOf (now (costs .entry)) f) (keyOf (now (costs .entry)) d) ⌝ }
 {
-    let i = d / 2;
-    let cost = table::core::wide(costs[i]);
-    cost * 65536 + i
+    let i = f / 2;
+    let j = d / 2;
+    if costs[i] != costs[j] {
+        return costs[i] < costs[j];
+    }
+    i < j
 }
 
 fn put(rec: &mut [u8], d: usize, b: u8)
@@ -43,28 +55,6 @@ fn put(rec: &mut [u8], d: usize, b: u8)
 {
     rec[2 * d] = b;
     rec[2 * d + 1] = b;
-}
-
-// How many of the directions that end at v, among first ends, have the byte 1; `at` is 0 for outbound, 1 for inbound.
-fn ones_at(rec: &[u8], links: usize, firsts: &[u16], seconds: &[u16], v: usize, at: usize) -> usize
-    requires { ⌜ (links ≤ length (now firsts)) × (links ≤ length (now seconds)) × (4 * links ≤ length (now rec)) × (at ≤ 1) ⌝ }
-    ensures { λ r. ⌜ r ≡ count (2 * links) (λ f. eqb (endOf (now (firsts .entry)) (now (seconds .entry)) f) v && eqb (item (now (rec .entry)) (2 * f + at)) 1) ⌝ }
-{
-    let dirs = 2 * links;
-    let mut n = 0;
-    let mut d = 0;
-    while d < dirs {
-        let e = d;
-        d += 1;
-        if end_of(firsts, seconds, e) != v {
-            continue;
-        }
-        if rec[2 * e + at] != 1 {
-            continue;
-        }
-        n += 1;
-    }
-    n
 }
 
 // The same link the other way.
@@ -78,41 +68,48 @@ fn opposite(d: usize) -> usize
     d - 1
 }
 
-// 1 where d's target holds it, else 0.
-fn held_one(rec: &[u8], d: usize) -> usize
-    requires { ⌜ 2 * d + 1 < length (now rec) ⌝ }
-    ensures { λ r. ⌜ r ≡ cond (eqb (inbound (now (rec .entry)) d) 1) 1 0 ⌝ }
+fn entry(numbers: &[u16], i: usize) -> usize
+    requires { ⌜ i < length (now numbers) ⌝ }
+    ensures { λ r. ⌜ r ≡ item (now (numbers .entry)) i ⌝ }
 {
-    if rec[2 * d + 1] == 1 {
-        return 1;
-    }
-    0
+    table::core::wide(numbers[i])
 }
 
-fn entry(spares: &[u16], v: usize) -> usize
-    requires { ⌜ v < length (now spares) ⌝ }
-    ensures { λ r. ⌜ r ≡ item (now (spares .entry)) v ⌝ }
+fn store(numbers: &mut [u16], i: usize, x: usize)
+    requires { ⌜ (i < length (now numbers)) × (x < 65536) ⌝ }
+    ensures { λ _. ⌜ now (numbers .exit) ≡ set (now (numbers .entry)) i x ⌝ }
 {
-    table::core::wide(spares[v])
+    numbers[i] = x as u16;
 }
 
-// The dearest untried direction of u whose target would take it, or a number past all.
+fn take_one(counts: &mut [u16], i: usize)
+    requires { ⌜ (i < length (now counts)) × (0 < item (now counts) i) ⌝ }
+    ensures { λ _. ⌜ now (counts .exit) ≡ set (now (counts .entry)) i (item (now (counts .entry)) i - 1) ⌝ }
+{
+    counts[i] -= 1;
+}
+
+// The dearest untried direction of u whose target would take it, or a number past all. An end that holds its spare takes what is
+// dearer than one of its held offers; below its floor it holds none.
 fn next_offer(
     rec: &[u8],
+    marks: &[u16],
     links: usize,
     lows: &[u16],
     highs: &[u16],
     costs: &[u16],
     spares: &[u16],
-    heads: &[u16],
     nexts: &[u16],
+    ups: &[u16],
     u: usize,
 ) -> usize
-    requires { ⌜ (Fits links (now lows) (now highs) (now costs) (now spares)) × (Paired links (now rec)) × (Chain links (now lows) (now highs) (now costs) (now heads) (now nexts)) × (u < length (now heads)) ⌝ }
-    ensures { λ r. ⌜ Sought (siteOf links (now (lows .entry)) (now (highs .entry)) (now (costs .entry)) (now (spares .entry))) (outbound (now (rec .entry))) u r ⌝ }
+    requires { ⌜ (Ready links (now lows) (now highs) (now costs) (now spares) (now rec)) × (Kept links (now lows) (now highs) (now costs) (now spares) (now rec) (now marks))
+        × (Falling links (now lows) (now highs) (now costs) (now nexts)) × (Rising links (now lows) (now highs) (now costs) (now ups)) × (u < length (now spares)) ⌝ }
+    ensures { λ r. ⌜ (Sought (siteOf links (now (lows .entry)) (now (highs .entry)) (now (costs .entry)) (now (spares .entry))) (outbound (now (rec .entry))) u r) × (r ≤ 2 * links) ⌝ }
 {
     let dirs = 2 * links;
-    let mut e = entry(heads, u);
+    let mut found = dirs;
+    let mut e = entry(marks, 4 * u + CURSOR);
     'search: while e < dirs {
         let d = e;
         e = entry(nexts, d);
@@ -120,134 +117,132 @@ fn next_offer(
             continue 'search;
         }
         let v = end_of(highs, lows, d);
-        let spare = entry(spares, v);
-        let back = opposite(d);
-        let mut n = 0;
-        let mut f = entry(heads, v);
-        while f != back {
-            if spare <= n {
-                continue 'search;
-            }
-            n += held_one(rec, opposite(f));
-            f = entry(nexts, f);
+        if entry(marks, 4 * v + HELD) < entry(spares, v) {
+            found = d;
+            break 'search;
         }
-        if n < spare {
-            return d;
+        let mut f = entry(marks, 4 * v + FLOOR);
+        while cheaper(costs, f, d) {
+            if rec[2 * opposite(f) + 1] == 1 {
+                found = d;
+                break 'search;
+            }
+            f = entry(ups, f);
         }
     }
-    dirs
+    found
 }
 
-// The cheapest offer that v holds.
+// The direction from v that the cheapest offer held by v comes against.
 fn cheapest(
     rec: &[u8],
+    marks: &[u16],
     links: usize,
     lows: &[u16],
     highs: &[u16],
     costs: &[u16],
     spares: &[u16],
+    ups: &[u16],
     v: usize,
 ) -> usize
-    requires { ⌜ (Fits links (now lows) (now highs) (now costs) (now spares)) × (Paired links (now rec)) × (0 < holds (siteOf links (now lows) (now highs) (now costs) (now spares)) (outbound (now rec)) v) ⌝ }
-    ensures { λ r. ⌜ Cheapest (siteOf links (now (lows .entry)) (now (highs .entry)) (now (costs .entry)) (now (spares .entry))) (outbound (now (rec .entry))) v r ⌝ }
+    requires { ⌜ (Ready links (now lows) (now highs) (now costs) (now spares) (now rec)) × (Kept links (now lows) (now highs) (now costs) (now spares) (now rec) (now marks)) × (Rising links (now lows) (now highs) (now costs) (now ups)) × (v < length (now spares))
+        × (0 < holds (siteOf links (now lows) (now highs) (now costs) (now spares)) (outbound (now rec)) v) × (item (now spares) v ≤ holds (siteOf links (now lows) (now highs) (now costs) (now spares)) (outbound (now rec)) v) ⌝ }
+    ensures { λ r. ⌜ (Cheapest (siteOf links (now (lows .entry)) (now (highs .entry)) (now (costs .entry)) (now (spares .entry))) (outbound (now (rec .entry))) v (opposite r))
+        × (Floor (siteOf links (now (lows .entry)) (now (highs .entry)) (now (costs .entry)) (now (spares .entry))) (outbound (now (rec .entry))) v r) ⌝ }
 {
-    let dirs = 2 * links;
-    let mut best = 0;
-    let mut ceiling = 4294967296;
-    let mut d = 0;
-    while d < dirs {
-        let e = d;
-        d += 1;
-        if end_of(highs, lows, e) != v {
-            continue;
-        }
-        if rec[2 * e + 1] != 1 {
-            continue;
-        }
-        let key = key_of(costs, e);
-        if ceiling <= key {
-            continue;
-        }
-        best = e;
-        ceiling = key;
+    let mut f = entry(marks, 4 * v + FLOOR);
+    while rec[2 * opposite(f) + 1] != 1 {
+        f = entry(ups, f);
     }
-    best
+    f
 }
 
 // Makes the next offer of u, if one is left; an end that holds its spare displaces its cheapest.
 fn make_offer(
     rec: &mut [u8],
+    marks: &mut [u16],
     links: usize,
     lows: &[u16],
     highs: &[u16],
     costs: &[u16],
     spares: &[u16],
-    heads: &[u16],
     nexts: &[u16],
+    ups: &[u16],
     u: usize,
 ) -> bool
-    requires { ⌜ (Ready links (now lows) (now highs) (now costs) (now spares) (now rec)) × (stands (siteOf links (now lows) (now highs) (now costs) (now spares)) (outbound (now rec)) u < item (now spares) u) × (Chain links (now lows) (now highs) (now costs) (now heads) (now nexts)) × (u < length (now heads)) ⌝ }
-    ensures { λ r. ⌜ Offered links (now (lows .entry)) (now (highs .entry)) (now (costs .entry)) (now (spares .entry)) (now (rec .entry)) (now (rec .exit)) u r ⌝ }
+    requires { ⌜ (Ready links (now lows) (now highs) (now costs) (now spares) (now rec)) × (Kept links (now lows) (now highs) (now costs) (now spares) (now rec) (now marks))
+        × (Falling links (now lows) (now highs) (now costs) (now nexts)) × (Rising links (now lows) (now highs) (now costs) (now ups)) × (u < length (now spares)) × (mark (now marks) u 0 < item (now spares) u) ⌝ }
+    ensures { λ r. ⌜ (Offered links (now (lows .entry)) (now (highs .entry)) (now (costs .entry)) (now (spares .entry)) (now (rec .entry)) (now (rec .exit)) u r) × (Kept links (now (lows .entry)) (now (highs .entry)) (now (costs .entry)) (now (spares .entry)) (now (rec .exit)) (now (marks .exit))) ⌝ }
 {
-    let d = next_offer(rec, links, lows, highs, costs, spares, heads, nexts, u);
+    let d = next_offer(rec, marks, links, lows, highs, costs, spares, nexts, ups, u);
+    store(marks, 4 * u + CURSOR, d);
     if 2 * links <= d {
         return false;
     }
     let v = end_of(highs, lows, d);
-    let held = ones_at(rec, links, highs, lows, v, 1);
+    let held = entry(marks, 4 * v + HELD);
     if held < entry(spares, v) {
         put(rec, d, 1);
+        table::core::add_one(marks, 4 * u + STANDING);
+        table::core::add_one(marks, 4 * v + HELD);
         return true;
     }
-    displace(rec, links, lows, highs, costs, spares, heads, nexts, d);
+    displace(rec, marks, links, lows, highs, costs, spares, nexts, ups, d);
     true
 }
 
-// Takes the offer d in place of its target's cheapest, whose maker then offers again.
+// Takes u's offer d in place of the cheapest that its target v holds, whose maker w then offers again.
 fn displace(
     rec: &mut [u8],
+    marks: &mut [u16],
     links: usize,
     lows: &[u16],
     highs: &[u16],
     costs: &[u16],
     spares: &[u16],
-    heads: &[u16],
     nexts: &[u16],
+    ups: &[u16],
     d: usize,
 )
-    requires { ⌜ (Displaces links (now lows) (now highs) (now costs) (now spares) (now rec) d) × (Chain links (now lows) (now highs) (now costs) (now heads) (now nexts)) ⌝ }
-    ensures { λ _. ⌜ Offered links (now (lows .entry)) (now (highs .entry)) (now (costs .entry)) (now (spares .entry)) (now (rec .entry)) (now (rec .exit)) (endOf (now (lows .entry)) (now (highs .entry)) d) true ⌝ }
+    requires { ⌜ (Displaces links (now lows) (now highs) (now costs) (now spares) (now rec) d) × (Kept links (now lows) (now highs) (now costs) (now spares) (now rec) (now marks))
+        × (Falling links (now lows) (now highs) (now costs) (now nexts)) × (Rising links (now lows) (now highs) (now costs) (now ups)) ⌝ }
+    ensures { λ _. ⌜ (Offered links (now (lows .entry)) (now (highs .entry)) (now (costs .entry)) (now (spares .entry)) (now (rec .entry)) (now (rec .exit)) (endOf (now (lows .entry)) (now (highs .entry)) d) true)
+        × (Kept links (now (lows .entry)) (now (highs .entry)) (now (costs .entry)) (now (spares .entry)) (now (rec .exit)) (now (marks .exit))) ⌝ }
 {
+    let u = end_of(lows, highs, d);
     let v = end_of(highs, lows, d);
-    let worst = cheapest(rec, links, lows, highs, costs, spares, v);
-    let loser = end_of(lows, highs, worst);
-    put(rec, worst, 2);
+    let floor = cheapest(rec, marks, links, lows, highs, costs, spares, ups, v);
+    let w = end_of(highs, lows, floor);
+    store(marks, 4 * v + FLOOR, floor);
+    put(rec, opposite(floor), 2);
     put(rec, d, 1);
-    let _again = make_offer(rec, links, lows, highs, costs, spares, heads, nexts, loser);
+    take_one(marks, 4 * w + STANDING);
+    table::core::add_one(marks, 4 * u + STANDING);
+    let _again = make_offer(rec, marks, links, lows, highs, costs, spares, nexts, ups, w);
 }
 
 // The turn of probe p: it offers until its offers standing equal its spare or none is left to make.
 fn turn(
     rec: &mut [u8],
+    marks: &mut [u16],
     links: usize,
     lows: &[u16],
     highs: &[u16],
     costs: &[u16],
     spares: &[u16],
-    heads: &[u16],
     nexts: &[u16],
+    ups: &[u16],
     p: usize,
 )
-    requires { ⌜ (Ready links (now lows) (now highs) (now costs) (now spares) (now rec)) × (p < length (now spares)) × (Chain links (now lows) (now highs) (now costs) (now heads) (now nexts)) × (p < length (now heads)) ⌝ }
-    ensures { λ _. ⌜ Turned links (now (lows .entry)) (now (highs .entry)) (now (costs .entry)) (now (spares .entry)) (now (rec .entry)) (now (rec .exit)) p ⌝ }
+    requires { ⌜ (Ready links (now lows) (now highs) (now costs) (now spares) (now rec)) × (Kept links (now lows) (now highs) (now costs) (now spares) (now rec) (now marks))
+        × (Falling links (now lows) (now highs) (now costs) (now nexts)) × (Rising links (now lows) (now highs) (now costs) (now ups)) × (p < length (now spares)) ⌝ }
+    ensures { λ _. ⌜ (Turned links (now (lows .entry)) (now (highs .entry)) (now (costs .entry)) (now (spares .entry)) (now (rec .entry)) (now (rec .exit)) p) × (Kept links (now (lows .entry)) (now (highs .entry)) (now (costs .entry)) (now (spares .entry)) (now (rec .exit)) (now (marks .exit))) ⌝ }
 {
-    let spare = entry(spares, p);
     loop {
-        let standing = ones_at(rec, links, lows, highs, p, 0);
-        if spare <= standing {
+        if entry(spares, p) <= entry(marks, 4 * p + STANDING) {
             return;
         }
-        let made = make_offer(rec, links, lows, highs, costs, spares, heads, nexts, p);
+        let made = make_offer(rec, marks, links, lows, highs, costs, spares, nexts, ups, p);
         if !made {
             return;
         }
@@ -257,47 +252,25 @@ fn turn(
 // The turns of all probes, in number order.
 fn take_turns(
     rec: &mut [u8],
+    marks: &mut [u16],
     probes: usize,
     links: usize,
     lows: &[u16],
     highs: &[u16],
     costs: &[u16],
     spares: &[u16],
-    heads: &[u16],
     nexts: &[u16],
+    ups: &[u16],
 )
-    requires { ⌜ (Ready links (now lows) (now highs) (now costs) (now spares) (now rec)) × (probes ≤ length (now spares)) × (Chain links (now lows) (now highs) (now costs) (now heads) (now nexts)) × (probes ≤ length (now heads)) ⌝ }
+    requires { ⌜ (Ready links (now lows) (now highs) (now costs) (now spares) (now rec)) × (Kept links (now lows) (now highs) (now costs) (now spares) (now rec) (now marks))
+        × (Falling links (now lows) (now highs) (now costs) (now nexts)) × (Rising links (now lows) (now highs) (now costs) (now ups)) × (probes ≤ length (now spares)) ⌝ }
     ensures { λ _. ⌜ Over links (now (lows .entry)) (now (highs .entry)) (now (costs .entry)) (now (spares .entry)) (now (rec .exit)) probes ⌝ }
 {
     let mut p = 0;
     while p < probes {
-        turn(rec, links, lows, highs, costs, spares, heads, nexts, p);
+        turn(rec, marks, links, lows, highs, costs, spares, nexts, ups, p);
         p += 1;
     }
-}
-
-// The link with the smallest key from `floor` on, or a number past all.
-fn next_link(costs: &[u16], links: usize, floor: usize) -> usize
-    requires { ⌜ (links ≤ 2048) × (links ≤ length (now costs)) ⌝ }
-    ensures { λ r. ⌜ FromFloor links (now (costs .entry)) floor r ⌝ }
-{
-    let mut best = links;
-    let mut ceiling = 4294967296;
-    let mut j = 0;
-    while j < links {
-        let i = j;
-        j += 1;
-        let key = key_of(costs, 2 * i);
-        if key < floor {
-            continue;
-        }
-        if ceiling <= key {
-            continue;
-        }
-        best = i;
-        ceiling = key;
-    }
-    best
 }
 
 // Puts the two directions of the link i at the heads of its ends' chains.
@@ -312,52 +285,78 @@ fn push(heads: &mut [u16], nexts: &mut [u16], i: usize, low: usize, high: usize)
     heads[high] = (2 * i + 1) as u16;
 }
 
-// Builds the chains, from the cheapest link up.
-fn link_up(
+// Puts the links into chains, from the last of the order up.
+fn chain_links(
     heads: &mut [u16],
     nexts: &mut [u16],
     links: usize,
     lows: &[u16],
     highs: &[u16],
-    costs: &[u16],
+    order: &[u16],
 )
-    requires { ⌜ (links ≤ 2048) × (Fits links (now lows) (now highs) (now costs) (now heads)) × (2 * links ≤ length (now nexts))
+    requires { ⌜ (links ≤ 2048) × (links ≤ length (now lows)) × (links ≤ length (now highs)) × (links ≤ length (now order)) × (2 * links ≤ length (now nexts))
+        × ((i : ℕ) → i < links → (item (now lows) i < item (now highs) i) × (item (now highs) i < length (now heads)))
+        × ((k : ℕ) → k < links → item (now order) k < links)
         × ((v : ℕ) → v < length (now heads) → 2 * links ≤ item (now heads) v) ⌝ }
-    ensures { λ _. ⌜ Chain links (now (lows .entry)) (now (highs .entry)) (now (costs .entry)) (now (heads .exit)) (now (nexts .exit)) ⌝ }
+    ensures { λ _. ⌜ LinkedBy links (now (lows .entry)) (now (highs .entry)) (now (order .entry)) (now (heads .exit)) (now (nexts .exit)) ⌝ }
 {
-    let mut floor = 0;
-    loop {
-        let i = next_link(costs, links, floor);
-        if links <= i {
-            return;
-        }
-        floor = key_of(costs, 2 * i) + 1;
+    let mut k = links;
+    while 0 < k {
+        k -= 1;
+        let i = entry(order, k);
         push(heads, nexts, i, entry(lows, i), entry(highs, i));
     }
 }
 
-fn add_one(counts: &mut [u16], v: usize)
-    requires { ⌜ (v < length (now counts)) × (getD (now counts) v 0 < 65535) ⌝ }
-    ensures { λ _. ⌜ now (counts .exit) ≡ set (now (counts .entry)) v (getD (now (counts .entry)) v 0 + 1) ⌝ }
+// The first links of a slice in turned order.
+fn turn_round(to: &mut [u16], from: &[u16], links: usize)
+    requires { ⌜ (links ≤ length (now to)) × (links ≤ length (now from)) ⌝ }
+    ensures { λ _. ⌜ now (to .exit) ≡ stored (λ k. item (now (from .entry)) (links - 1 - k)) links (now (to .entry)) ⌝ }
 {
-    counts[v] += 1;
+    let mut k = 0;
+    while k < links {
+        to[k] = from[links - 1 - k];
+        k += 1;
+    }
 }
 
-// Counts each probe's links into zeros.
-fn count_degrees(counts: &mut [u16], probes: usize, links: usize, lows: &[u16], highs: &[u16])
-    requires { ⌜ (links ≤ length (now lows)) × (links ≤ length (now highs)) × (links ≤ 65535) × (probes ≤ length (now counts))
-        × ((i : ℕ) → i < links → Ends probes (item (now lows) i) (item (now highs) i))
-        × ((v : ℕ) → getD (now counts) v 0 ≡ 0) ⌝ }
-    ensures { λ _. ⌜ ((v : ℕ) → getD (now (counts .exit)) v 0 ≡ degree (ofSlices 0 probes links [] (now (lows .entry)) (now (highs .entry)) []) v) ⌝ }
+// Stores where each probe's searches start, into zeros.
+fn start(marks: &mut [u16], cursors: &[u16], floors: &[u16])
+    requires { ⌜ (length (now marks) ≡ 1024) × (length (now cursors) ≡ 256) × (length (now floors) ≡ 256) × ((j : ℕ) → item (now marks) j ≡ 0) ⌝ }
+    ensures { λ _. ⌜ FirstMarks (now (cursors .entry)) (now (floors .entry)) (now (marks .exit)) 256 ⌝ }
 {
-    let mut i = 0;
-    while i < links {
-        let low = table::core::wide(lows[i]);
-        let high = table::core::wide(highs[i]);
-        add_one(counts, low);
-        add_one(counts, high);
-        i += 1;
+    let mut v = 0;
+    while v < 256 {
+        store(marks, 4 * v + CURSOR, entry(cursors, v));
+        store(marks, 4 * v + FLOOR, entry(floors, v));
+        v += 1;
     }
+}
+
+// Each probe's links in chains, down from its dearest and up from its cheapest, where the searches start.
+fn link_up(
+    marks: &mut [u16],
+    nexts: &mut [u16],
+    ups: &mut [u16],
+    links: usize,
+    lows: &[u16],
+    highs: &[u16],
+    costs: &[u16],
+)
+    requires { ⌜ (links ≤ 2048) × (links ≤ length (now lows)) × (links ≤ length (now highs)) × (links ≤ length (now costs))
+        × ((i : ℕ) → i < links → (item (now lows) i < item (now highs) i) × (item (now highs) i < 256))
+        × (length (now marks) ≡ 1024) × ((j : ℕ) → item (now marks) j ≡ 0) × (2 * links ≤ length (now nexts)) × (2 * links ≤ length (now ups)) ⌝ }
+    ensures { λ _. ⌜ (Started links (now (lows .entry)) (now (highs .entry)) (now (costs .entry)) (now (marks .exit))) × (Falling links (now (lows .entry)) (now (highs .entry)) (now (costs .entry)) (now (nexts .exit))) × (Rising links (now (lows .entry)) (now (highs .entry)) (now (costs .entry)) (now (ups .exit))) ⌝ }
+{
+    let mut order = [0u16; 2048];
+    link_order::core::order_links(&mut order, links, costs);
+    let mut turned = [0u16; 2048];
+    turn_round(&mut turned, &order, links);
+    let mut cursors = [65535u16; 256];
+    chain_links(&mut cursors, nexts, links, lows, highs, &order);
+    let mut floors = [65535u16; 256];
+    chain_links(&mut floors, ups, links, lows, highs, &turned);
+    start(marks, &cursors, &floors);
 }
 
 fn less(a: u16, b: u16) -> u16
@@ -426,11 +425,11 @@ fn find_spares(
     highs: &[u16],
 )
     requires { ⌜ (links ≤ length (now lows)) × (links ≤ length (now highs)) × (links ≤ 65535) × (probes ≤ length (now spares)) × (probes ≤ length (now needs))
-        × ((i : ℕ) → i < links → Ends probes (item (now lows) i) (item (now highs) i))
+        × (first (linkFault probes (item (now lows)) (item (now highs))) links ≡ 0)
         × ((v : ℕ) → getD (now spares) v 0 ≡ 0) ⌝ }
     ensures { λ _. ⌜ ((v : ℕ) → getD (now (spares .exit)) v 0 ≡ spare (ofSlices 0 probes links (now (needs .entry)) (now (lows .entry)) (now (highs .entry)) []) v) ⌝ }
 {
-    count_degrees(spares, probes, links, lows, highs);
+    table::core::count_degrees(spares, probes, links, lows, highs);
     take_needs(spares, probes, needs);
 }
 
@@ -454,19 +453,21 @@ pub fn by_turns(
     clear(work);
     let mut spares = [0u16; 256];
     find_spares(&mut spares, probes, links, needs, lows, highs);
-    let mut heads = [65535u16; 256];
+    let mut marks = [0u16; 1024];
     let mut nexts = [0u16; 4096];
-    link_up(&mut heads, &mut nexts, links, lows, highs, costs);
+    let mut ups = [0u16; 4096];
+    link_up(&mut marks, &mut nexts, &mut ups, links, lows, highs, costs);
     take_turns(
         work,
+        &mut marks,
         probes,
         links,
         lows,
         highs,
         costs,
         &spares,
-        &heads,
         &nexts,
+        &ups,
     );
     write_plan(plan, work, links);
     clear(work);

@@ -103,11 +103,11 @@ pub fn add_one(counts: &mut [u16], v: usize)
 }
 
 // Counts each probe's links into zeros.
-fn count_degrees(counts: &mut [u16], probes: usize, links: usize, lows: &[u16], highs: &[u16])
+pub fn count_degrees(counts: &mut [u16], probes: usize, links: usize, lows: &[u16], highs: &[u16])
     requires { ⌜ (links ≤ length (now lows)) × (links ≤ length (now highs)) × (links ≤ 65535) × (probes ≤ length (now counts))
         × (first (linkFault probes (item (now lows)) (item (now highs))) links ≡ 0)
         × ((v : ℕ) → getD (now counts) v 0 ≡ 0) ⌝ }
-    ensures { λ _. ⌜ ((v : ℕ) → v < probes → getD (now (counts .exit)) v 0 ≡ degree (ofSlices 0 probes links [] (now (lows .entry)) (now (highs .entry)) []) v) ⌝ }
+    ensures { λ _. ⌜ ((v : ℕ) → getD (now (counts .exit)) v 0 ≡ degree (ofSlices 0 probes links [] (now (lows .entry)) (now (highs .entry)) []) v) ⌝ }
 {
     let mut i = 0;
     while i < links {

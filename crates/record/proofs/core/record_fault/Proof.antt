@@ -4,12 +4,12 @@ use Rattle.record.proofs.core.record_fault.Statement.{statement}
 use Rattle.record.proofs.core.record_fault.Tie as tie
 use mathlib.Core.Path.{_≡_, sym, _∙_}
 use mathlib.Core.List.{[]}
-use borrow.Author.Tests.{lt-ltb, le-ltb, eq-eqb, ne-eqb}
+use borrow.Author.Tests.{eq-eqb, ne-eqb}
 use Rattle.range.specs.First.{first}
 use Rattle.range.proofs.Faults.{or-here}
 use Rattle.table.specs.Table.{Table, ofSlices}
 use Rattle.record.specs.Record.{byteFault}
-use Rattle.record.proofs.Bytes.{ones-standing, ones-held}
+use Rattle.record.proofs.Bytes.{many-standing, many-held, none-over}
 
 mul-if1 : tie.Need-mul-if1
 mul-if1 c = search needs
@@ -34,7 +34,7 @@ returns-3 c =
     let a = c .before .before .before .before .before .before .before .before .before .before .args in
     let t : Table = ofSlices 0 0 (a .links) (a .needs .now) (a .lows .now) (a .highs .now) [] in
     let fine : first (byteFault t (a .probe) (a .rec .now)) (a .links) ≡ 0 = sym (c .before .before .before .before .bytes-fault .ensures) ∙ c .before .before .before .if2 .left in
-    rw (eq-eqb _ _ (c .before .before .before .before .before .if1 .left), fine, ← ones-standing t (a .probe) (a .rec .now) fine, ← c .before .ones .ensures .0, ← c .before .before .spare .ensures, lt-ltb _ _ (c .if3 .taken))
+    many-standing t (a .probe) (a .rec .now) (c .before .before .before .before .before .if1 .left) fine _ _ (c .before .before .spare .ensures) (c .before .ones .ensures .0) (c .if3 .taken)
 
 ones-requires-2 : tie.Need-ones-requires-2
 ones-requires-2 c κs = search needs
@@ -44,14 +44,14 @@ returns-4 c =
     let a = c .before .before .before .before .before .before .before .before .before .before .before .before .args in
     let t : Table = ofSlices 0 0 (a .links) (a .needs .now) (a .lows .now) (a .highs .now) [] in
     let fine : first (byteFault t (a .probe) (a .rec .now)) (a .links) ≡ 0 = sym (c .before .before .before .before .before .before .bytes-fault .ensures) ∙ c .before .before .before .before .before .if2 .left in
-    rw (eq-eqb _ _ (c .before .before .before .before .before .before .before .if1 .left), fine, ← ones-standing t (a .probe) (a .rec .now) fine, ← ones-held t (a .probe) (a .rec .now) fine, ← c .before .before .before .ones .ensures .0, ← c .before .ones2 .ensures .0, ← c .before .before .before .before .spare .ensures, le-ltb _ _ (c .before .before .if3 .left), lt-ltb _ _ (c .if4 .taken))
+    many-held t (a .probe) (a .rec .now) (c .before .before .before .before .before .before .before .if1 .left) fine _ _ (c .before .before .before .before .spare .ensures) (c .before .before .before .ones .ensures .0) (c .before .before .if3 .left) _ (c .before .ones2 .ensures .0) (c .if4 .taken)
 
 returns-5 : tie.Need-returns-5
 returns-5 c =
     let a = c .before .before .before .before .before .before .before .before .before .before .before .before .args in
     let t : Table = ofSlices 0 0 (a .links) (a .needs .now) (a .lows .now) (a .highs .now) [] in
     let fine : first (byteFault t (a .probe) (a .rec .now)) (a .links) ≡ 0 = sym (c .before .before .before .before .before .before .bytes-fault .ensures) ∙ c .before .before .before .before .before .if2 .left in
-    rw (eq-eqb _ _ (c .before .before .before .before .before .before .before .if1 .left), fine, ← ones-standing t (a .probe) (a .rec .now) fine, ← ones-held t (a .probe) (a .rec .now) fine, ← c .before .before .before .ones .ensures .0, ← c .before .ones2 .ensures .0, ← c .before .before .before .before .spare .ensures, le-ltb _ _ (c .before .before .if3 .left), le-ltb _ _ (c .if4 .left))
+    none-over t (a .probe) (a .rec .now) (c .before .before .before .before .before .before .before .if1 .left) fine _ _ (c .before .before .before .before .spare .ensures) (c .before .before .before .ones .ensures .0) (c .before .before .if3 .left) _ (c .before .ones2 .ensures .0) (c .if4 .left)
 
 pub record-fault-spec : {M : Type 1} → statement M
 record-fault-spec =

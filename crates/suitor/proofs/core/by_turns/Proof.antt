@@ -4,10 +4,14 @@ use Rattle.suitor.proofs.core.by_turns.Statement.{statement}
 use Rattle.suitor.proofs.core.by_turns.Tie as tie
 use Prim.Native.Nat.{ℕ}
 use mathlib.Core.Path.{_≡_, _∙_, ap}
+use mathlib.Core.List.{List}
 use native.Mathlib.Omega.{arith}
-use lib.ListN.{length, replicate, length-replicate, getD-replicate}
+use lib.ListN.{length, replicate, length-replicate}
 use Rattle.range.proofs.Lists.{zeros-at}
-use Rattle.suitor.proofs.Plan.{small, ends, fits, plan-bytes, zeros-ready}
+use Rattle.table.specs.Table.{item}
+use Rattle.suitor.specs.Record.{Fits}
+use Rattle.suitor.proofs.Turns.{zeros-ready, zeros-kept}
+use Rattle.suitor.proofs.Plan.{small, no-fault, ends, fits, plan-bytes}
 
 clear-requires : tie.Need-clear-requires
 clear-requires c κs = search needs
@@ -20,7 +24,7 @@ find-spares-requires c κs =
     let a = c .before .before .before .before .before .before .before .before .before .before .before .args in
     let p = c .before .before .before .before .before .before .before .before .before .before .before .pre in
     let s = small (a .probes) (a .links) (a .needs .now) (a .lows .now) (a .highs .now) (a .costs .now) (p .0) in
-    (search needs, search needs, omega (arith, s .1), omega (arith, s .0), search needs, ends (a .probes) (a .links) (a .needs .now) (a .lows .now) (a .highs .now) (a .costs .now) (p .0), zeros-at 256)
+    (search needs, search needs, omega (arith, s .1), omega (arith, s .0), search needs, no-fault (a .probes) (a .links) (a .needs .now) (a .lows .now) (a .highs .now) (a .costs .now) (p .0), zeros-at 256)
 
 slice-aggregate-link-up : tie.Need-slice-aggregate-link-up
 slice-aggregate-link-up c = search needs
@@ -28,12 +32,15 @@ slice-aggregate-link-up c = search needs
 slice-aggregate-link-up-2 : tie.Need-slice-aggregate-link-up-2
 slice-aggregate-link-up-2 c = search needs
 
+slice-aggregate-link-up-3 : tie.Need-slice-aggregate-link-up-3
+slice-aggregate-link-up-3 c = search needs
+
 link-up-requires : tie.Need-link-up-requires
 link-up-requires c κs =
-    let a = c .before .before .before .before .before .before .before .before .before .before .before .before .before .before .before .args in
-    let p = c .before .before .before .before .before .before .before .before .before .before .before .before .before .before .before .pre in
+    let a = c .before .before .before .before .before .before .before .before .before .before .before .before .before .before .before .before .args in
+    let p = c .before .before .before .before .before .before .before .before .before .before .before .before .before .before .before .before .pre in
     let s = small (a .probes) (a .links) (a .needs .now) (a .lows .now) (a .highs .now) (a .costs .now) (p .0) in
-    (s .1, fits (a .probes) (a .links) (a .needs .now) (a .lows .now) (a .highs .now) (a .costs .now) (p .0) (replicate 256 65535) (length-replicate {A = ℕ} 256 65535) (p .2) (p .3) (p .4), omega (arith, s .1), λ v l. rw (getD-replicate {A = ℕ} 256 v 65535 0 l) (omega (arith, s .1)))
+    (s .1, p .2, p .3, p .4, λ i l. (ends (a .probes) (a .links) (a .needs .now) (a .lows .now) (a .highs .now) (a .costs .now) (p .0) i l .rises, let k = ends (a .probes) (a .links) (a .needs .now) (a .lows .now) (a .highs .now) (a .costs .now) (p .0) i l .below in omega (arith, s .0)), length-replicate {A = ℕ} 1024 0, zeros-at 1024, omega (arith, s .1), omega (arith, s .1))
 
 slice-aggregate-take-turns : tie.Need-slice-aggregate-take-turns
 slice-aggregate-take-turns c = search needs
@@ -44,22 +51,31 @@ slice-aggregate-take-turns-2 c = search needs
 slice-aggregate-take-turns-3 : tie.Need-slice-aggregate-take-turns-3
 slice-aggregate-take-turns-3 c = search needs
 
+slice-aggregate-take-turns-4 : tie.Need-slice-aggregate-take-turns-4
+slice-aggregate-take-turns-4 c = search needs
+
 take-turns-requires : tie.Need-take-turns-requires
 take-turns-requires c κs =
-    let a = c .before .before .before .before .before .before .before .before .before .before .before .before .before .before .before .before .before .before .before .before .before .before .args in
-    let p = c .before .before .before .before .before .before .before .before .before .before .before .before .before .before .before .before .before .before .before .before .before .before .pre in
+    let a = c .before .before .before .before .before .before .before .before .before .before .before .before .before .before .before .before .before .before .before .before .before .before .before .before .before .args in
+    let p = c .before .before .before .before .before .before .before .before .before .before .before .before .before .before .before .before .before .before .before .before .before .before .before .before .before .pre in
     let s = small (a .probes) (a .links) (a .needs .now) (a .lows .now) (a .highs .now) (a .costs .now) (p .0) in
-    let l : length (c .before .before .before .before .before .before .before .before .before .before .find-spares .last .0) ≡ 256 = c .before .before .before .before .before .before .before .before .before .before .find-spares .kept .0 in
-    let h : length (c .before .before .before .before .before .before .link-up .last .0) ≡ 256 = c .before .before .before .before .before .before .link-up .kept .0 in (
-      zeros-ready (a .links) (length (a .work .now)) (a .lows .now) (a .highs .now) (a .costs .now) (c .before .before .before .before .before .before .before .before .before .before .find-spares .last .0) _ (c .before .before .before .before .before .before .before .before .before .before .before .before .before .before .clear .ensures) (p .6)
-          (fits (a .probes) (a .links) (a .needs .now) (a .lows .now) (a .highs .now) (a .costs .now) (p .0) (c .before .before .before .before .before .before .before .before .before .before .find-spares .last .0) l (p .2) (p .3) (p .4)),
-      omega (arith, s .0),
-      c .before .before .before .before .before .before .link-up .ensures,
+    let w = c .before .before .before .before .before .before .before .before .before .before .before .before .before .before .before .before .before .clear in
+    let f = c .before .before .before .before .before .before .before .before .before .before .before .before .before .find-spares in
+    let k = c .before .before .before .before .before .before .before .before .link-up in
+    let n : length (f .last .0) ≡ 256 = f .kept .0 in
+    let long : length (w .last .0) ≡ length (a .work .now) = w .kept .0 in
+    let wide : length (k .last .0) ≡ 1024 = k .kept .0 in
+    let good : Fits (a .links) (a .lows .now) (a .highs .now) (a .costs .now) (f .last .0) = fits (a .probes) (a .links) (a .needs .now) (a .lows .now) (a .highs .now) (a .costs .now) (p .0) (f .last .0) n (p .2) (p .3) (p .4) (λ i. c .before .before .before .before .before .before .before .before .before .before .before .before .before .before .before .before .before .before .before .shared-slice-known4 .given i .fits) in
+    let none : (j : ℕ) → item (w .last .0) j ≡ 0 = λ j. ap (λ (r : List ℕ). item r j) (w .ensures) ∙ zeros-at (length (a .work .now)) j in (
+      zeros-ready (a .links) (a .lows .now) (a .highs .now) (a .costs .now) (f .last .0) (w .last .0) good none (omega (arith, p .6)),
+      zeros-kept (a .links) (a .lows .now) (a .highs .now) (a .costs .now) (f .last .0) (w .last .0) good none (k .last .0) (omega arith) (k .ensures .0),
+      k .ensures .1,
+      k .ensures .2,
       omega (arith, s .0),
     )
 
 write-plan-requires : tie.Need-write-plan-requires
-write-plan-requires c κs = (c .before .before .before .before .before .before .before .before .before .before .before .before .before .before .before .before .before .before .before .before .before .before .before .before .before .before .before .pre .5, c .before .before .before .before .take-turns .ensures .ready .paired .room)
+write-plan-requires c κs = (c .before .before .before .before .before .before .before .before .before .before .before .before .before .before .before .before .before .before .before .before .before .before .before .before .before .before .before .before .before .before .before .pre .5, c .before .before .before .before .before .take-turns .ensures .ready .paired .room)
 
 clear-requires-2 : tie.Need-clear-requires-2
 clear-requires-2 c κs = search needs
@@ -68,15 +84,17 @@ same-length : tie.Need-same-length
 same-length c = search needs
 
 same-length-2 : tie.Need-same-length-2
-same-length-2 c = search needs
+same-length-2 c = c .before .before .clear2 .kept .0 ∙ c .before .before .before .before .before .before .before .before .before .before .before .before .take-turns .kept .0 ∙ c .before .before .before .before .before .before .before .before .before .before .before .before .before .before .before .before .before .before .before .before .before .before .before .before .before .before .before .before .before .before .clear .kept .0
 
 returns : tie.Need-returns
 returns c =
-    let a = c .before .before .before .before .before .before .before .before .before .before .before .before .before .before .before .before .before .before .before .before .before .before .before .before .before .before .before .before .before .before .before .before .before .before .args in
-    let p = c .before .before .before .before .before .before .before .before .before .before .before .before .before .before .before .before .before .before .before .before .before .before .before .before .before .before .before .before .before .before .before .before .before .before .pre in
-    let f = c .before .before .before .before .before .before .before .before .before .before .before .before .before .before .before .before .before .before .before .before .before .before .find-spares in
-    let n : length (c .before .before .before .before .before .before .before .before .before .before .before .take-turns .last .0) ≡ length (a .work .now) = c .before .before .before .before .before .before .before .before .before .before .before .take-turns .kept .0 ∙ c .before .before .before .before .before .before .before .before .before .before .before .before .before .before .before .before .before .before .before .before .before .before .before .before .before .before .clear .kept .0 in (
-      c .before .before .before .before .before .before .write-plan .ensures ∙ plan-bytes (a .probes) (a .links) (a .needs .now) (a .lows .now) (a .highs .now) (a .costs .now) (p .0) (f .last .0) (c .before .before .before .before .before .before .before .before .before .before .before .take-turns .last .0) (f .ensures) (c .before .before .before .before .before .before .before .before .before .before .before .take-turns .ensures) (a .plan .now),
+    let a = c .before .before .before .before .before .before .before .before .before .before .before .before .before .before .before .before .before .before .before .before .before .before .before .before .before .before .before .before .before .before .before .before .before .before .before .before .before .before .args in
+    let p = c .before .before .before .before .before .before .before .before .before .before .before .before .before .before .before .before .before .before .before .before .before .before .before .before .before .before .before .before .before .before .before .before .before .before .before .before .before .before .pre in
+    let s = small (a .probes) (a .links) (a .needs .now) (a .lows .now) (a .highs .now) (a .costs .now) (p .0) in
+    let f = c .before .before .before .before .before .before .before .before .before .before .before .before .before .before .before .before .before .before .before .before .before .before .before .before .before .before .find-spares in
+    let t = c .before .before .before .before .before .before .before .before .before .before .before .before .take-turns in
+    let n : length (t .last .0) ≡ length (a .work .now) = t .kept .0 ∙ c .before .before .before .before .before .before .before .before .before .before .before .before .before .before .before .before .before .before .before .before .before .before .before .before .before .before .before .before .before .before .clear .kept .0 in (
+      c .before .before .before .before .before .before .write-plan .ensures ∙ plan-bytes (a .probes) (a .links) (a .needs .now) (a .lows .now) (a .highs .now) (a .costs .now) (p .0) (f .last .0) (t .last .0) (f .ensures) (t .ensures) (a .plan .now),
       c .before .before .clear2 .ensures ∙ ap (λ (k : ℕ). replicate k 0) n,
     )
 
@@ -89,10 +107,12 @@ by-turns-spec =
     find-spares-requires
     slice-aggregate-link-up
     slice-aggregate-link-up-2
+    slice-aggregate-link-up-3
     link-up-requires
     slice-aggregate-take-turns
     slice-aggregate-take-turns-2
     slice-aggregate-take-turns-3
+    slice-aggregate-take-turns-4
     take-turns-requires
     write-plan-requires
     clear-requires-2

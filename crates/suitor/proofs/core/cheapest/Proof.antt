@@ -1,86 +1,99 @@
 -- `suitor::core::cheapest` meets its contract.
-use borrow.Author.Needs.{needs}
 use Rattle.suitor.proofs.core.cheapest.Statement.{statement}
 use Rattle.suitor.proofs.core.cheapest.Tie as tie
-use Prim.Native.Nat.{_*_, _-_, _≤_}
-use mathlib.Core.Path.{sym, _∙_}
+use Prim.Native.Nat.{_*_}
+use mathlib.Core.Path.{sym, _∙_, ap}
 use native.Mathlib.Omega.{arith}
-use Rattle.suitor.specs.Record.{siteOf, outbound}
-use Rattle.suitor.proofs.Searches.{CheapestTo, cheapest-start, cheapest-past, cheapest-new, cheapest-done}
+use Rattle.suitor.specs.Offers.{Floor}
+use Rattle.suitor.specs.Record.{endOf, siteOf, outbound, inbound}
+use Rattle.suitor.specs.Chain.{opposite, turnedKey}
+use Rattle.suitor.proofs.Chain.{height, falls, opposite-below, floor-at, floor-cheapest, floor-step}
 
 abbrev Inv-loop : tie.InvT-loop
-Inv-loop rec links lows highs costs spares v dirs best₀ ceiling₀ d₀ best ceiling d = (d ≤ 2 * links) × CheapestTo (siteOf links lows highs costs spares) (outbound rec) v best ceiling d
+Inv-loop rec marks links lows highs costs spares ups v f₀ f = Floor (siteOf links lows highs costs spares) (outbound rec) v f
 
 abbrev μ-loop : tie.MeasureT-loop
-μ-loop rec links lows highs costs spares v dirs best₀ ceiling₀ d₀ best ceiling d = 2 * links - d
+μ-loop rec marks links lows highs costs spares ups v f₀ f = height (2 * links) (turnedKey costs) f
 
-mul-dirs : tie.Need-mul-dirs Inv-loop μ-loop
-mul-dirs c = search needs
+mul-entry : tie.Need-mul-entry Inv-loop μ-loop
+mul-entry c =
+    let p = c .before .before .before .before .before .before .before .pre in
+    let k = p .1 .room in
+    let w = p .0 .fits .within in
+    let l = p .3 in
+    omega arith
+
+add-entry : tie.Need-add-entry Inv-loop μ-loop
+add-entry c =
+    let p = c .before .before .before .before .before .before .before .pre in
+    let k = p .1 .room in
+    let w = p .0 .fits .within in
+    let l = p .3 in
+    omega arith
+
+entry-requires : tie.Need-entry-requires Inv-loop μ-loop
+entry-requires c κs =
+    let p = c .before .before .before .before .before .before .before .pre in
+    let k = p .1 .room in
+    let w = p .0 .fits .within in
+    let l = p .3 in
+    omega arith
 
 loop-holds : tie.Need-loop-holds Inv-loop μ-loop
-loop-holds c = let a = c .before .before .before .before .before .args in (search needs, cheapest-start (siteOf (a .links) (a .lows .now) (a .highs .now) (a .costs .now) (a .spares .now)) (outbound (a .rec .now)) (a .v))
+loop-holds c =
+    let a = c .before .before .before .before .before .before .before .before .args in
+    let p = c .before .before .before .before .before .before .before .before .pre in
+    floor-at (a .links) (a .lows .now) (a .highs .now) (a .costs .now) (a .spares .now) (p .0 .fits) (outbound (a .rec .now)) (p .0 .inv) (a .v) (p .4) (c .entry .result) (rw (c .entry .ensures) (p .1 .floors (a .v) (p .3)))
 
-add-d : tie.Need-add-d Inv-loop μ-loop
-add-d c = search needs
+opposite-requires : tie.Need-opposite-requires Inv-loop μ-loop
+opposite-requires c κs =
+    let f = c .loop .inv .below in
+    let k = c .before .before .before .before .before .before .before .before .before .pre .0 .fits .few in
+    omega arith
 
-end-of-requires : tie.Need-end-of-requires Inv-loop μ-loop
-end-of-requires c κs = search needs
+mul-if1 : tie.Need-mul-if1 Inv-loop μ-loop
+mul-if1 c =
+    let b = opposite-below (c .before .before .before .before .before .before .before .before .before .before .args .links) (c .before .loop .f) (c .before .loop .inv .below) in
+    let e = c .opposite .ensures in
+    let k = c .before .before .before .before .before .before .before .before .before .before .pre .0 .fits .few in
+    omega arith
+
+add-if1 : tie.Need-add-if1 Inv-loop μ-loop
+add-if1 c =
+    let b = opposite-below (c .before .before .before .before .before .before .before .before .before .before .args .links) (c .before .loop .f) (c .before .loop .inv .below) in
+    let e = c .opposite .ensures in
+    let k = c .before .before .before .before .before .before .before .before .before .before .pre .0 .fits .few in
+    omega arith
+
+shared-slice-read-if1 : tie.Need-shared-slice-read-if1 Inv-loop μ-loop
+shared-slice-read-if1 c =
+    let b = opposite-below (c .before .before .before .before .before .before .before .before .before .before .before .args .links) (c .before .before .loop .f) (c .before .before .loop .inv .below) in
+    let e = c .before .opposite .ensures in
+    let k = c .before .before .before .before .before .before .before .before .before .before .before .pre .0 .paired .room in
+    omega arith
+
+entry-requires-2 : tie.Need-entry-requires-2 Inv-loop μ-loop
+entry-requires-2 c κs =
+    let f = c .before .before .before .loop .inv .below in
+    let k = c .before .before .before .before .before .before .before .before .before .before .before .before .pre .2 .long in
+    omega arith
 
 loop-less : tie.Need-loop-less Inv-loop μ-loop
-loop-less c = search needs
+loop-less c =
+    let a = c .before .before .before .before .before .before .before .before .before .before .before .before .before .args in
+    falls (2 * a .links) (endOf (a .lows .now) (a .highs .now)) (turnedKey (a .costs .now)) (a .ups .now) (c .before .before .before .before .before .before .before .before .before .before .before .before .before .pre .2) (c .before .before .before .before .loop .f) (c .entry2 .result) (c .before .before .before .before .loop .inv .below) (c .entry2 .ensures)
 
 loop-again : tie.Need-loop-again Inv-loop μ-loop
 loop-again c =
-    let a = c .before .before .before .before .before .before .before .before .before .args in
-    let l = c .before .before .before .loop in
-    (search needs, cheapest-past (siteOf (a .links) (a .lows .now) (a .highs .now) (a .costs .now) (a .spares .now)) (outbound (a .rec .now)) (a .v) (l .best) (l .ceiling) (l .d) (l .inv .1) (λ x y. absurd (c .if1 .taken (c .before .end-of .ensures ∙ x))))
-
-mul-if2 : tie.Need-mul-if2 Inv-loop μ-loop
-mul-if2 c = search needs
-
-add-if2 : tie.Need-add-if2 Inv-loop μ-loop
-add-if2 c = search needs
-
-shared-slice-read-if2 : tie.Need-shared-slice-read-if2 Inv-loop μ-loop
-shared-slice-read-if2 c = search needs
-
-loop-less-2 : tie.Need-loop-less-2 Inv-loop μ-loop
-loop-less-2 c = search needs
-
-loop-again-2 : tie.Need-loop-again-2 Inv-loop μ-loop
-loop-again-2 c =
-    let a = c .before .before .before .before .before .before .before .before .before .before .before .args in
-    let l = c .before .before .before .before .before .loop in
-    (search needs, cheapest-past (siteOf (a .links) (a .lows .now) (a .highs .now) (a .costs .now) (a .spares .now)) (outbound (a .rec .now)) (a .v) (l .best) (l .ceiling) (l .d) (l .inv .1) (λ x y. absurd (c .if2 .taken (c .before .before .before .before .before .before .before .before .before .before .before .pre .1 .twin (l .d) ∙ y))))
-
-key-of-requires : tie.Need-key-of-requires Inv-loop μ-loop
-key-of-requires c κs = search needs
-
-loop-less-3 : tie.Need-loop-less-3 Inv-loop μ-loop
-loop-less-3 c = search needs
-
-loop-again-3 : tie.Need-loop-again-3 Inv-loop μ-loop
-loop-again-3 c =
     let a = c .before .before .before .before .before .before .before .before .before .before .before .before .before .args in
-    let l = c .before .before .before .before .before .before .before .loop in
-    let k = c .before .key-of .ensures in
-    (search needs, cheapest-past (siteOf (a .links) (a .lows .now) (a .highs .now) (a .costs .now) (a .spares .now)) (outbound (a .rec .now)) (a .v) (l .best) (l .ceiling) (l .d) (l .inv .1) (λ x y. (omega (arith, k .0, c .if3 .taken), omega (arith, k .0, k .1))))
-
-loop-less-4 : tie.Need-loop-less-4 Inv-loop μ-loop
-loop-less-4 c = search needs
-
-loop-again-4 : tie.Need-loop-again-4 Inv-loop μ-loop
-loop-again-4 c =
-    let a = c .before .before .before .before .before .before .before .before .before .before .before .before .before .args in
-    let l = c .before .before .before .before .before .before .before .loop in
-    let k = c .before .key-of in
-    (search needs, cheapest-new (siteOf (a .links) (a .lows .now) (a .highs .now) (a .costs .now) (a .spares .now)) (outbound (a .rec .now)) (a .v) (l .best) (l .ceiling) (l .d) (k .result) (l .inv .1) (c .before .before .before .before .before .before .loop-test .taken) (sym (c .before .before .before .before .before .end-of .ensures) ∙ c .before .before .before .before .if1 .left) (sym (c .before .before .before .before .before .before .before .before .before .before .before .before .before .pre .1 .twin (l .d)) ∙ c .before .before .if2 .left) (k .ensures .0) (k .ensures .1) (c .if3 .left))
+    let p = c .before .before .before .before .before .before .before .before .before .before .before .before .before .pre in
+    floor-step (a .links) (a .lows .now) (a .highs .now) (a .costs .now) (a .spares .now) (p .0 .fits) (outbound (a .rec .now)) (p .0 .inv) (a .v) (c .before .before .before .before .loop .f) (c .before .before .before .before .loop .inv) (p .5) (a .ups .now) (p .2) (λ z. c .before .if1 .taken (ap (inbound (a .rec .now)) (c .before .before .before .opposite .ensures) ∙ p .0 .paired .twin (opposite (c .before .before .before .before .loop .f)) ∙ z)) (p .4) (c .entry2 .result) (c .entry2 .ensures)
 
 returns : tie.Need-returns Inv-loop μ-loop
 returns c =
-    let a = c .before .before .before .before .before .before .before .args in
-    let l = c .before .loop in
-    cheapest-done (siteOf (a .links) (a .lows .now) (a .highs .now) (a .costs .now) (a .spares .now)) (outbound (a .rec .now)) (a .v) (l .best) (l .ceiling) (l .d) (l .inv .1) (c .loop-test .left) (c .before .before .before .before .before .before .before .pre .2)
+    let a = c .before .before .before .before .before .before .before .before .before .before .before .before .args in
+    let p = c .before .before .before .before .before .before .before .before .before .before .before .before .pre in
+    (floor-cheapest (a .links) (a .lows .now) (a .highs .now) (a .costs .now) (a .spares .now) (p .0 .fits) (outbound (a .rec .now)) (p .0 .inv) (a .v) (c .before .before .before .loop .f) (c .before .before .before .loop .inv) (sym (ap (inbound (a .rec .now)) (c .before .before .opposite .ensures) ∙ p .0 .paired .twin (opposite (c .before .before .before .loop .f))) ∙ c .if1 .left), c .before .before .before .loop .inv)
 
 pub cheapest-spec : {M : Type 1} → statement M
 cheapest-spec =
@@ -88,20 +101,15 @@ cheapest-spec =
     (tie.spec
     Inv-loop
     μ-loop
-    mul-dirs
+    mul-entry
+    add-entry
+    entry-requires
     loop-holds
-    add-d
-    end-of-requires
+    opposite-requires
+    mul-if1
+    add-if1
+    shared-slice-read-if1
+    entry-requires-2
     loop-less
     loop-again
-    mul-if2
-    add-if2
-    shared-slice-read-if2
-    loop-less-2
-    loop-again-2
-    key-of-requires
-    loop-less-3
-    loop-again-3
-    loop-less-4
-    loop-again-4
     returns)

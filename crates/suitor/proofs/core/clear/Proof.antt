@@ -3,7 +3,7 @@ use borrow.Author.Needs.{needs}
 use Rattle.suitor.proofs.core.clear.Statement.{statement}
 use Rattle.suitor.proofs.core.clear.Tie as tie
 use Prim.Native.Nat.{_-_, _≤_}
-use mathlib.Core.Path.{_≡_, refl, sym, _∙_}
+use mathlib.Core.Path.{_≡_, refl, _∙_}
 use native.Mathlib.Omega.{arith}
 use lib.ListN.{length, length-set}
 use Rattle.range.specs.Lists.{stored}
@@ -30,7 +30,7 @@ loop-less : tie.Need-loop-less Inv-loop μ-loop
 loop-less c = search needs
 
 loop-again : tie.Need-loop-again Inv-loop μ-loop
-loop-again c = (search needs, rw (c .before .loop .inv .1) (sym (stored-next (λ k. 0) (c .before .loop .i) (c .before .before .args .work .now))), simp length-set (c .before .loop .inv .2))
+loop-again c = (search needs, rw (c .before .loop .inv .1, stored-next (λ k. 0) (c .before .loop .i) (c .before .before .args .work .now)), simp length-set (c .before .loop .inv .2))
 
 same-length : tie.Need-same-length Inv-loop μ-loop
 same-length c = c .before .loop .inv .2

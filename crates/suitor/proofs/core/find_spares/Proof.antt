@@ -3,6 +3,8 @@ use borrow.Author.Needs.{needs}
 use Rattle.suitor.proofs.core.find_spares.Statement.{statement}
 use Rattle.suitor.proofs.core.find_spares.Tie as tie
 use native.Mathlib.Omega.{arith}
+use Rattle.table.specs.Table.{item}
+use Rattle.table.proofs.Faults.{links-ends}
 use Rattle.suitor.proofs.Plan.{spares-right}
 
 count-degrees-requires : tie.Need-count-degrees-requires
@@ -19,7 +21,7 @@ returns c =
     let a = c .before .before .before .before .before .before .before .before .before .before .before .before .args in
     let n = c .before .before .before .before .before .before .count-degrees in
     let k = n .kept .0 in
-    spares-right (a .probes) (a .links) (a .needs .now) (a .lows .now) (a .highs .now) (n .last .0) _ (c .before .before .before .before .before .before .before .before .before .before .before .before .pre .5) (n .ensures) (omega arith) (c .before .before .take-needs .ensures)
+    spares-right (a .probes) (a .links) (a .needs .now) (a .lows .now) (a .highs .now) (n .last .0) _ (links-ends (a .probes) (a .links) (item (a .lows .now)) (item (a .highs .now)) (c .before .before .before .before .before .before .before .before .before .before .before .before .pre .5)) (n .ensures) (omega arith) (c .before .before .take-needs .ensures)
 
 pub find-spares-spec : {M : Type 1} → statement M
 find-spares-spec =

@@ -2,109 +2,109 @@
 use borrow.Author.Needs.{needs}
 use Rattle.suitor.proofs.core.link_up.Statement.{statement}
 use Rattle.suitor.proofs.core.link_up.Tie as tie
-use Prim.Native.Nat.{_-_, _≤_}
-use mathlib.Core.Path.{_≡_, refl, _∙_}
+use Prim.Native.Nat.{ℕ}
+use mathlib.Core.Path.{_≡_}
 use native.Mathlib.Omega.{arith}
-use lib.ListN.{length}
-use Rattle.suitor.specs.Chain.{ChainBelow}
-use Rattle.suitor.proofs.Record.{source-below}
-use Rattle.suitor.proofs.Build.{chain-start, chain-next, chain-done}
+use lib.ListN.{length, replicate, length-replicate, getD-replicate}
+use Rattle.suitor.proofs.Build.{chains-down, chains-up, round-below}
 
-abbrev Inv-loop : tie.InvT-loop
-Inv-loop heads₀ nexts₀ links lows highs costs floor₀ heads nexts floor = (floor ≤ 4294967296) × ChainBelow links lows highs costs heads nexts floor × (length heads ≡ length heads₀) × (length nexts ≡ length nexts₀)
+slice-aggregate-order-links : tie.Need-slice-aggregate-order-links
+slice-aggregate-order-links c = search needs
 
-abbrev μ-loop : tie.MeasureT-loop
-μ-loop heads₀ nexts₀ links lows highs costs floor₀ heads nexts floor = 4294967296 - floor
+order-links-requires : tie.Need-order-links-requires
+order-links-requires c κs = search needs
 
-loop-holds : tie.Need-loop-holds Inv-loop μ-loop
-loop-holds c = let a = c .before .before .before .before .before .args in (search needs, chain-start (a .links) (a .lows .now) (a .highs .now) (a .costs .now) (a .heads .now) (a .nexts .now) (c .before .before .before .before .before .pre .3), refl, refl)
+slice-aggregate-turn-round : tie.Need-slice-aggregate-turn-round
+slice-aggregate-turn-round c = search needs
 
-next-link-requires : tie.Need-next-link-requires Inv-loop μ-loop
-next-link-requires c κs = search needs
+slice-aggregate-turn-round-2 : tie.Need-slice-aggregate-turn-round-2
+slice-aggregate-turn-round-2 c = search needs
 
-same-length : tie.Need-same-length Inv-loop μ-loop
-same-length c = c .before .before .loop .inv .2
+turn-round-requires : tie.Need-turn-round-requires
+turn-round-requires c κs = search needs
 
-same-length-2 : tie.Need-same-length-2 Inv-loop μ-loop
-same-length-2 c = c .before .before .loop .inv .3
+slice-aggregate-chain-links : tie.Need-slice-aggregate-chain-links
+slice-aggregate-chain-links c = search needs
 
-returns : tie.Need-returns Inv-loop μ-loop
+slice-aggregate-chain-links-2 : tie.Need-slice-aggregate-chain-links-2
+slice-aggregate-chain-links-2 c = search needs
+
+chain-links-requires : tie.Need-chain-links-requires
+chain-links-requires c κs =
+    let p = c .before .before .before .before .before .before .before .before .before .before .before .before .before .before .before .before .pre in
+    let o = c .before .before .before .before .before .before .before .before .order-links in
+    (p .0, p .1, p .2, search needs, p .7, λ i l. (p .4 i l .0, rw (length-replicate {A = ℕ} 256 65535) (p .4 i l .1)), o .ensures .below, λ v l. rw (getD-replicate {A = ℕ} 256 v 65535 0 l) (omega (arith, p .0)))
+
+slice-aggregate-chain-links-3 : tie.Need-slice-aggregate-chain-links-3
+slice-aggregate-chain-links-3 c = search needs
+
+slice-aggregate-chain-links-4 : tie.Need-slice-aggregate-chain-links-4
+slice-aggregate-chain-links-4 c = search needs
+
+chain-links-requires-2 : tie.Need-chain-links-requires-2
+chain-links-requires-2 c κs =
+    let a = c .before .before .before .before .before .before .before .before .before .before .before .before .before .before .before .before .before .before .before .before .before .before .before .args in
+    let p = c .before .before .before .before .before .before .before .before .before .before .before .before .before .before .before .before .before .before .before .before .before .before .before .pre in
+    let o = c .before .before .before .before .before .before .before .before .before .before .before .before .before .before .before .order-links in
+    let t = c .before .before .before .before .before .before .before .before .before .before .before .turn-round in
+    (p .0, p .1, p .2, search needs, p .8, λ i l. (p .4 i l .0, rw (length-replicate {A = ℕ} 256 65535) (p .4 i l .1)), round-below (a .links) (a .lows .now) (a .highs .now) (a .costs .now) (p .0) (λ i. c .before .before .before .before .before .before .before .before .before .before .before .before .before .before .before .before .before .shared-slice-known3 .given i .fits) (o .last .0) (o .ensures) (replicate 2048 0) (t .last .0) (p .0) (t .ensures), λ v l. rw (getD-replicate {A = ℕ} 256 v 65535 0 l) (omega (arith, p .0)))
+
+slice-aggregate-start : tie.Need-slice-aggregate-start
+slice-aggregate-start c = search needs
+
+slice-aggregate-start-2 : tie.Need-slice-aggregate-start-2
+slice-aggregate-start-2 c = search needs
+
+start-requires : tie.Need-start-requires
+start-requires c κs =
+    let p = c .before .before .before .before .before .before .before .before .before .before .before .before .before .before .before .before .before .before .before .before .before .before .before .before .before .before .before .before .before .before .pre in
+    (p .5, c .before .before .before .before .before .before .before .before .before .before .before .before .before .chain-links .kept .0, c .before .before .before .before .before .before .chain-links2 .kept .0, p .6)
+
+same-length : tie.Need-same-length
+same-length c = search needs
+
+same-length-2 : tie.Need-same-length-2
+same-length-2 c = search needs
+
+same-length-3 : tie.Need-same-length-3
+same-length-3 c = search needs
+
+returns : tie.Need-returns
 returns c =
-    let a = c .before .before .before .before .before .before .before .before .args in
-    let i = c .before .before .loop .inv in
-    let n = i .2 in
-    chain-done (a .links) (a .lows .now) (a .highs .now) (a .costs .now) (c .before .before .loop .heads) (c .before .before .loop .nexts) (c .before .before .loop .floor) (c .before .next-link .result) (i .1) (c .before .next-link .ensures) (c .if1 .taken) (i .0)
-    (λ d l. let k = source-below (a .links) (a .lows .now) (a .highs .now) (a .costs .now) (a .heads .now) (c .before .before .before .before .before .before .before .before .pre .1) d l in omega (arith, n)) (let k = c .before .before .before .before .before .before .before .before .pre .2 in omega (arith, i .3))
-
-mul-key-of : tie.Need-mul-key-of Inv-loop μ-loop
-mul-key-of c = search needs
-
-key-of-requires : tie.Need-key-of-requires Inv-loop μ-loop
-key-of-requires c κs = search needs
-
-add-floor : tie.Need-add-floor Inv-loop μ-loop
-add-floor c = search needs
-
-entry-requires : tie.Need-entry-requires Inv-loop μ-loop
-entry-requires c κs = search needs
-
-entry-requires-2 : tie.Need-entry-requires-2 Inv-loop μ-loop
-entry-requires-2 c κs = search needs
-
-push-requires : tie.Need-push-requires Inv-loop μ-loop
-push-requires c κs =
-    let f = c .before .before .before .before .before .before .before .before .before .before .before .before .before .pre .1 in
-    let i = c .before .before .before .before .before .before .next-link .result in
-    let l = c .before .before .before .before .before .if1 .left in
-    let r = f .rises i l in
-    let e = f .ends i l in
-    let n = c .before .before .before .before .before .before .before .loop .inv in
-    let x = c .before .entry .ensures in
-    let y = c .entry2 .ensures in
-    let k = c .before .before .before .before .before .before .before .before .before .before .before .before .before .pre .2 in
-    (search needs, omega arith, omega (arith, n .2), omega (arith, n .3))
-
-loop-less : tie.Need-loop-less Inv-loop μ-loop
-loop-less c =
-    let k = c .before .before .before .before .before .before .before .before .before .key-of .ensures in
-    let o = c .before .before .before .before .before .before .before .before .before .before .before .next-link .ensures .over (c .before .before .before .before .before .before .before .before .before .before .if1 .left) in
-    omega (arith, k .0, k .1)
-
-loop-again : tie.Need-loop-again Inv-loop μ-loop
-loop-again c =
-    let a = c .before .before .before .before .before .before .before .before .before .before .before .before .before .before .before .before .before .before .args in
-    let f = c .before .before .before .before .before .before .before .before .before .before .before .before .before .before .before .before .before .before .pre .1 in
-    let l = c .before .before .before .before .before .before .before .before .before .before .before .before .loop in
-    let i = c .before .before .before .before .before .before .before .before .before .before .before .next-link .result in
-    let m = c .before .before .before .before .before .before .before .before .before .before .if1 .left in
-    let k = c .before .before .before .before .before .before .before .before .before .key-of .ensures in
-    let r = f .ends i m in
-    let x = c .before .before .before .before .before .entry2 .ensures in
-    let long = c .before .before .before .before .before .before .before .before .before .before .before .before .before .before .before .before .before .before .pre .2 in
-    let n = l .inv in (
-      omega (arith, k .0, k .1),
-      rw (k .0) (chain-next (a .links) (a .lows .now) (a .highs .now) (a .costs .now) (f .few) (f .rises) (l .heads) (l .nexts) _ _ (l .floor) i (c .before .before .before .before .before .before .entry .result) (c .before .before .before .before .before .entry2 .result) (n .1) (c .before .before .before .before .before .before .before .before .before .before .before .next-link .ensures) m (c .before .before .before .before .before .before .entry .ensures) (c .before .before .before .before .before .entry2 .ensures)
-          (omega (arith, n .2)) (omega (arith, n .3)) (c .before .before .before .before .push .ensures .0) (c .before .before .before .before .push .ensures .1)),
-      c .before .before .before .before .push .kept .0 ∙ n .2,
-      c .before .before .before .before .push .kept .1 .0 ∙ n .3,
-    )
+    let a = c .before .before .before .before .before .before .before .before .before .before .before .before .before .before .before .before .before .before .before .before .before .before .before .before .before .before .before .before .before .before .before .before .before .args in
+    let p = c .before .before .before .before .before .before .before .before .before .before .before .before .before .before .before .before .before .before .before .before .before .before .before .before .before .before .before .before .before .before .before .before .before .pre in
+    let o = c .before .before .before .before .before .before .before .before .before .before .before .before .before .before .before .before .before .before .before .before .before .before .before .before .before .order-links in
+    let t = c .before .before .before .before .before .before .before .before .before .before .before .before .before .before .before .before .before .before .before .before .before .turn-round in
+    let k = c .before .before .before .before .before .before .before .before .before .before .before .before .before .before .before .before .chain-links in
+    let m = c .before .before .before .before .before .before .before .before .before .chain-links2 in
+    let n = k .kept .1 .0 in
+    let q = m .kept .1 .0 in
+    let s = c .before .before .start .ensures in
+    let x : length (k .last .0) ≡ 256 = k .kept .0 in
+    let y : length (m .last .0) ≡ 256 = m .kept .0 in
+    let down = chains-down (a .links) (a .lows .now) (a .highs .now) (a .costs .now) (p .0) (λ i. c .before .before .before .before .before .before .before .before .before .before .before .before .before .before .before .before .before .before .before .before .before .before .before .before .before .before .before .shared-slice-known3 .given i .fits) (o .last .0) (o .ensures) (k .last .0) (k .last .1 .0) (k .ensures) (omega (arith, p .7)) in
+    let up = chains-up (a .links) (a .lows .now) (a .highs .now) (a .costs .now) (p .0) (λ i. c .before .before .before .before .before .before .before .before .before .before .before .before .before .before .before .before .before .before .before .before .before .before .before .before .before .before .before .shared-slice-known3 .given i .fits) (o .last .0) (o .ensures) (replicate 2048 0) (t .last .0) (p .0) (t .ensures) (m .last .0) (m .last .1 .0) (m .ensures) (omega (arith, p .8)) in
+    (record { standing = λ v l. s .none v .0; held = λ v l. s .none v .1; cursors = λ v l. rw (s .starts v l .0) (down .0 v (omega arith)); floors = λ v l. rw (s .starts v l .1) (up .0 v (omega arith)) }, down .1, up .1)
 
 pub link-up-spec : {M : Type 1} → statement M
 link-up-spec =
     tie.close
     (tie.spec
-    Inv-loop
-    μ-loop
-    loop-holds
-    next-link-requires
+    slice-aggregate-order-links
+    order-links-requires
+    slice-aggregate-turn-round
+    slice-aggregate-turn-round-2
+    turn-round-requires
+    slice-aggregate-chain-links
+    slice-aggregate-chain-links-2
+    chain-links-requires
+    slice-aggregate-chain-links-3
+    slice-aggregate-chain-links-4
+    chain-links-requires-2
+    slice-aggregate-start
+    slice-aggregate-start-2
+    start-requires
     same-length
     same-length-2
-    returns
-    mul-key-of
-    key-of-requires
-    add-floor
-    entry-requires
-    entry-requires-2
-    push-requires
-    loop-less
-    loop-again)
+    same-length-3
+    returns)

@@ -2,44 +2,64 @@
 use borrow.Author.Needs.{needs}
 use Rattle.suitor.proofs.core.next_offer.Statement.{statement}
 use Rattle.suitor.proofs.core.next_offer.Tie as tie
-use Prim.Native.Nat.{ℕ}
-use mathlib.Core.Path.{sym, _∙_, ap}
-use mathlib.Core.Bool.{cond}
+use Prim.Native.Nat.{_*_, _≤_}
+use mathlib.Core.Path.{_≡_, refl, sym, _∙_, ap}
 use native.Mathlib.Omega.{arith}
-use lib.Dec.{eqb}
+use borrow.Author.Tests.{ltb-true, ltb-false}
 use Rattle.table.specs.Table.{item}
-use Rattle.suitor.specs.Record.{siteOf, outbound, inbound}
-use Rattle.suitor.specs.Chain.{opposite}
+use Rattle.suitor.specs.Offers.{Floor, Walk, holds}
+use Rattle.suitor.specs.Record.{endOf, keyOf, siteOf, outbound, inbound, mark}
+use Rattle.suitor.specs.Chain.{opposite, turnedKey}
 use Rattle.suitor.proofs.Record.{target-below}
-use Rattle.suitor.proofs.Searches.{bit-one}
-use Rattle.suitor.proofs.Chain.{Walk, Counted, height, opposite-below, falls, walk-start, walk-next, walk-found, walk-end, target-wide, counted-start, counted-next, counted-shut, counted-free}
+use Rattle.suitor.proofs.Chain.{height, falls, opposite-below, walk-next, walk-found, walk-end, taken-free, floor-wanted, floor-shut, floor-next}
 
 abbrev Inv-loop : tie.InvT-loop
-Inv-loop rec links lows highs costs spares heads nexts u dirs e d v spare back n₀ f₀ n f = Counted links lows highs costs (outbound rec) d f n
+Inv-loop rec marks links lows highs costs spares nexts ups u dirs found₀ e d v f₀ found f = (found ≡ 2 * links) × Floor (siteOf links lows highs costs spares) (outbound rec) v f
 
 abbrev μ-loop : tie.MeasureT-loop
-μ-loop rec links lows highs costs spares heads nexts u dirs e d v spare back n₀ f₀ n f = height links costs f
+μ-loop rec marks links lows highs costs spares nexts ups u dirs found₀ e d v f₀ found f = height (2 * links) (turnedKey costs) f
 
 abbrev Inv-search : tie.InvT-search
-Inv-search rec links lows highs costs spares heads nexts u dirs e₀ e = Walk (siteOf links lows highs costs spares) (outbound rec) u e
+Inv-search rec marks links lows highs costs spares nexts ups u dirs found₀ e₀ found e = (found ≡ 2 * links) × Walk (siteOf links lows highs costs spares) (outbound rec) u e
 
 abbrev μ-search : tie.MeasureT-search
-μ-search rec links lows highs costs spares heads nexts u dirs e₀ e = height links costs e
+μ-search rec marks links lows highs costs spares nexts ups u dirs found₀ e₀ found e = height (2 * links) (keyOf costs) e
 
 mul-dirs : tie.Need-mul-dirs Inv-loop μ-loop Inv-search μ-search
 mul-dirs c = search needs
 
-entry-requires : tie.Need-entry-requires Inv-loop μ-loop Inv-search μ-search
-entry-requires c κs = search needs
-
-search-holds : tie.Need-search-holds Inv-loop μ-loop Inv-search μ-search
-search-holds c =
+mul-entry : tie.Need-mul-entry Inv-loop μ-loop Inv-search μ-search
+mul-entry c =
     let a = c .before .before .before .before .before .before .before .before .args in
     let p = c .before .before .before .before .before .before .before .before .pre in
-    walk-start (a .links) (a .lows .now) (a .highs .now) (a .costs .now) (a .spares .now) (a .heads .now) (a .nexts .now) (p .0) (p .2) (outbound (a .rec .now)) (a .u) (c .entry .result) (p .3) (c .entry .ensures)
+    let k = p .1 .room in
+    let w = p .0 .fits .within in
+    let l = p .4 in
+    omega arith
+
+add-entry : tie.Need-add-entry Inv-loop μ-loop Inv-search μ-search
+add-entry c =
+    let a = c .before .before .before .before .before .before .before .before .args in
+    let p = c .before .before .before .before .before .before .before .before .pre in
+    let k = p .1 .room in
+    let w = p .0 .fits .within in
+    let l = p .4 in
+    omega arith
+
+entry-requires : tie.Need-entry-requires Inv-loop μ-loop Inv-search μ-search
+entry-requires c κs =
+    let a = c .before .before .before .before .before .before .before .before .args in
+    let p = c .before .before .before .before .before .before .before .before .pre in
+    let k = p .1 .room in
+    let w = p .0 .fits .within in
+    let l = p .4 in
+    omega arith
+
+search-holds : tie.Need-search-holds Inv-loop μ-loop Inv-search μ-search
+search-holds c = (refl, rw (c .entry .ensures) (c .before .before .before .before .before .before .before .before .before .pre .1 .cursors (c .before .before .before .before .before .before .before .before .before .args .u) (c .before .before .before .before .before .before .before .before .before .pre .4)))
 
 entry-requires-2 : tie.Need-entry-requires-2 Inv-loop μ-loop Inv-search μ-search
-entry-requires-2 c κs = let l = c .before .before .before .before .before .before .before .before .before .before .pre .2 .long in omega arith
+entry-requires-2 c κs = search needs
 
 mul-if1 : tie.Need-mul-if1 Inv-loop μ-loop Inv-search μ-search
 mul-if1 c = search needs
@@ -49,120 +69,204 @@ shared-slice-read-if1 c = search needs
 
 search-less : tie.Need-search-less Inv-loop μ-loop Inv-search μ-search
 search-less c =
-    let a = c .before .before .before .before .before .before .before .before .before .before .before .before .before .args in
-    let p = c .before .before .before .before .before .before .before .before .before .before .before .before .before .pre in
-    falls (a .links) (a .lows .now) (a .highs .now) (a .costs .now) (a .spares .now) (a .heads .now) (a .nexts .now) (p .0) (p .2) (c .before .before .before .before .search .e) (c .before .before .entry2 .result) (c .before .before .before .search-test .taken) (c .before .before .entry2 .ensures)
+    let a = c .before .before .before .before .before .before .before .before .before .before .before .before .before .before .args in
+    let p = c .before .before .before .before .before .before .before .before .before .before .before .before .before .before .pre in
+    falls (2 * a .links) (endOf (a .lows .now) (a .highs .now)) (keyOf (a .costs .now)) (a .nexts .now) (p .2) (c .before .before .before .before .search .e) (c .before .before .entry2 .result) (c .before .before .before .search-test .taken) (c .before .before .entry2 .ensures)
 
 search-again : tie.Need-search-again Inv-loop μ-loop Inv-search μ-search
 search-again c =
-    let a = c .before .before .before .before .before .before .before .before .before .before .before .before .before .args in
-    let p = c .before .before .before .before .before .before .before .before .before .before .before .before .before .pre in
-    walk-next (a .links) (a .lows .now) (a .highs .now) (a .costs .now) (a .spares .now) (a .heads .now) (a .nexts .now) (p .0) (p .2) (outbound (a .rec .now)) (a .u) (c .before .before .before .before .search .e) (c .before .before .entry2 .result) (c .before .before .before .search-test .taken) (c .before .before .before .before .search .inv) (λ z. absurd (c .if1 .taken z)) (c .before .before .entry2 .ensures)
+    let a = c .before .before .before .before .before .before .before .before .before .before .before .before .before .before .args in
+    let p = c .before .before .before .before .before .before .before .before .before .before .before .before .before .before .pre in
+    (c .before .before .before .before .search .inv .0, walk-next (a .links) (a .lows .now) (a .highs .now) (a .costs .now) (a .spares .now) (p .0 .fits) (outbound (a .rec .now)) (a .u) (a .nexts .now) (p .2) (c .before .before .before .before .search .e) (c .before .before .entry2 .result) (c .before .before .before .search-test .taken) (c .before .before .before .before .search .inv .1) (λ z. absurd (c .if1 .taken z)) (c .before .before .entry2 .ensures))
 
 end-of-requires : tie.Need-end-of-requires Inv-loop μ-loop Inv-search μ-search
 end-of-requires c κs = search needs
 
+mul-entry-2 : tie.Need-mul-entry-2 Inv-loop μ-loop Inv-search μ-search
+mul-entry-2 c =
+    let a = c .before .before .before .before .before .before .before .before .before .before .before .before .before .before .before .args in
+    let p = c .before .before .before .before .before .before .before .before .before .before .before .before .before .before .before .pre in
+    let v = c .end-of in
+    let lv = rw (← v .ensures) at (target-below (a .links) (a .lows .now) (a .highs .now) (a .costs .now) (a .spares .now) (p .0 .fits) (c .before .before .before .before .before .search .e) (c .before .before .before .before .search-test .taken)) in
+    let k = p .1 .room in
+    let w = p .0 .fits .within in
+    omega arith
+
+add-entry-2 : tie.Need-add-entry-2 Inv-loop μ-loop Inv-search μ-search
+add-entry-2 c =
+    let a = c .before .before .before .before .before .before .before .before .before .before .before .before .before .before .before .args in
+    let p = c .before .before .before .before .before .before .before .before .before .before .before .before .before .before .before .pre in
+    let v = c .end-of in
+    let lv = rw (← v .ensures) at (target-below (a .links) (a .lows .now) (a .highs .now) (a .costs .now) (a .spares .now) (p .0 .fits) (c .before .before .before .before .before .search .e) (c .before .before .before .before .search-test .taken)) in
+    let k = p .1 .room in
+    let w = p .0 .fits .within in
+    omega arith
+
 entry-requires-3 : tie.Need-entry-requires-3 Inv-loop μ-loop Inv-search μ-search
 entry-requires-3 c κs =
-    let a = c .before .before .before .before .before .before .before .before .before .before .before .before .before .before .args in
-    rw (c .end-of .ensures) (target-below (a .links) (a .lows .now) (a .highs .now) (a .costs .now) (a .spares .now) (c .before .before .before .before .before .before .before .before .before .before .before .before .before .before .pre .0) (c .before .before .before .before .before .search .e) (c .before .before .before .before .search-test .taken))
-
-opposite-requires : tie.Need-opposite-requires Inv-loop μ-loop Inv-search μ-search
-opposite-requires c κs = search needs
+    let a = c .before .before .before .before .before .before .before .before .before .before .before .before .before .before .before .args in
+    let p = c .before .before .before .before .before .before .before .before .before .before .before .before .before .before .before .pre in
+    let v = c .end-of in
+    let lv = rw (← v .ensures) at (target-below (a .links) (a .lows .now) (a .highs .now) (a .costs .now) (a .spares .now) (p .0 .fits) (c .before .before .before .before .before .search .e) (c .before .before .before .before .search-test .taken)) in
+    let k = p .1 .room in
+    let w = p .0 .fits .within in
+    omega arith
 
 entry-requires-4 : tie.Need-entry-requires-4 Inv-loop μ-loop Inv-search μ-search
 entry-requires-4 c κs =
     let a = c .before .before .before .before .before .before .before .before .before .before .before .before .before .before .before .before .args in
     let p = c .before .before .before .before .before .before .before .before .before .before .before .before .before .before .before .before .pre in
-    rw (c .before .before .end-of .ensures) (target-wide (a .links) (a .lows .now) (a .highs .now) (a .costs .now) (a .spares .now) (a .heads .now) (a .nexts .now) (p .0) (p .2) (c .before .before .before .before .before .before .before .search .e) (c .before .before .before .before .before .before .search-test .taken))
-
-loop-holds : tie.Need-loop-holds Inv-loop μ-loop Inv-search μ-search
-loop-holds c =
-    let a = c .before .before .before .before .before .before .before .before .before .before .before .before .before .before .before .before .before .args in
-    let p = c .before .before .before .before .before .before .before .before .before .before .before .before .before .before .before .before .before .pre in
-    counted-start (a .links) (a .lows .now) (a .highs .now) (a .costs .now) (a .spares .now) (a .heads .now) (a .nexts .now) (p .0) (p .2) (outbound (a .rec .now)) (c .before .before .before .before .before .before .before .before .search .e) (c .before .before .before .before .before .before .before .search-test .taken) (c .entry4 .result) (c .entry4 .ensures ∙ ap (item (a .heads .now)) (c .before .before .before .end-of .ensures)) (target-wide (a .links) (a .lows .now) (a .highs .now) (a .costs .now) (a .spares .now) (a .heads .now) (a .nexts .now) (p .0) (p .2) (c .before .before .before .before .before .before .before .before .search .e) (c .before .before .before .before .before .before .before .search-test .taken))
-
-search-less-2 : tie.Need-search-less-2 Inv-loop μ-loop Inv-search μ-search
-search-less-2 c =
-    let a = c .before .before .before .before .before .before .before .before .before .before .before .before .before .before .before .before .before .before .before .before .args in
-    let p = c .before .before .before .before .before .before .before .before .before .before .before .before .before .before .before .before .before .before .before .before .pre in
-    falls (a .links) (a .lows .now) (a .highs .now) (a .costs .now) (a .spares .now) (a .heads .now) (a .nexts .now) (p .0) (p .2) (c .before .before .before .before .before .before .before .before .before .before .before .search .e) (c .before .before .before .before .before .before .before .before .before .entry2 .result) (c .before .before .before .before .before .before .before .before .before .before .search-test .taken) (c .before .before .before .before .before .before .before .before .before .entry2 .ensures)
-
-search-again-2 : tie.Need-search-again-2 Inv-loop μ-loop Inv-search μ-search
-search-again-2 c =
-    let a = c .before .before .before .before .before .before .before .before .before .before .before .before .before .before .before .before .before .before .before .before .args in
-    let p = c .before .before .before .before .before .before .before .before .before .before .before .before .before .before .before .before .before .before .before .before .pre in
-    let s = c .before .before .before .before .before .entry3 .ensures ∙ ap (item (a .spares .now)) (c .before .before .before .before .before .before .end-of .ensures) in
-    walk-next (a .links) (a .lows .now) (a .highs .now) (a .costs .now) (a .spares .now) (a .heads .now) (a .nexts .now) (p .0) (p .2) (outbound (a .rec .now)) (a .u) (c .before .before .before .before .before .before .before .before .before .before .before .search .e) (c .before .before .before .before .before .before .before .before .before .entry2 .result) (c .before .before .before .before .before .before .before .before .before .before .search-test .taken) (c .before .before .before .before .before .before .before .before .before .before .before .search .inv)
-    (λ z. counted-shut (a .links) (a .lows .now) (a .highs .now) (a .costs .now) (a .spares .now) (a .heads .now) (a .nexts .now) (p .0) (p .2) (outbound (a .rec .now)) (c .before .before .before .before .before .before .before .before .before .before .before .search .e) (c .before .before .before .before .before .before .before .before .before .before .search-test .taken) (c .before .before .loop .f) (c .before .before .loop .n) (c .before .before .loop .inv) (omega (arith, s, c .if2 .taken))) (c .before .before .before .before .before .before .before .before .before .entry2 .ensures)
-
-opposite-requires-2 : tie.Need-opposite-requires-2 Inv-loop μ-loop Inv-search μ-search
-opposite-requires-2 c κs =
-    let l = c .before .before .loop .inv .below in
-    let k = c .before .before .before .before .before .before .before .before .before .before .before .before .before .before .before .before .before .before .before .before .pre .0 .few in
+    let v = c .before .end-of in
+    let lv = rw (← v .ensures) at (target-below (a .links) (a .lows .now) (a .highs .now) (a .costs .now) (a .spares .now) (p .0 .fits) (c .before .before .before .before .before .before .search .e) (c .before .before .before .before .before .search-test .taken)) in
     omega arith
 
-held-one-requires : tie.Need-held-one-requires Inv-loop μ-loop Inv-search μ-search
-held-one-requires c κs =
-    let b = opposite-below (c .before .before .before .before .before .before .before .before .before .before .before .before .before .before .before .before .before .before .before .before .before .args .links) (c .before .before .before .loop .f) (c .before .before .before .loop .inv .below) in
-    let e = c .opposite2 .ensures in
-    let r = c .before .before .before .before .before .before .before .before .before .before .before .before .before .before .before .before .before .before .before .before .before .pre .1 .room in
+mul-entry-3 : tie.Need-mul-entry-3 Inv-loop μ-loop Inv-search μ-search
+mul-entry-3 c =
+    let a = c .before .before .before .before .before .before .before .before .before .before .before .before .before .before .before .before .before .before .args in
+    let p = c .before .before .before .before .before .before .before .before .before .before .before .before .before .before .before .before .before .before .pre in
+    let v = c .before .before .before .end-of in
+    let lv = rw (← v .ensures) at (target-below (a .links) (a .lows .now) (a .highs .now) (a .costs .now) (a .spares .now) (p .0 .fits) (c .before .before .before .before .before .before .before .before .search .e) (c .before .before .before .before .before .before .before .search-test .taken)) in
+    let k = p .1 .room in
+    let w = p .0 .fits .within in
     omega arith
 
-add-n : tie.Need-add-n Inv-loop μ-loop Inv-search μ-search
-add-n c =
-    let e = c .held-one .ensures in
-    let b = bit-one (eqb (inbound (c .before .before .before .before .before .before .before .before .before .before .before .before .before .before .before .before .before .before .before .before .before .before .args .rec .now) (c .before .opposite2 .result)) 1) in
-    let k = c .before .before .before .before .loop .inv .few in
+add-entry-3 : tie.Need-add-entry-3 Inv-loop μ-loop Inv-search μ-search
+add-entry-3 c =
+    let a = c .before .before .before .before .before .before .before .before .before .before .before .before .before .before .before .before .before .before .args in
+    let p = c .before .before .before .before .before .before .before .before .before .before .before .before .before .before .before .before .before .before .pre in
+    let v = c .before .before .before .end-of in
+    let lv = rw (← v .ensures) at (target-below (a .links) (a .lows .now) (a .highs .now) (a .costs .now) (a .spares .now) (p .0 .fits) (c .before .before .before .before .before .before .before .before .search .e) (c .before .before .before .before .before .before .before .search-test .taken)) in
+    let k = p .1 .room in
+    let w = p .0 .fits .within in
     omega arith
 
 entry-requires-5 : tie.Need-entry-requires-5 Inv-loop μ-loop Inv-search μ-search
 entry-requires-5 c κs =
-    let l = c .before .before .before .before .loop .inv .below in
-    let k = c .before .before .before .before .before .before .before .before .before .before .before .before .before .before .before .before .before .before .before .before .before .before .pre .2 .long in
+    let a = c .before .before .before .before .before .before .before .before .before .before .before .before .before .before .before .before .before .before .args in
+    let p = c .before .before .before .before .before .before .before .before .before .before .before .before .before .before .before .before .before .before .pre in
+    let v = c .before .before .before .end-of in
+    let lv = rw (← v .ensures) at (target-below (a .links) (a .lows .now) (a .highs .now) (a .costs .now) (a .spares .now) (p .0 .fits) (c .before .before .before .before .before .before .before .before .search .e) (c .before .before .before .before .before .before .before .search-test .taken)) in
+    let k = p .1 .room in
+    let w = p .0 .fits .within in
+    omega arith
+
+loop-holds : tie.Need-loop-holds Inv-loop μ-loop Inv-search μ-search
+loop-holds c =
+    let a = c .before .before .before .before .before .before .before .before .before .before .before .before .before .before .before .before .before .before .before .args in
+    let p = c .before .before .before .before .before .before .before .before .before .before .before .before .before .before .before .before .before .before .before .pre in
+    let v = c .before .before .before .before .end-of in
+    let lv = rw (← v .ensures) at (target-below (a .links) (a .lows .now) (a .highs .now) (a .costs .now) (a .spares .now) (p .0 .fits) (c .before .before .before .before .before .before .before .before .before .search .e) (c .before .before .before .before .before .before .before .before .search-test .taken)) in
+    (c .before .before .before .before .before .before .before .before .before .search .inv .0, rw (c .entry5 .ensures) (p .1 .floors (v .result) lv (c .before .before .before .before .before .before .before .before .before .search .e) (c .before .before .before .before .before .before .before .before .search-test .taken) (sym (v .ensures))))
+
+cheaper-requires : tie.Need-cheaper-requires Inv-loop μ-loop Inv-search μ-search
+cheaper-requires c κs =
+    let a = c .before .before .before .before .before .before .before .before .before .before .before .before .before .before .before .before .before .before .before .before .args in
+    let p = c .before .before .before .before .before .before .before .before .before .before .before .before .before .before .before .before .before .before .before .before .pre in
+    let l = c .loop .inv .1 .below in
+    let m = c .before .before .before .before .before .before .before .before .before .search-test .taken in
+    let k = p .0 .fits .few in
+    let n = p .0 .fits .in-costs in
+    (omega arith, omega arith, omega arith, omega arith)
+
+search-less-2 : tie.Need-search-less-2 Inv-loop μ-loop Inv-search μ-search
+search-less-2 c =
+    let a = c .before .before .before .before .before .before .before .before .before .before .before .before .before .before .before .before .before .before .before .before .before .before .args in
+    let p = c .before .before .before .before .before .before .before .before .before .before .before .before .before .before .before .before .before .before .before .before .before .before .pre in
+    falls (2 * a .links) (endOf (a .lows .now) (a .highs .now)) (keyOf (a .costs .now)) (a .nexts .now) (p .2) (c .before .before .before .before .before .before .before .before .before .before .before .before .search .e) (c .before .before .before .before .before .before .before .before .before .before .entry2 .result) (c .before .before .before .before .before .before .before .before .before .before .before .search-test .taken) (c .before .before .before .before .before .before .before .before .before .before .entry2 .ensures)
+
+search-again-2 : tie.Need-search-again-2 Inv-loop μ-loop Inv-search μ-search
+search-again-2 c =
+    let a = c .before .before .before .before .before .before .before .before .before .before .before .before .before .before .before .before .before .before .before .before .before .before .args in
+    let p = c .before .before .before .before .before .before .before .before .before .before .before .before .before .before .before .before .before .before .before .before .before .before .pre in
+    let v = c .before .before .before .before .before .before .before .end-of in
+    let lv = rw (← v .ensures) at (target-below (a .links) (a .lows .now) (a .highs .now) (a .costs .now) (a .spares .now) (p .0 .fits) (c .before .before .before .before .before .before .before .before .before .before .before .before .search .e) (c .before .before .before .before .before .before .before .before .before .before .before .search-test .taken)) in
+    let n = p .1 .held (v .result) lv in
+    let h = c .before .before .before .before .before .before .entry3 .ensures in
+    let s = c .before .before .before .before .before .entry4 .ensures in
+    let full : item (a .spares .now) (v .result) ≤ holds (siteOf (a .links) (a .lows .now) (a .highs .now) (a .costs .now) (a .spares .now)) (outbound (a .rec .now)) (v .result) = omega (arith, c .before .before .before .before .if2 .left) in (
+      c .before .before .loop .inv .0,
+      walk-next (a .links) (a .lows .now) (a .highs .now) (a .costs .now) (a .spares .now) (p .0 .fits) (outbound (a .rec .now)) (a .u) (a .nexts .now) (p .2) (c .before .before .before .before .before .before .before .before .before .before .before .before .search .e) (c .before .before .before .before .before .before .before .before .before .before .entry2 .result) (c .before .before .before .before .before .before .before .before .before .before .before .search-test .taken) (c .before .before .before .before .before .before .before .before .before .before .before .before .search .inv .1)
+          (λ z. floor-shut (a .links) (a .lows .now) (a .highs .now) (a .costs .now) (a .spares .now) (p .0 .fits) (outbound (a .rec .now)) (p .0 .inv) (v .result) (c .before .before .loop .f) (c .before .before .loop .inv .1) full (c .before .before .before .before .before .before .before .before .before .before .before .before .search .e) (c .before .before .before .before .before .before .before .before .before .before .before .search-test .taken) (sym (v .ensures)) (λ y. omega arith) (ltb-false (keyOf (a .costs .now) (c .before .before .loop .f)) (keyOf (a .costs .now) (c .before .before .before .before .before .before .before .before .before .before .before .before .search .e)) (sym (c .before .cheaper .ensures) ∙ c .if3 .left))) (c .before .before .before .before .before .before .before .before .before .before .entry2 .ensures),
+    )
+
+opposite-requires : tie.Need-opposite-requires Inv-loop μ-loop Inv-search μ-search
+opposite-requires c κs =
+    let f = c .before .before .loop .inv .1 .below in
+    let k = c .before .before .before .before .before .before .before .before .before .before .before .before .before .before .before .before .before .before .before .before .before .before .pre .0 .fits .few in
+    omega arith
+
+mul-if4 : tie.Need-mul-if4 Inv-loop μ-loop Inv-search μ-search
+mul-if4 c =
+    let b = opposite-below (c .before .before .before .before .before .before .before .before .before .before .before .before .before .before .before .before .before .before .before .before .before .before .before .args .links) (c .before .before .before .loop .f) (c .before .before .before .loop .inv .1 .below) in
+    let e = c .opposite .ensures in
+    let k = c .before .before .before .before .before .before .before .before .before .before .before .before .before .before .before .before .before .before .before .before .before .before .before .pre .0 .fits .few in
+    omega arith
+
+add-if4 : tie.Need-add-if4 Inv-loop μ-loop Inv-search μ-search
+add-if4 c =
+    let b = opposite-below (c .before .before .before .before .before .before .before .before .before .before .before .before .before .before .before .before .before .before .before .before .before .before .before .args .links) (c .before .before .before .loop .f) (c .before .before .before .loop .inv .1 .below) in
+    let e = c .opposite .ensures in
+    let k = c .before .before .before .before .before .before .before .before .before .before .before .before .before .before .before .before .before .before .before .before .before .before .before .pre .0 .fits .few in
+    omega arith
+
+shared-slice-read-if4 : tie.Need-shared-slice-read-if4 Inv-loop μ-loop Inv-search μ-search
+shared-slice-read-if4 c =
+    let b = opposite-below (c .before .before .before .before .before .before .before .before .before .before .before .before .before .before .before .before .before .before .before .before .before .before .before .before .args .links) (c .before .before .before .before .loop .f) (c .before .before .before .before .loop .inv .1 .below) in
+    let e = c .before .opposite .ensures in
+    let k = c .before .before .before .before .before .before .before .before .before .before .before .before .before .before .before .before .before .before .before .before .before .before .before .before .pre .0 .paired .room in
+    omega arith
+
+entry-requires-6 : tie.Need-entry-requires-6 Inv-loop μ-loop Inv-search μ-search
+entry-requires-6 c κs =
+    let f = c .before .before .before .before .before .loop .inv .1 .below in
+    let k = c .before .before .before .before .before .before .before .before .before .before .before .before .before .before .before .before .before .before .before .before .before .before .before .before .before .pre .3 .long in
     omega arith
 
 loop-less : tie.Need-loop-less Inv-loop μ-loop Inv-search μ-search
 loop-less c =
-    let a = c .before .before .before .before .before .before .before .before .before .before .before .before .before .before .before .before .before .before .before .before .before .before .before .args in
-    let p = c .before .before .before .before .before .before .before .before .before .before .before .before .before .before .before .before .before .before .before .before .before .before .before .pre in
-    falls (a .links) (a .lows .now) (a .highs .now) (a .costs .now) (a .spares .now) (a .heads .now) (a .nexts .now) (p .0) (p .2) (c .before .before .before .before .before .loop .f) (c .entry5 .result) (c .before .before .before .before .before .loop .inv .below) (c .entry5 .ensures)
+    let a = c .before .before .before .before .before .before .before .before .before .before .before .before .before .before .before .before .before .before .before .before .before .before .before .before .before .before .args in
+    let p = c .before .before .before .before .before .before .before .before .before .before .before .before .before .before .before .before .before .before .before .before .before .before .before .before .before .before .pre in
+    falls (2 * a .links) (endOf (a .lows .now) (a .highs .now)) (turnedKey (a .costs .now)) (a .ups .now) (p .3) (c .before .before .before .before .before .before .loop .f) (c .entry6 .result) (c .before .before .before .before .before .before .loop .inv .1 .below) (c .entry6 .ensures)
 
 loop-again : tie.Need-loop-again Inv-loop μ-loop Inv-search μ-search
 loop-again c =
-    let a = c .before .before .before .before .before .before .before .before .before .before .before .before .before .before .before .before .before .before .before .before .before .before .before .args in
-    let p = c .before .before .before .before .before .before .before .before .before .before .before .before .before .before .before .before .before .before .before .before .before .before .before .pre in
-    counted-next (a .links) (a .lows .now) (a .highs .now) (a .costs .now) (a .spares .now) (a .heads .now) (a .nexts .now) (p .0) (p .2) (outbound (a .rec .now)) (c .before .before .before .before .before .before .before .before .before .before .before .before .before .before .search .e) (c .before .before .before .before .before .before .before .before .before .before .before .before .before .search-test .taken) (c .before .before .before .before .before .loop .f) (c .before .before .before .before .before .loop .n) (c .entry5 .result) (c .before .held-one .result) (c .before .before .before .before .before .loop .inv)
-    (λ z. c .before .before .before .before .loop-test .taken (z ∙ sym (c .before .before .before .before .before .before .before .opposite .ensures))) (c .entry5 .ensures)
-    (c .before .held-one .ensures ∙ ap {B = ℕ} (λ (x : ℕ). cond (eqb x 1) 1 0) (ap (inbound (a .rec .now)) (c .before .before .opposite2 .ensures) ∙ p .1 .twin (opposite (c .before .before .before .before .before .loop .f))))
-
-search-less-3 : tie.Need-search-less-3 Inv-loop μ-loop Inv-search μ-search
-search-less-3 c =
-    let a = c .before .before .before .before .before .before .before .before .before .before .before .before .before .before .before .before .before .before .before .before .args in
-    let p = c .before .before .before .before .before .before .before .before .before .before .before .before .before .before .before .before .before .before .before .before .pre in
-    falls (a .links) (a .lows .now) (a .highs .now) (a .costs .now) (a .spares .now) (a .heads .now) (a .nexts .now) (p .0) (p .2) (c .before .before .before .before .before .before .before .before .before .before .before .search .e) (c .before .before .before .before .before .before .before .before .before .entry2 .result) (c .before .before .before .before .before .before .before .before .before .before .search-test .taken) (c .before .before .before .before .before .before .before .before .before .entry2 .ensures)
-
-search-again-3 : tie.Need-search-again-3 Inv-loop μ-loop Inv-search μ-search
-search-again-3 c =
-    let a = c .before .before .before .before .before .before .before .before .before .before .before .before .before .before .before .before .before .before .before .before .args in
-    let p = c .before .before .before .before .before .before .before .before .before .before .before .before .before .before .before .before .before .before .before .before .pre in
-    let s = c .before .before .before .before .before .entry3 .ensures ∙ ap (item (a .spares .now)) (c .before .before .before .before .before .before .end-of .ensures) in
-    walk-next (a .links) (a .lows .now) (a .highs .now) (a .costs .now) (a .spares .now) (a .heads .now) (a .nexts .now) (p .0) (p .2) (outbound (a .rec .now)) (a .u) (c .before .before .before .before .before .before .before .before .before .before .before .search .e) (c .before .before .before .before .before .before .before .before .before .entry2 .result) (c .before .before .before .before .before .before .before .before .before .before .search-test .taken) (c .before .before .before .before .before .before .before .before .before .before .before .search .inv)
-    (λ z. counted-shut (a .links) (a .lows .now) (a .highs .now) (a .costs .now) (a .spares .now) (a .heads .now) (a .nexts .now) (p .0) (p .2) (outbound (a .rec .now)) (c .before .before .before .before .before .before .before .before .before .before .before .search .e) (c .before .before .before .before .before .before .before .before .before .before .search-test .taken) (c .before .before .loop .f) (c .before .before .loop .n) (c .before .before .loop .inv) (omega (arith, s, c .if3 .left))) (c .before .before .before .before .before .before .before .before .before .entry2 .ensures)
+    let a = c .before .before .before .before .before .before .before .before .before .before .before .before .before .before .before .before .before .before .before .before .before .before .before .before .before .before .args in
+    let p = c .before .before .before .before .before .before .before .before .before .before .before .before .before .before .before .before .before .before .before .before .before .before .before .before .before .before .pre in
+    let v = c .before .before .before .before .before .before .before .before .before .before .before .end-of in
+    let lv = rw (← v .ensures) at (target-below (a .links) (a .lows .now) (a .highs .now) (a .costs .now) (a .spares .now) (p .0 .fits) (c .before .before .before .before .before .before .before .before .before .before .before .before .before .before .before .before .search .e) (c .before .before .before .before .before .before .before .before .before .before .before .before .before .before .before .search-test .taken)) in
+    let n = p .1 .held (v .result) lv in
+    let h = c .before .before .before .before .before .before .before .before .before .before .entry3 .ensures in
+    let s = c .before .before .before .before .before .before .before .before .before .entry4 .ensures in
+    let full : item (a .spares .now) (v .result) ≤ holds (siteOf (a .links) (a .lows .now) (a .highs .now) (a .costs .now) (a .spares .now)) (outbound (a .rec .now)) (v .result) = omega (arith, c .before .before .before .before .before .before .before .before .if2 .left) in (
+      c .before .before .before .before .before .before .loop .inv .0,
+      floor-next (a .links) (a .lows .now) (a .highs .now) (a .costs .now) (a .spares .now) (p .0 .fits) (outbound (a .rec .now)) (p .0 .inv) (v .result) (c .before .before .before .before .before .before .loop .f) (c .before .before .before .before .before .before .loop .inv .1) full (a .ups .now) (p .3)
+          (λ z. c .before .if4 .left (ap (inbound (a .rec .now)) (c .before .before .before .opposite .ensures) ∙ p .0 .paired .twin (opposite (c .before .before .before .before .before .before .loop .f)) ∙ z)) (c .before .before .before .before .before .before .before .before .before .before .before .before .before .before .before .before .search .e) (c .before .before .before .before .before .before .before .before .before .before .before .before .before .before .before .search-test .taken) (sym (v .ensures)) (ltb-true (keyOf (a .costs .now) (c .before .before .before .before .before .before .loop .f)) (keyOf (a .costs .now) (c .before .before .before .before .before .before .before .before .before .before .before .before .before .before .before .before .search .e)) (sym (c .before .before .before .before .before .cheaper .ensures) ∙ c .before .before .before .before .if3 .taken)) (c .entry6 .result) (c .entry6 .ensures),
+    )
 
 returns : tie.Need-returns Inv-loop μ-loop Inv-search μ-search
 returns c =
-    let a = c .before .before .before .before .before .before .before .before .before .before .before .before .before .before .before .before .before .before .before .before .args in
-    let p = c .before .before .before .before .before .before .before .before .before .before .before .before .before .before .before .before .before .before .before .before .pre in
-    let s = c .before .before .before .before .before .entry3 .ensures ∙ ap (item (a .spares .now)) (c .before .before .before .before .before .before .end-of .ensures) in
-    walk-found (a .links) (a .lows .now) (a .highs .now) (a .costs .now) (a .spares .now) (a .heads .now) (a .nexts .now) (p .0) (p .2) (outbound (a .rec .now)) (a .u) (c .before .before .before .before .before .before .before .before .before .before .before .search .e) (c .before .before .before .before .before .before .before .before .before .before .search-test .taken) (c .before .before .before .before .before .before .before .before .before .before .before .search .inv) (c .before .before .before .before .before .before .before .if1 .left)
-    (counted-free (a .links) (a .lows .now) (a .highs .now) (a .costs .now) (a .spares .now) (a .heads .now) (a .nexts .now) (p .0) (p .2) (outbound (a .rec .now)) (c .before .before .before .before .before .before .before .before .before .before .before .search .e) (c .before .before .before .before .before .before .before .before .before .before .search-test .taken) (c .before .before .loop .f) (c .before .before .loop .n) (c .before .before .loop .inv) (c .before .loop-test .left ∙ c .before .before .before .before .opposite .ensures) (omega (arith, s, c .if3 .taken)))
+    let a = c .before .before .before .before .before .before .before .before .before .before .before .args in
+    let p = c .before .before .before .before .before .before .before .before .before .before .before .pre in
+    let e = c .before .search .inv .0 in
+    (rw e (walk-end (a .links) (a .lows .now) (a .highs .now) (a .costs .now) (a .spares .now) (p .0 .fits) (outbound (a .rec .now)) (a .u) (c .before .search .e) (c .search-test .left) (c .before .search .inv .1)), omega arith)
 
 returns-2 : tie.Need-returns-2 Inv-loop μ-loop Inv-search μ-search
 returns-2 c =
-    let a = c .before .before .before .before .before .before .before .before .before .before .args in
-    let p = c .before .before .before .before .before .before .before .before .before .before .pre in
-    walk-end (a .links) (a .lows .now) (a .highs .now) (a .costs .now) (a .spares .now) (a .heads .now) (a .nexts .now) (p .0) (p .2) (outbound (a .rec .now)) (a .u) (c .before .search .e) (c .search-test .left) (c .before .search .inv)
+    let a = c .before .before .before .before .before .before .before .before .before .before .before .before .before .before .before .before .before .before .args in
+    let p = c .before .before .before .before .before .before .before .before .before .before .before .before .before .before .before .before .before .before .pre in
+    let v = c .before .before .before .end-of in
+    let lv = rw (← v .ensures) at (target-below (a .links) (a .lows .now) (a .highs .now) (a .costs .now) (a .spares .now) (p .0 .fits) (c .before .before .before .before .before .before .before .before .search .e) (c .before .before .before .before .before .before .before .search-test .taken)) in
+    let n = p .1 .held (v .result) lv in
+    let h = c .before .before .entry3 .ensures in
+    let s = c .before .entry4 .ensures in
+    (walk-found (a .links) (a .lows .now) (a .highs .now) (a .costs .now) (a .spares .now) (p .0 .fits) (outbound (a .rec .now)) (a .u) (c .before .before .before .before .before .before .before .before .search .e) (c .before .before .before .before .before .before .before .search-test .taken) (c .before .before .before .before .before .before .before .before .search .inv .1) (c .before .before .before .before .if1 .left) (taken-free (a .links) (a .lows .now) (a .highs .now) (a .costs .now) (a .spares .now) (p .0 .fits) (outbound (a .rec .now)) (p .0 .inv) (v .result) (c .before .before .before .before .before .before .before .before .search .e) (mark (a .marks .now) (v .result) 1) (sym (v .ensures)) n (omega (arith, c .if2 .taken))), omega arith)
+
+returns-3 : tie.Need-returns-3 Inv-loop μ-loop Inv-search μ-search
+returns-3 c =
+    let a = c .before .before .before .before .before .before .before .before .before .before .before .before .before .before .before .before .before .before .before .before .before .before .before .before .before .args in
+    let p = c .before .before .before .before .before .before .before .before .before .before .before .before .before .before .before .before .before .before .before .before .before .before .before .before .before .pre in
+    let v = c .before .before .before .before .before .before .before .before .before .before .end-of in
+    (walk-found (a .links) (a .lows .now) (a .highs .now) (a .costs .now) (a .spares .now) (p .0 .fits) (outbound (a .rec .now)) (a .u) (c .before .before .before .before .before .before .before .before .before .before .before .before .before .before .before .search .e) (c .before .before .before .before .before .before .before .before .before .before .before .before .before .before .search-test .taken) (c .before .before .before .before .before .before .before .before .before .before .before .before .before .before .before .search .inv .1) (c .before .before .before .before .before .before .before .before .before .before .before .if1 .left) (floor-wanted (a .links) (a .lows .now) (a .highs .now) (a .costs .now) (a .spares .now) (p .0 .fits) (outbound (a .rec .now)) (p .0 .inv) (v .result) (c .before .before .before .before .before .loop .f) (c .before .before .before .before .before .loop .inv .1) (c .before .before .before .before .before .before .before .before .before .before .before .before .before .before .before .search .e) (sym (v .ensures)) (ltb-true (keyOf (a .costs .now) (c .before .before .before .before .before .loop .f)) (keyOf (a .costs .now) (c .before .before .before .before .before .before .before .before .before .before .before .before .before .before .before .search .e)) (sym (c .before .before .before .before .cheaper .ensures) ∙ c .before .before .before .if3 .taken)) (sym (ap (inbound (a .rec .now)) (c .before .before .opposite .ensures) ∙ p .0 .paired .twin (opposite (c .before .before .before .before .before .loop .f))) ∙ c .if4 .taken)), omega arith)
 
 pub next-offer-spec : {M : Type 1} → statement M
 next-offer-spec =
@@ -173,6 +277,8 @@ next-offer-spec =
     Inv-search
     μ-search
     mul-dirs
+    mul-entry
+    add-entry
     entry-requires
     search-holds
     entry-requires-2
@@ -181,19 +287,24 @@ next-offer-spec =
     search-less
     search-again
     end-of-requires
+    mul-entry-2
+    add-entry-2
     entry-requires-3
-    opposite-requires
     entry-requires-4
+    mul-entry-3
+    add-entry-3
+    entry-requires-5
     loop-holds
+    cheaper-requires
     search-less-2
     search-again-2
-    opposite-requires-2
-    held-one-requires
-    add-n
-    entry-requires-5
+    opposite-requires
+    mul-if4
+    add-if4
+    shared-slice-read-if4
+    entry-requires-6
     loop-less
     loop-again
     returns
-    search-less-3
-    search-again-3
-    returns-2)
+    returns-2
+    returns-3)

@@ -2,7 +2,7 @@
 use borrow.Author.Needs.{needs}
 use Rattle.table.proofs.core.count_degrees.Statement.{statement}
 use Rattle.table.proofs.core.count_degrees.Tie as tie
-use Prim.Native.Nat.{ℕ, _-_, _≤_, _<_}
+use Prim.Native.Nat.{ℕ, _-_, _≤_}
 use mathlib.Core.Path.{_≡_, refl, _∙_, ap}
 use native.Mathlib.Omega.{arith}
 use lib.ListN.{length, getD, length-set}
@@ -15,14 +15,14 @@ use Rattle.table.proofs.Degrees.{touched, counted-next}
 use mathlib.Core.List.{[]}
 
 abbrev Inv-loop : tie.InvT-loop
-Inv-loop counts₀ probes links lows highs i₀ counts i = (i ≤ links) × ((v : ℕ) → v < length counts₀ → getD counts v 0 ≡ touched (item lows) (item highs) i v) × (length counts ≡ length counts₀)
+Inv-loop counts₀ probes links lows highs i₀ counts i = (i ≤ links) × ((v : ℕ) → getD counts v 0 ≡ touched (item lows) (item highs) i v) × (length counts ≡ length counts₀)
 
 abbrev μ-loop : tie.MeasureT-loop
 μ-loop counts₀ probes links lows highs i₀ counts i = links - i
 
 loop-holds : tie.Need-loop-holds Inv-loop μ-loop
 unfolding sum
-loop-holds c = (search needs, λ v l. c .before .before .before .pre .5 v, refl)
+loop-holds c = (search needs, c .before .before .before .pre .5, refl)
 
 mul-wide : tie.Need-mul-wide Inv-loop μ-loop
 mul-wide c = search needs
@@ -49,7 +49,7 @@ add-one-requires c κs =
     let g = links-ends (a .probes) (a .links) (item (a .lows .now)) (item (a .highs .now)) (c .before .before .before .before .before .before .before .before .before .before .pre .4) (l .loop .i) (c .before .before .before .before .before .loop-test .taken) in
     let e = c .before .before .before .wide .ensures in
     let n = count-le (l .loop .i) (touches (ofSlices 0 0 0 [] (a .lows .now) (a .highs .now) []) (c .before .before .before .wide .result)) in
-    let k = l .loop .inv .1 (c .before .before .before .wide .result) (omega arith) in
+    let k = l .loop .inv .1 (c .before .before .before .wide .result) in
     (omega arith, omega arith)
 
 add-one-requires-2 : tie.Need-add-one-requires-2 Inv-loop μ-loop
@@ -60,7 +60,7 @@ add-one-requires-2 c κs =
     let e = c .before .before .before .before .before .before .before .wide .ensures in
     let f = c .before .before .before .before .before .wide2 .ensures in
     let n = count-le (l .loop .i) (touches (ofSlices 0 0 0 [] (a .lows .now) (a .highs .now) []) (c .before .before .before .before .before .wide2 .result)) in
-    let k = l .loop .inv .1 (c .before .before .before .before .before .wide2 .result) (omega arith) in
+    let k = l .loop .inv .1 (c .before .before .before .before .before .wide2 .result) in
     let o = ap (λ x. getD x (c .before .before .before .before .before .wide2 .result) 0) (c .before .before .before .add-one .ensures) ∙ getD-set-other (l .loop .counts) (c .before .before .before .before .before .before .before .wide .result) (c .before .before .before .before .before .wide2 .result) _ 0 (λ z. omega arith) in
     let s = simp length-set at (ap length (c .before .before .before .add-one .ensures)) in
     (omega arith, omega arith)
@@ -80,7 +80,7 @@ loop-again c =
     let two = c .before .before .add-one2 .ensures in
     let s = simp length-set at (ap length one) in
     let t = simp length-set at (ap length two) in
-    (search needs, λ v k. counted-next (item (a .lows .now)) (item (a .highs .now)) (l .loop .i) _ _ (l .loop .counts) _ _ (c .before .before .before .before .before .before .before .before .before .before .wide .ensures) (c .before .before .before .before .before .before .before .before .wide2 .ensures) (omega arith) (omega arith) (g .rises) one two v (l .loop .inv .1 v k), omega arith)
+    (search needs, λ v. counted-next (item (a .lows .now)) (item (a .highs .now)) (l .loop .i) _ _ (l .loop .counts) _ _ (c .before .before .before .before .before .before .before .before .before .before .wide .ensures) (c .before .before .before .before .before .before .before .before .wide2 .ensures) (omega arith) (omega arith) (g .rises) one two v (l .loop .inv .1 v), omega arith)
 
 same-length : tie.Need-same-length Inv-loop μ-loop
 same-length c = c .before .loop .inv .2
@@ -88,7 +88,7 @@ same-length c = c .before .loop .inv .2
 returns : tie.Need-returns Inv-loop μ-loop
 returns c =
     let e : c .before .loop .i ≡ c .before .before .before .before .before .args .links = omega arith in
-    λ v l. rw (← e) (c .before .loop .inv .1 v (omega arith))
+    λ v. rw (← e) (c .before .loop .inv .1 v)
 
 pub count-degrees-spec : {M : Type 1} → statement M
 count-degrees-spec =

@@ -27,7 +27,7 @@ returns c =
     let a = c .before .before .before .before .before .before .before .before .args in
     let t = ofSlices 0 (a .probes) (a .links) (a .needs .now) (a .lows .now) (a .highs .now) [] in
     let d = c .before .before .before .count-degrees in
-    c .counted-fault .ensures ∙ first-same _ (needFault t) (a .probes) (λ v l. ap (λ (k : ℕ). aboveFault k (item (a .needs .now) v)) (d .ensures v l))
+    c .counted-fault .ensures ∙ first-same _ (needFault t) (a .probes) (λ v l. ap (λ (k : ℕ). aboveFault k (item (a .needs .now) v)) (d .ensures v))
 
 pub needs-fault-spec : {M : Type 1} → statement M
 needs-fault-spec =

@@ -1,0 +1,138 @@
+-- A line that is refused, and one that is accepted, by a fleet whose table and record are fine.
+use Prim.Native.Nat.{ℕ, _≤_, _<_}
+use mathlib.Core.Path.{_≡_, refl, sym, _∙_, ap}
+use mathlib.Core.Bool.{Bool, true, false, cond}
+use mathlib.Core.List.{List, []}
+use lib.Dec.{ltb, eqb}
+use lib.ListN.{length}
+use borrow.Author.Tests.{lt-ltb, le-ltb, ne-eqb}
+use native.Mathlib.Omega.{arith}
+use Rattle.range.specs.First.{orElse}
+use Rattle.range.proofs.Faults.{or-here, or-none, or-through}
+use Rattle.table.specs.Table.{Table, ofSlices}
+use Rattle.table.specs.Legal.{sliceFault}
+use Rattle.frame.specs.Frame.{Frame, frameOf}
+use Rattle.entry.specs.declared.Entry.{Entry}
+use Rattle.entry.specs.declared.Answer.{Answer}
+use Rattle.entry.specs.declared.Answer.the-variants.{Logged, Refused}
+use Rattle.entry.specs.Entry.{answerOf}
+use Rattle.rules.specs.declared.Event.{Event}
+use Rattle.rules.specs.declared.Outcome.{Outcome}
+use Rattle.rules.specs.Rules.{befalls, entryOf}
+use Rattle.rules.proofs.Outcomes.{entry-same, befalls-same}
+use Rattle.fleet_theory.specs.Fleet.{Slices, tableOf, slicesFault, own, fleetFault, lineFault, eventOf, unsentFault, eventFault, outcomeOf, alterFleet, alteredBy, State, faultOf, answerTo, accepted, next}
+use Rattle.fleet.specs.declared.Finishing.the-variants as finishing
+use Rattle.fleet.specs.Answers.{slicesOf, Handled, finishingOf}
+use Rattle.fleet.proofs.Own.{own-same, fleet-same}
+
+refused-answer : (fault n : ℕ) (entry : Entry) → n ≡ fault → (n ≡ 0 → ⊥) → Refused n ≡ answerOf fault entry
+refused-answer fault n entry e some = rw (← e, ne-eqb n 0 some)
+
+stays : (fault n : ℕ) (r r′ : List ℕ) → n ≡ fault → (n ≡ 0 → ⊥) → r ≡ cond (eqb fault 0) r′ r
+stays fault n r r′ e some = rw (← e, ne-eqb n 0 some)
+
+logged-answer : (fault : ℕ) (e e′ : Entry) → fault ≡ 0 → e ≡ e′ → Logged e ≡ answerOf fault e′
+logged-answer fault e e′ none is = rw (none, is)
+
+altered : (fault : ℕ) (r r′ r″ : List ℕ) → fault ≡ 0 → r″ ≡ r′ → r″ ≡ cond (eqb fault 0) r′ r
+altered fault r r′ r″ none is = rw none is
+
+pub finishing-refused : (fault n : ℕ) (b : Bool) → n ≡ fault → (n ≡ 0 → ⊥) → finishing.Refused n ≡ finishingOf fault b
+finishing-refused fault n b e some = rw (← e, ne-eqb n 0 some)
+
+pub finishing-says : (fault : ℕ) (b b′ : Bool) → fault ≡ 0 → b ≡ b′ → finishing.Says b ≡ finishingOf fault b′
+finishing-says fault b b′ none is = rw (none, is)
+
+-- by its fault
+pub refused-call : (x : Slices) (used room : ℕ) (line r : List ℕ) (n : ℕ) → n ≡ eventFault x r used room line → (n ≡ 0 → ⊥)
+    → Handled x used room line (Refused n) r r
+refused-call x used room line r n e some =
+    record { answer = refused-answer (eventFault x r used room line) n _ e some; record-after = stays (eventFault x r used room line) n r _ e some }
+
+module _ (number probes links : ℕ) (needs lows highs costs : List ℕ) (used room : ℕ) (line r : List ℕ) where
+  abbrev x : Slices
+  x = slicesOf number probes links needs lows highs costs
+
+  abbrev t : Table
+  t = tableOf x
+
+  abbrev f : Frame
+  f = frameOf line
+
+  abbrev unsent : ℕ
+  unsent = unsentFault (eventOf t f) (own t (f .from) r)
+
+  -- the faults of table and record, as the code finds them
+  pub state-is : (n : ℕ)
+      → n ≡ orElse (sliceFault 256 2048 0 probes links needs lows highs costs) (fleetFault (ofSlices 0 probes links needs lows highs costs) r)
+      → n ≡ orElse (slicesFault x) (fleetFault t r)
+  state-is n e =
+      e ∙ ap (orElse (slicesFault x)) (sym (fleet-same 0 probes links needs lows highs costs r) ∙ fleet-same number probes links needs lows highs costs r)
+
+  pub state-refused : (n : ℕ) → n ≡ orElse (slicesFault x) (fleetFault t r) → (n ≡ 0 → ⊥) → Handled x used room line (Refused n) r r
+  state-refused n e some =
+      refused-call x used room line r n
+      (or-through n (slicesFault x) (fleetFault t r) (orElse (lineFault t line) (orElse unsent (cond (ltb used room) 0 26))) e some) some
+
+  -- 27, as the code finds it
+  pub unsent-is : (n p : ℕ) (v : Event) → v ≡ eventOf t f → p ≡ f .from → n ≡ unsentFault v (own (ofSlices 0 0 links [] lows highs []) p r) → n ≡ unsent
+  unsent-is n p v ev ep e = e ∙ rw (ev, ep, own-same number probes links needs lows highs costs (f .from) r)
+
+  module _ (fine : slicesFault x ≡ 0) (good : fleetFault t r ≡ 0) where
+    -- the fault is the line's
+    of-line : (n : ℕ) → n ≡ orElse (lineFault t line) (orElse unsent (cond (ltb used room) 0 26)) → n ≡ eventFault x r used room line
+    of-line n e =
+        e
+        ∙ sym (or-none (slicesFault x) (orElse (fleetFault t r) (orElse (lineFault t line) (orElse unsent (cond (ltb used room) 0 26)))) fine
+        ∙ or-none (fleetFault t r) (orElse (lineFault t line) (orElse unsent (cond (ltb used room) 0 26))) good)
+
+    pub line-refused : (n : ℕ) → n ≡ lineFault t line → (n ≡ 0 → ⊥) → Handled x used room line (Refused n) r r
+    line-refused n e some = refused-call x used room line r n (of-line n (or-here n (lineFault t line) (orElse unsent (cond (ltb used room) 0 26)) e some)) some
+
+    module _ (passed : lineFault t line ≡ 0) where
+      pub unsent-refused : (n : ℕ) → n ≡ unsent → (n ≡ 0 → ⊥) → Handled x used room line (Refused n) r r
+      unsent-refused n e some =
+          refused-call x used room line r n
+          (of-line n (or-here n unsent (cond (ltb used room) 0 26) e some ∙ sym (or-none (lineFault t line) (orElse unsent (cond (ltb used room) 0 26)) passed))) some
+
+      module _ (sent : unsent ≡ 0) where
+        last : (n : ℕ) → n ≡ cond (ltb used room) 0 26 → n ≡ eventFault x r used room line
+        last n e =
+            of-line n
+            (e
+            ∙ sym (or-none (lineFault t line) (orElse unsent (cond (ltb used room) 0 26)) passed
+            ∙ or-none unsent (cond (ltb used room) 0 26) sent))
+
+        pub full-refused : room ≤ used → Handled x used room line (Refused 26) r r
+        full-refused l = refused-call x used room line r 26 (last 26 (rw (le-ltb used room l))) (λ z. omega arith)
+
+        pub line-accepted : used < room → (e : Entry) (r′ : List ℕ)
+            → (let t₀ = ofSlices 0 probes links needs lows highs costs in
+            (e ≡ entryOf t₀ (f .to) (befalls t₀ (f .to) (eventOf t f) (own t₀ (f .to) r)))
+            × (r′ ≡ alterFleet t₀ (f .to) (befalls t₀ (f .to) (eventOf t f) (own t₀ (f .to) r)) r))
+            → Handled x used room line (Logged e) r r′
+        line-accepted l e r′ is =
+            let t₀ = ofSlices 0 probes links needs lows highs costs in
+            let none = sym (last 0 (rw (lt-ltb used room l))) in
+            let bytes = sym (own-same 0 probes links needs lows highs costs (f .to) r) ∙ own-same number probes links needs lows highs costs (f .to) r in
+            let o : befalls t₀ (f .to) (eventOf t f) (own t₀ (f .to) r) ≡ outcomeOf t r f =
+            befalls-same number probes links needs lows highs costs (f .to) (eventOf t f) (own t₀ (f .to) r) ∙ ap (befalls t (f .to) (eventOf t f)) bytes in
+            record {
+              answer = logged-answer (eventFault x r used room line) e _ none
+                  (is .0
+                  ∙ ap (entryOf t₀ (f .to)) o
+                  ∙ sym (entry-same 0 probes links needs lows highs costs (f .to) (outcomeOf t r f))
+                  ∙ entry-same number probes links needs lows highs costs (f .to) (outcomeOf t r f));
+              record-after = altered (eventFault x r used room line) r (alteredBy t r f) r′ none
+                  (is .1 ∙ ap (λ (k : Outcome). alterFleet t (f .to) k r) o);
+            }
+
+-- a line handled is a step of the list of lines
+pub handled-next : (x : Slices) (room : ℕ) (s : State) (l : List ℕ) (r : Answer) (after : List ℕ) → Handled x (length (s .log)) room l r (s .bytes) after
+    → (r ≡ answerTo x room s l) × (after ≡ next x room s l .bytes)
+unfolding next
+handled-next x room s l r after h = (h .answer, h .record-after ∙ go (eqb (faultOf x room s l) 0))
+  where
+    go : (b : Bool) → cond b (alteredBy (tableOf x) (s .bytes) (frameOf l)) (s .bytes) ≡ (cond b (accepted x s l) s) .bytes
+    go true = refl
+    go false = refl

@@ -1,0 +1,5 @@
+pub mod Own
+pub mod Checks
+pub mod Counts
+pub mod Calls
+pub mod Changes

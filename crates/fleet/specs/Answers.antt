@@ -1,0 +1,50 @@
+-- What the calls of a fleet promise: the answer, and the record at exit.
+use Prim.Native.Nat.{ℕ, _+_}
+use mathlib.Core.Path.{_≡_}
+use mathlib.Core.Bool.{Bool, cond}
+use mathlib.Core.List.{List, [], _∷_}
+use lib.Dec.{eqb}
+use Rattle.frame.specs.Frame.{frameOf}
+use Rattle.entry.specs.declared.Answer.{Answer}
+use Rattle.entry.specs.declared.Answer.the-variants as answer
+use Rattle.entry.specs.declared.What.{What}
+use Rattle.entry.specs.declared.What.the-variants.{Opened, NothingToOpen, Taken, TakenDisplacing, Refused, RefusalLearnt, NoChange}
+use Rattle.entry.specs.Entry.{answerOf}
+use Rattle.rules.specs.Rules.{entryOf}
+use Rattle.fleet.specs.declared.Finishing.{Finishing}
+use Rattle.fleet.specs.declared.Finishing.the-variants as finishing
+use Rattle.fleet_theory.specs.Fleet.{Slices, tableOf, eventFault, outcomeOf, alteredBy, State, answerTo, next}
+
+-- a table in slices, by its parts
+abbrev pub slicesOf : ℕ → ℕ → ℕ → List ℕ → List ℕ → List ℕ → List ℕ → Slices
+slicesOf number probes links needs lows highs costs =
+    record { number = number; probes = probes; links = links; needs = needs; lows = lows; highs = highs; costs = costs }
+
+-- a line: the entry and the altered record, or the refusal alone and the record unchanged
+pub record Handled (x : Slices) (used room : ℕ) (line : List ℕ) (r : Answer) (before after : List ℕ) : Type 0 where
+  pub answer : r ≡ answerOf (eventFault x before used room line) (entryOf (tableOf x) (frameOf line .to) (outcomeOf (tableOf x) before (frameOf line)))
+  pub record-after : after ≡ cond (eqb (eventFault x before used room line) 0) (alteredBy (tableOf x) before (frameOf line)) before
+
+-- how many record bytes an event altered, by its entry
+abbrev pub changesOf : What → ℕ
+changesOf (Opened link) = 1
+changesOf NothingToOpen = 0
+changesOf (Taken link) = 1
+changesOf (TakenDisplacing link displaced) = 2
+changesOf (Refused link) = 1
+changesOf (RefusalLearnt link) = 1
+changesOf (NoChange link) = 0
+
+-- by its answer
+abbrev pub changesBy : Answer → ℕ
+changesBy (answer.Logged entry) = changesOf (entry .what)
+changesBy (answer.Refused fault) = 0
+
+-- by the answers to a list of lines
+unfoldable pub changesIn : Slices → ℕ → State → List (List ℕ) → ℕ
+changesIn x room s [] = 0
+changesIn x room s (l ∷ ls) = changesBy (answerTo x room s l) + changesIn x room (next x room s l) ls
+
+-- whether the fleet is finished, or the refusal
+abbrev pub finishingOf : ℕ → Bool → Finishing
+finishingOf fault b = cond (eqb fault 0) (finishing.Says b) (finishing.Refused fault)

@@ -1,0 +1,88 @@
+// A fleet of ends: its record, driven by lines. Links go by their place in the table.
+ghost use mathlib.Core.Path.{_≡_};
+ghost use Rattle.range.specs.First.{orElse};
+ghost use Rattle.fleet_theory.specs.Fleet.{tableOf, slicesFault, fleetFault, finished};
+ghost use Rattle.fleet.specs.Answers.{slicesOf, Handled, finishingOf};
+
+pub mod core;
+
+// Whether the fleet is finished, or the number of the refusal.
+pub enum Finishing {
+    Says(bool),
+    Refused(u8),
+}
+
+// A line of any bytes: an opening, or a frame heard. `used` of the log's `room` entries are used.
+pub fn event(
+    number: u16,
+    probes: u16,
+    links: u16,
+    needs: &[u16],
+    lows: &[u16],
+    highs: &[u16],
+    costs: &[u16],
+    rec: &mut [u8],
+    line: &[u8],
+    used: usize,
+    room: usize,
+) -> entry::Answer
+    ensures { λ r. ⌜ Handled (slicesOf number probes links (now (needs .entry)) (now (lows .entry)) (now (highs .entry)) (now (costs .entry)))
+        used room (now (line .entry)) r (now (rec .entry)) (now (rec .exit)) ⌝ }
+{
+    let fault = core::state_fault(
+        probes as usize,
+        links as usize,
+        needs,
+        lows,
+        highs,
+        costs,
+        rec,
+    );
+    if fault != 0 {
+        return entry::Answer::Refused(fault);
+    }
+    core::handle_line(
+        number,
+        probes as usize,
+        links as usize,
+        needs,
+        lows,
+        highs,
+        costs,
+        rec,
+        line,
+        used,
+        room,
+    )
+}
+
+// Whether the fleet is finished.
+pub fn finished(
+    number: u16,
+    probes: u16,
+    links: u16,
+    needs: &[u16],
+    lows: &[u16],
+    highs: &[u16],
+    costs: &[u16],
+    rec: &[u8],
+) -> Finishing
+    ensures { λ r. ⌜ r ≡ finishingOf
+        (orElse (slicesFault (slicesOf number probes links (now (needs .entry)) (now (lows .entry)) (now (highs .entry)) (now (costs .entry))))
+        (fleetFault (tableOf (slicesOf number probes links (now (needs .entry)) (now (lows .entry)) (now (highs .entry)) (now (costs .entry)))) (now (rec .entry))))
+        (finished (tableOf (slicesOf number probes links (now (needs .entry)) (now (lows .entry)) (now (highs .entry)) (now (costs .entry)))) (now (rec .entry))) ⌝ }
+{
+    let fault = core::state_fault(
+        probes as usize,
+        links as usize,
+        needs,
+        lows,
+        highs,
+        costs,
+        rec,
+    );
+    if fault != 0 {
+        return Finishing::Refused(fault);
+    }
+    Finishing::Says(core::is_finished(probes as usize, links as usize, needs, lows, highs, rec))
+}

@@ -1,0 +1,222 @@
+-- The ends called alone.
+use Prim.Native.Nat.{ℕ, _≤_, _<_}
+use mathlib.Core.Path.{_≡_, refl, sym, _∙_, ap}
+use mathlib.Core.Logic.{_↔_, _⊎_, inl, inr}
+use mathlib.Core.Bool.{Bool, true, false, true≢false}
+use mathlib.Core.List.{List}
+use native.Mathlib.Omega.{arith}
+use native.Mathlib.Decide.{ℕ-discrete}
+use lib.Dec.{eqb}
+use lib.ListN.{length}
+use lib.Seq.{sets}
+use borrow.Author.Tests.{le-ltb, lt-ltb, eqb-true, eq-eqb, ne-eqb}
+use Rattle.range.specs.First.{orElse}
+use Rattle.range.proofs.Bools.{decided, unless-none}
+use Rattle.range.proofs.Faults.{or-left, or-right, or-none}
+use Rattle.table.specs.Table.{Table, touches}
+use Rattle.table.specs.Legal.{Legal}
+use Rattle.cover_theory.proofs.Settled.{back}
+use Rattle.frame.specs.Frame.{Frame, frameOf, frameFault}
+use Rattle.record.specs.Record.{recordFault}
+use Rattle.record.proofs.Bytes.{record-passes}
+use Rattle.rules.specs.declared.Event.{Event}
+use Rattle.rules.specs.declared.Event.the-variants.{Opening}
+use Rattle.rules.specs.Rules.{sendable}
+use Rattle.rules.specs.Frames.{between, numberFault, heardOf}
+use Rattle.rules.specs.Within.{OwnLink, OwnOutcome}
+use Rattle.rules.proofs.Frames.{between-is}
+use Rattle.probe.specs.declared.Kind.{Kind}
+use Rattle.probe.specs.declared.Asked.{Asked}
+use Rattle.probe.specs.declared.Asked.the-variants as asked
+use Rattle.probe.specs.Checks as end
+use Rattle.probe.specs.Checks.{toFault, probeFault, linkFault, untriedFault, fullFault, heardFault, hearFault, openFault, linkCallFault}
+use Rattle.probe.specs.Answers.{Asks, askedEvent, askedFrame, askedLine, lentFault}
+use Rattle.probe.proofs.Calls.{asked-event}
+use Rattle.fleet_theory.specs.Fleet.{own, kindFault, endsFault, eventOf, Slices, tableOf, slicesFault, outcomeOf, State, start, run}
+use Rattle.fleet_theory.specs.Demand3.{IsFrame, MaySend}
+use Rattle.fleet_theory.specs.Ends.{SameAlone, EndsAlone}
+use Rattle.fleet_theory.proofs.Own.{outOf, inOf, length-own}
+use Rattle.fleet_theory.proofs.Events.{Says, an-opening, an-offer, a-refusal, says, line-step}
+use Rattle.fleet_theory.proofs.Run.{slices-legal, Holds, Passed, passed, passed-fault, next-accepted, start-holds, run-holds}
+use Rattle.fleet_theory.proofs.Alone.{own-altered, own-else}
+
+-- whether the line was written
+abbrev isWritten : Asked → Bool
+isWritten asked.Written = true
+isWritten asked.NotNow = false
+isWritten (asked.Refused n) = false
+
+module _ (x : Slices) (fine : slicesFault x ≡ 0) (s : State) (h : Holds (tableOf x) s) where
+  abbrev t : Table
+  t = tableOf x
+
+  abbrev r : List ℕ
+  r = s .bytes
+
+  legal : Legal t
+  legal = slices-legal x fine
+
+  -- 20, 21 and 22 let an end's own bytes pass
+  own-passes : (p : ℕ) → recordFault t p (own t p r) ≡ 0
+  own-passes p =
+      record-passes t p (own t p r) (record {
+        size = length-own t p r;
+        bytes = λ i l. record {
+          out-small = h .good .out-small p i;
+          in-small = h .good .in-small p i;
+          out-own = λ m. none (outOf t r p i) i (h .good .out-own p i) m (ℕ-discrete (outOf t r p i) 0);
+          in-own = λ m. none (inOf t r p i) i (h .good .in-own p i) m (ℕ-discrete (inOf t r p i) 0);
+        };
+        standing-fits = h .good .standing p;
+        held-fits = h .good .holding p;
+      })
+    where
+      none : (byte i : ℕ) → ((byte ≡ 0 → ⊥) → OwnLink t p i) → touches t p i ≡ false → Dec (byte ≡ 0) → byte ≡ 0
+      none byte i is-own m (yes z) = z
+      none byte i is-own m (no d) = absurd (true≢false (sym (is-own d .1) ∙ m))
+
+  not-full : (free : ℕ) → 0 < free → fullFault free ≡ 0
+  not-full free k = rw (ne-eqb free 0 (λ z. omega arith))
+
+  -- a line that is accepted
+  module _ (room : ℕ) (l : List ℕ) (a : Passed x room s l) where
+    abbrev f : Frame
+    f = frameOf l
+
+    abbrev p : ℕ
+    p = f .to
+
+    abbrev e : List ℕ
+    e = own t p r
+
+    pub opening-or-frame : (f .kind ≡ 0) ⊎ IsFrame f
+    opening-or-frame = go (says t l (a .line))
+      where
+        go : Says t f → (f .kind ≡ 0) ⊎ IsFrame f
+        go (an-opening k b v) = inl k
+        go (an-offer i k b c v is) = inr (inl k)
+        go (a-refusal i k b c v is) = inr (inr k)
+
+    own-links : OwnOutcome t p (outcomeOf t r f)
+    own-links = line-step t legal r (h .long) l (a .line) (a .sent) .own-links
+
+    same-alone : (event : Event) (fault : ℕ) → eventOf t f ≡ event → fault ≡ 0 → SameAlone x room s l event fault
+    same-alone event fault is none =
+        record {
+          no-fault = none;
+          promised = record {
+            answer = rw (passed-fault x fine s h room l a, none, is);
+            record-after = rw (next-accepted x fine s h room l a, none, ← is) (own-altered t p r (h .long) (outcomeOf t r f) own-links);
+          };
+          others-same = λ q d. rw (next-accepted x fine s h room l a) (own-else t p r (h .long) (outcomeOf t r f) own-links q d);
+        }
+
+    open-passes : p < t .probes → (free : ℕ) → 0 < free → openFault (slicesFault x) t p e free ≡ 0
+    unfolding openFault
+    open-passes b free k =
+        or-none (slicesFault x) (orElse (recordFault t p e) (orElse (probeFault t p) (fullFault free))) fine
+        ∙ or-none (recordFault t p e) (orElse (probeFault t p) (fullFault free)) (own-passes p)
+        ∙ or-none (probeFault t p) (fullFault free) (rw (lt-ltb p (t .probes) b))
+        ∙ not-full free k
+
+    pub opens-same : f .kind ≡ 0 → (free : ℕ) → 0 < free → SameAlone x room s l Opening (openFault (slicesFault x) t p e free)
+    opens-same z free k = go (says t l (a .line))
+      where
+        go : Says t f → SameAlone x room s l Opening (openFault (slicesFault x) t p e free)
+        go (an-opening y b v) = same-alone Opening (openFault (slicesFault x) t p e free) v (open-passes b free k)
+        go (an-offer i y b c v is) = absurd (omega arith)
+        go (a-refusal i y b c v is) = absurd (omega arith)
+
+    -- the checks of a frame at the end that hears it are among those of its line
+    heard-passes : IsFrame f → between t (f .from) p < t .links → heardFault t p l ≡ 0
+    unfolding heardFault
+    heard-passes frame b =
+        let checks = orElse (kindFault f) (orElse (numberFault t f) (endsFault t f)) in
+        let rest = or-right (kindFault f) (orElse (numberFault t f) (endsFault t f)) (or-right (frameFault l) checks (a .line)) in
+        or-none (frameFault l) (orElse (end.kindFault f) (orElse (numberFault t f) (toFault t p f))) (or-left (frameFault l) checks (a .line))
+        ∙ or-none (end.kindFault f) (orElse (numberFault t f) (toFault t p f)) (kinds frame)
+        ∙ or-none (numberFault t f) (toFault t p f) (or-left (numberFault t f) (endsFault t f) rest)
+        ∙ rw (eq-eqb p p refl, lt-ltb (between t (f .from) p) (t .links) b)
+      where
+        kinds : IsFrame f → end.kindFault f ≡ 0
+        kinds (inl k) = rw k
+        kinds (inr k) = rw k
+
+    hear-passes : IsFrame f → between t (f .from) p < t .links → untriedFault (heardOf t f) e ≡ 0 → (free : ℕ) → 0 < free → hearFault (slicesFault x) t p e l free ≡ 0
+    unfolding hearFault
+    hear-passes frame b tried free k =
+        let last = orElse (untriedFault (heardOf t f) e) (fullFault free) in
+        or-none (slicesFault x) (orElse (recordFault t p e) (orElse (heardFault t p l) last)) fine
+        ∙ or-none (recordFault t p e) (orElse (heardFault t p l) last) (own-passes p)
+        ∙ or-none (heardFault t p l) last (heard-passes frame b)
+        ∙ or-none (untriedFault (heardOf t f) e) (fullFault free) tried
+        ∙ not-full free k
+
+    pub hears-same : IsFrame f → (free : ℕ) → 0 < free → SameAlone x room s l (heardOf t f) (hearFault (slicesFault x) t p e l free)
+    hears-same frame free k = go (says t l (a .line))
+      where
+        go : Says t f → SameAlone x room s l (heardOf t f) (hearFault (slicesFault x) t p e l free)
+        go (an-opening z b v) = absurd (kinds frame)
+          where
+            kinds : IsFrame f → ⊥
+            kinds (inl y) = omega arith
+            kinds (inr y) = omega arith
+        go (an-offer i y b c v is) =
+            same-alone (heardOf t f) (hearFault (slicesFault x) t p e l free) (v ∙ sym is)
+            (hear-passes frame (rw (between-is t legal i (f .from) p b c) b) (rw is) free k)
+        go (a-refusal i y b c v is) =
+            let two = eqb-true (inOf t r (f .from) i) 2 (unless-none (eqb (inOf t r (f .from) i) 2) 26 (rw v at (a .sent))) in
+            same-alone (heardOf t f) (hearFault (slicesFault x) t p e l free) (v ∙ sym is)
+            (hear-passes frame (rw (between-is t legal i (f .from) p b c) b)
+            (rw (is, ne-eqb (outOf t r p i) 0 (h .good .seen i p (f .from) (back c) (λ z. omega arith)))) free k)
+
+  -- an end that is asked for a frame on an own link
+  module _ (p i : ℕ) (a : OwnLink t p i) where
+    pub ask-passes : linkCallFault (slicesFault x) t p (own t p r) i ≡ 0
+    unfolding linkCallFault
+    ask-passes =
+        or-none (slicesFault x) (orElse (recordFault t p (own t p r)) (linkFault t p i)) fine
+        ∙ or-none (recordFault t p (own t p r)) (linkFault t p i) (own-passes p)
+        ∙ rw (lt-ltb i (t .links) (a .0), a .1)
+
+    module _ (k : Kind) where
+      abbrev may : Bool
+      may = sendable (askedEvent k i) (own t p r)
+
+      pub ask-may-send : (may ≡ true) ↔ MaySend t r (askedFrame t p k i)
+      ask-may-send = (λ m. rw (asked-event t legal p i a k) m, λ m. rw (asked-event t legal p i a k) at m)
+
+      module _ (out : List ℕ) (long : 15 ≤ length out) (answer : Asked) (out′ : List ℕ) where
+        abbrev fault : ℕ
+        fault = orElse (lentFault (length out)) (linkCallFault (slicesFault x) t p (own t p r) i)
+
+        none : fault ≡ 0
+        none = or-none (lentFault (length out)) (linkCallFault (slicesFault x) t p (own t p r) i) (rw (le-ltb (length out) 15 long)) ∙ ask-passes
+
+        pub ask-writes : Asks fault t p k i (own t p r) answer out out′
+            → ((answer ≡ asked.Written) × (out′ ≡ sets out 0 (askedLine t p k i))) ↔ MaySend t r (askedFrame t p k i)
+        ask-writes q = (λ w. ask-may-send .0 (go (decided may) (w .0)), λ m. written (ask-may-send .1 m))
+          where
+            go : (may ≡ true) ⊎ (may ≡ false) → answer ≡ asked.Written → may ≡ true
+            go (inl m) w = m
+            go (inr m) w = absurd (true≢false (sym (ap isWritten w) ∙ ap isWritten (rw (none, m) at (q .answer))))
+
+            written : may ≡ true → (answer ≡ asked.Written) × (out′ ≡ sets out 0 (askedLine t p k i))
+            written m = (rw (none, m) at (q .answer), rw (none, m) at (q .line))
+
+pub ends-alone : (x : Slices) → slicesFault x ≡ 0 → (room : ℕ) (ls : List (List ℕ)) → EndsAlone x room ls
+ends-alone x fine room ls =
+    record {
+      opens-or-hears = λ xs ys l e n. opening-or-frame x fine (after xs) (holds xs) room l (passed x fine (after xs) (holds xs) room l n);
+      opens-alone = λ xs ys l e n. opens-same x fine (after xs) (holds xs) room l (passed x fine (after xs) (holds xs) room l n);
+      hears-alone = λ xs ys l e n. hears-same x fine (after xs) (holds xs) room l (passed x fine (after xs) (holds xs) room l n);
+      asked-passes = λ xs ys e. ask-passes x fine (after xs) (holds xs);
+      asked-may-send = λ xs ys e k p i a. ask-may-send x fine (after xs) (holds xs) p i a k;
+      asked-writes = λ xs ys e k p i a. ask-writes x fine (after xs) (holds xs) p i a k;
+    }
+  where
+    after : List (List ℕ) → State
+    after xs = run x room (start x) xs
+
+    holds : (xs : List (List ℕ)) → Holds (tableOf x) (after xs)
+    holds xs = run-holds x fine room (start x) (start-holds x fine) xs

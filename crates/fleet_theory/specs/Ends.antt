@@ -1,0 +1,73 @@
+-- Beside demand 3: the ends called alone, each on its own bytes of the fleet's record. The sentences are those of document 01, "The ends and their frames".
+use Prim.Native.Nat.{ℕ, _≤_, _<_}
+use mathlib.Core.Path.{_≡_}
+use mathlib.Core.Logic.{_↔_, _⊎_}
+use mathlib.Core.Bool.{true}
+use mathlib.Core.List.{List, _∷_, _++_}
+use lib.ListN.{length}
+use lib.Seq.{sets}
+use Rattle.range.specs.First.{orElse}
+use Rattle.table.specs.Table.{Table}
+use Rattle.frame.specs.Frame.{frameOf}
+use Rattle.rules.specs.declared.Event.{Event}
+use Rattle.rules.specs.declared.Event.the-variants.{Opening}
+use Rattle.rules.specs.Rules.{sendable}
+use Rattle.rules.specs.Frames.{heardOf}
+use Rattle.rules.specs.Within.{OwnLink}
+use Rattle.probe.specs.declared.Kind.{Kind}
+use Rattle.probe.specs.declared.Asked.{Asked}
+use Rattle.probe.specs.declared.Asked.the-variants.{Written}
+use Rattle.probe.specs.Checks.{hearFault, openFault, linkCallFault}
+use Rattle.probe.specs.Answers.{Befallen, Asks, askedEvent, askedFrame, askedLine, lentFault}
+use Rattle.fleet_theory.specs.Fleet.{Slices, tableOf, slicesFault, State, start, own, faultOf, answerTo, next, run}
+use Rattle.fleet_theory.specs.Demand3.{IsFrame, MaySend}
+
+-- the line l at the state s, and the probe `to` called alone: `event` is what reaches it, `fault` the fault of its call
+module _ (x : Slices) (room : ℕ) (s : State) (l : List ℕ) where
+  abbrev receiver : ℕ
+  receiver = frameOf l .to
+
+  abbrev ownBefore : ℕ → List ℕ
+  ownBefore p = own (tableOf x) p (s .bytes)
+
+  abbrev ownAfter : ℕ → List ℕ
+  ownAfter p = own (tableOf x) p (next x room s l .bytes)
+
+  pub record SameAlone (event : Event) (fault : ℕ) : Type 0 where
+    pub no-fault : fault ≡ 0
+    -- "leaves the same bytes and the same entry": the fleet's answer and next record are what the call promises
+    pub promised : Befallen fault (tableOf x) receiver event (answerTo x room s l) (ownBefore receiver) (ownAfter receiver)
+    -- and no byte of another end is altered
+    pub others-same : (p : ℕ) → (p ≡ receiver → ⊥) → ownAfter p ≡ ownBefore p
+
+module _ (x : Slices) (room : ℕ) (ls : List (List ℕ)) where
+  abbrev t : Table
+  t = tableOf x
+
+  -- the state after the lines xs, and an end's own bytes then
+  abbrev stateAfter : List (List ℕ) → State
+  stateAfter xs = run x room (start x) xs
+
+  abbrev ownBytes : ℕ → List (List ℕ) → List ℕ
+  ownBytes p xs = own t p (stateAfter xs .bytes)
+
+  pub record EndsAlone : Type 0 where
+    -- "For each opening or frame that the fleet accepts .. the end that opens or hears, called alone on its own bytes of the fleet's record with an entry free"
+    pub opens-or-hears : (xs ys : List (List ℕ)) (l : List ℕ) → ls ≡ xs ++ l ∷ ys → faultOf x room (stateAfter xs) l ≡ 0
+        → (frameOf l .kind ≡ 0) ⊎ IsFrame (frameOf l)
+    pub opens-alone : (xs ys : List (List ℕ)) (l : List ℕ) → ls ≡ xs ++ l ∷ ys → faultOf x room (stateAfter xs) l ≡ 0 → frameOf l .kind ≡ 0
+        → (free : ℕ) → 0 < free
+        → let p = frameOf l .to in
+        SameAlone x room (stateAfter xs) l Opening (openFault (slicesFault x) t p (ownBytes p xs) free)
+    pub hears-alone : (xs ys : List (List ℕ)) (l : List ℕ) → ls ≡ xs ++ l ∷ ys → faultOf x room (stateAfter xs) l ≡ 0 → IsFrame (frameOf l)
+        → (free : ℕ) → 0 < free
+        → let p = frameOf l .to in
+        SameAlone x room (stateAfter xs) l (heardOf t (frameOf l)) (hearFault (slicesFault x) t p (ownBytes p xs) l free)
+    -- "at any moment of such a list, asked alone on its own bytes with room for the line, it writes the frame exactly when that frame may then be sent"
+    pub asked-passes : (xs ys : List (List ℕ)) → ls ≡ xs ++ ys → (p i : ℕ) → OwnLink t p i → linkCallFault (slicesFault x) t p (ownBytes p xs) i ≡ 0
+    pub asked-may-send : (xs ys : List (List ℕ)) → ls ≡ xs ++ ys → (k : Kind) (p i : ℕ) → OwnLink t p i
+        → (sendable (askedEvent k i) (ownBytes p xs) ≡ true) ↔ MaySend t (stateAfter xs .bytes) (askedFrame t p k i)
+    pub asked-writes : (xs ys : List (List ℕ)) → ls ≡ xs ++ ys → (k : Kind) (p i : ℕ) → OwnLink t p i
+        → (out : List ℕ) → 15 ≤ length out → (r : Asked) (out′ : List ℕ)
+        → Asks (orElse (lentFault (length out)) (linkCallFault (slicesFault x) t p (ownBytes p xs) i)) t p k i (ownBytes p xs) r out out′
+        → ((r ≡ Written) × (out′ ≡ sets out 0 (askedLine t p k i))) ↔ MaySend t (stateAfter xs .bytes) (askedFrame t p k i)

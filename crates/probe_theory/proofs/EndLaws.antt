@@ -1,0 +1,57 @@
+-- The laws of one end.
+use Prim.Native.Nat.{ℕ}
+use mathlib.Core.Path.{_≡_}
+use mathlib.Core.Logic.{_⊎_, inl, inr}
+use mathlib.Core.Bool.{true, false}
+use mathlib.Core.List.{List}
+use lib.Dec.{eqb}
+use Rattle.range.proofs.Bools.{decided}
+use Rattle.table.specs.Table.{Table}
+use Rattle.table.specs.Legal.{Legal}
+use Rattle.cover_theory.proofs.Settled.{near, back}
+use Rattle.frame.specs.Frame.{Frame, frameOf}
+use Rattle.record.proofs.Bytes.{good-record, record-passes}
+use Rattle.rules.specs.declared.Event.{Event}
+use Rattle.rules.specs.Rules.{befalls}
+use Rattle.rules.specs.Frames.{between, heardOf}
+use Rattle.rules.specs.Within.{OwnLink, OwnEvent, OwnOutcome}
+use Rattle.rules.proofs.Frames.{between-across}
+use Rattle.rules.proofs.Befalls.{Befell, befell, befell-own, own-within}
+use Rattle.probe.specs.Checks.{heardFault, linkCallFault}
+use Rattle.probe.proofs.Accepted.{heard-link, heard-to}
+use Rattle.probe_theory.specs.EndLaws.{EndLaws, after}
+use Rattle.probe_theory.proofs.Changes.{outcome-few, outcome-own}
+use Rattle.probe_theory.proofs.Usable.{befell-good}
+use Rattle.probe_theory.proofs.Asking.{asks-again, asked-says, asked-passes, asked-heard}
+
+heard-own : (t : Table) (p : ℕ) (l : List ℕ) → heardFault t p l ≡ 0 → OwnEvent t p (heardOf t (frameOf l))
+heard-own t p l e = go (decided (eqb (f .kind) 1))
+  where
+    f : Frame
+    f = frameOf l
+
+    own-link : OwnLink t p (between t (f .from) (f .to))
+    own-link = (heard-link t p l e, rw (← heard-to t p l e) (near (back (between-across t (f .from) (f .to) (heard-link t p l e)))))
+
+    go : (eqb (f .kind) 1 ≡ true) ⊎ (eqb (f .kind) 1 ≡ false) → OwnEvent t p (heardOf t f)
+    go (inl k) = rw k own-link
+    go (inr k) = rw k own-link
+
+pub end-laws : (t : Table) → Legal t → (p : ℕ) → EndLaws t p
+end-laws t legal p =
+    record {
+      heard-own = heard-own t p;
+      changes-own = λ v e a. outcome-own t p e (befalls t p v e) (own-links v e a);
+      changes-few = λ v e a. outcome-few t p e (befalls t p v e) (own-links v e a);
+      stays-usable = λ v e f a. record-passes t p (after t p v e) (befell-good t p e (good-record t p e f) (is v e a) a);
+      asked-again = λ k i slices e. asks-again t p k i e (linkCallFault slices t p e i);
+      line-says = λ digits k i a. asked-says t legal digits p i a k;
+      line-passes = λ digits k i a. asked-passes t legal digits p i a k;
+      line-heard = λ digits k i a. asked-heard t legal digits p i a k;
+    }
+  where
+    is : (v : Event) (e : List ℕ) → OwnEvent t p v → Befell t p e v (befalls t p v e)
+    is v e a = befell t legal p e v (own-within t p v a)
+
+    own-links : (v : Event) (e : List ℕ) → OwnEvent t p v → OwnOutcome t p (befalls t p v e)
+    own-links v e a = befell-own (is v e a) a

@@ -1,0 +1,5 @@
+pub mod Stores
+pub mod Changes
+pub mod Usable
+pub mod Asking
+pub mod EndLaws

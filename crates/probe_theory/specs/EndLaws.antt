@@ -1,0 +1,60 @@
+-- Laws of one end. The sentences are those of document 01, "The ends and their frames".
+use Prim.Native.Nat.{ℕ, _/_, _≤_, _<_}
+use mathlib.Core.Path.{_≡_}
+use mathlib.Core.Logic.{_⊎_}
+use mathlib.Core.Bool.{Bool, not}
+use mathlib.Core.List.{List}
+use lib.Dec.{eqb}
+use lib.ListN.{length}
+use Rattle.range.specs.Sum.{count}
+use Rattle.range.specs.First.{orElse}
+use Rattle.table.specs.Table.{Table, item}
+use Rattle.frame.specs.Frame.{frameOf}
+use Rattle.record.specs.Record.{outbound, inbound, recordFault}
+use Rattle.rules.specs.declared.Event.{Event}
+use Rattle.rules.specs.Rules.{befalls, alter, other}
+use Rattle.rules.specs.Frames.{heardOf}
+use Rattle.rules.specs.Within.{OwnLink, OwnEvent}
+use Rattle.probe.specs.declared.Kind.{Kind}
+use Rattle.probe.specs.declared.Asked.{Asked}
+use Rattle.probe.specs.Checks.{heardFault, linkCallFault}
+use Rattle.probe.specs.Answers.{Asks, askedEvent, askedFrame, askedLine, lentFault}
+
+-- "A change is one byte altered": how many of the first n links have an outbound, and an inbound, byte that differs
+abbrev pub changed : (List ℕ → ℕ → ℕ) → List ℕ → List ℕ → ℕ → Bool
+changed byte e e′ i = not (eqb (byte e i) (byte e′ i))
+
+abbrev pub outChanges : ℕ → List ℕ → List ℕ → ℕ
+outChanges n e e′ = count n (changed outbound e e′)
+
+abbrev pub inChanges : ℕ → List ℕ → List ℕ → ℕ
+inChanges n e e′ = count n (changed inbound e e′)
+
+-- at most one outbound byte differs and no inbound one, or at most two inbound bytes and no outbound one
+pub record FewChanges (n : ℕ) (e e′ : List ℕ) : Type 0 where
+  pub out-one : outChanges n e e′ ≤ 1
+  pub in-two : inChanges n e e′ ≤ 2
+  pub one-side : (outChanges n e e′ ≡ 0) ⊎ (inChanges n e e′ ≡ 0)
+
+-- the end p of a legal table
+module _ (t : Table) (p : ℕ) where
+  -- the record after an event
+  abbrev pub after : Event → List ℕ → List ℕ
+  after event e = alter (befalls t p event e) e
+
+  pub record EndLaws : Type 0 where
+    -- a frame that 1, 2, 9, 23 and 24 let pass comes on an own link
+    pub heard-own : (l : List ℕ) → heardFault t p l ≡ 0 → OwnEvent t p (heardOf t (frameOf l))
+    -- a byte that an event alters stands on an own link
+    pub changes-own : (event : Event) (e : List ℕ) → OwnEvent t p event → (j : ℕ) → (item (after event e) j ≡ item e j → ⊥) → OwnLink t p (j / 2)
+    pub changes-few : (event : Event) (e : List ℕ) → OwnEvent t p event → FewChanges (t .links) e (after event e)
+    -- a record that 20, 21 and 22 let pass stays one
+    pub stays-usable : (event : Event) (e : List ℕ) → recordFault t p e ≡ 0 → OwnEvent t p event → recordFault t p (after event e) ≡ 0
+    -- "as often as wished": asked again, an end answers and writes the same
+    pub asked-again : (k : Kind) (i slices : ℕ) (e : List ℕ) (r r′ : Asked) (out out′ out″ : List ℕ)
+        → Asks (orElse (lentFault (length out)) (linkCallFault slices t p e i)) t p k i e r out out′
+        → Asks (orElse (lentFault (length out′)) (linkCallFault slices t p e i)) t p k i e r′ out′ out″ → (r′ ≡ r) × (out″ ≡ out′)
+    -- the line says the frame; the other end does not turn it down, and hears what was asked for
+    pub line-says : t .number < 65536 → (k : Kind) (i : ℕ) → OwnLink t p i → frameOf (askedLine t p k i) ≡ askedFrame t p k i
+    pub line-passes : t .number < 65536 → (k : Kind) (i : ℕ) → OwnLink t p i → heardFault t (other t p i) (askedLine t p k i) ≡ 0
+    pub line-heard : t .number < 65536 → (k : Kind) (i : ℕ) → OwnLink t p i → heardOf t (frameOf (askedLine t p k i)) ≡ askedEvent k i

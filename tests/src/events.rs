@@ -1,0 +1,149 @@
+//! Random events for an end, and damaged frames and records.
+
+use crate::compare_ends::End;
+use crate::ends::{other_end, Frame, What};
+use crate::random::Random;
+use crate::reference::Table;
+use crate::sites::{crowded, legal, legal_of_size, set_costs, set_needs};
+
+/// A legal table; most are small and dense, with equal costs and little spare, so that offers
+/// are often refused or displaced.
+pub fn any_table(random: &mut Random) -> Table {
+    match random.below(16) {
+        0 => return crowded(random),
+        1 | 2 => return legal(random),
+        _ => {}
+    }
+    let probes = 3 + random.below(6);
+    let most = probes * (probes - 1) / 2;
+    let mut table = legal_of_size(probes, most - random.below(probes), random);
+    let costs = random.pick(&[1, 2, 4]);
+    set_costs(&mut table, || random.below(costs) as u16);
+    set_needs(&mut table, |_, degree| {
+        degree.saturating_sub(random.below(4))
+    });
+    table
+}
+
+/// The places of the probe's links.
+pub fn own_links(table: &Table, probe: u16) -> Vec<usize> {
+    let own = |&place: &usize| other_end(table.links[place], probe).is_some();
+    (0..table.links.len()).filter(own).collect()
+}
+
+/// A probe, often one with links.
+pub fn any_probe(table: &Table, random: &mut Random) -> u16 {
+    let any = random.below(table.needs.len()) as u16;
+    if table.links.is_empty() {
+        return any;
+    }
+    let link = table.links[random.below(table.links.len())];
+    random.pick(&[link.low, link.high, link.high, any])
+}
+
+/// An offer or a refusal to the probe from another end of its links; from itself where it has none.
+pub fn any_frame(table: &Table, probe: u16, random: &mut Random) -> Frame {
+    let own = own_links(table, probe);
+    let from = match own.is_empty() {
+        true => Some(probe),
+        false => other_end(table.links[random.pick(&own)], probe),
+    };
+    Frame {
+        kind: random.pick(&[1, 1, 2]),
+        number: table.number,
+        from: from.unwrap_or(probe),
+        to: probe,
+    }
+}
+
+/// How many entries are free: seldom none.
+pub fn any_room(random: &mut Random) -> usize {
+    random.pick(&[0, 1, 1, 2, 1024, usize::MAX])
+}
+
+/// Lets an opening or a frame that passes 24 befall the end, with an entry free.
+#[track_caller]
+pub fn befall(end: &mut End, table: &Table, random: &mut Random) -> Result<What, u8> {
+    match random.below(3) {
+        0 => end.open(1),
+        _ => end.hear(&any_frame(table, end.probe, random).line(), 1),
+    }
+}
+
+/// A fresh end after some random events.
+#[track_caller]
+pub fn reached(table: &Table, probe: u16, random: &mut Random) -> End {
+    let mut end = End::fresh(table, probe);
+    let links = own_links(table, probe).len().min(40);
+    for _ in 0..random.below(4 * links + 2) {
+        let befell = befall(&mut end, table, random);
+        assert!(matches!(befell, Ok(_) | Err(24 | 25)));
+    }
+    end
+}
+
+/// Changes one of the frame's numbers.
+pub fn damage_frame(frame: &mut Frame, table: &Table, random: &mut Random) {
+    let (any, short) = (random.below(table.needs.len()) as u16, random.short());
+    let count = table.needs.len() as u16;
+    let probe = random.pick(&[any, any, count, short, 0xffff, frame.from, frame.to]);
+    match random.below(5) {
+        0 => frame.kind = random.pick(&[0, 3, 4, 0x10, 0x20, 0xff]),
+        1 => frame.number = random.pick(&[short, frame.number ^ 1, frame.number ^ 0x8000]),
+        2 => frame.to = probe,
+        3 => frame.from = probe,
+        _ => (frame.from, frame.to) = (frame.to, frame.from),
+    }
+}
+
+/// Cuts, lengthens or alters the line.
+pub fn damage_line(line: &mut Vec<u8>, random: &mut Random) {
+    let place = random.below(line.len().max(1));
+    let likely = random.pick(b"\n\n\r 0AFGg/:\0\x7f\x80\xff");
+    let any = random.byte();
+    match random.below(6) {
+        0 => line.truncate(place),
+        1 => line.insert(place, random.pick(b"00af\n\r")),
+        2 => line.push(random.pick(b"\n\n0\r")),
+        3 => line.make_ascii_uppercase(),
+        _ if line.is_empty() => line.push(any),
+        _ => line[place] = random.pick(&[likely, likely, any]),
+    }
+}
+
+/// Makes the record one that 20, 21 or 22 may refuse.
+pub fn damage_record(end: &mut End, table: &Table, random: &mut Random) {
+    let (record, any) = (&mut end.record, random.byte());
+    match random.below(16) {
+        0 => drop(record.pop()),
+        1 => record.push(random.pick(&[0, 1, any])),
+        2 => record.resize(random.below(record.len() + 3), 0),
+        3 | 4 => set_any(record, random.pick(&[3, 3, 255, any]), random),
+        5 | 6 => set_any(record, random.pick(&[1, 2]), random),
+        _ => {
+            let spare = table.spares().get(usize::from(end.probe)).copied();
+            let ones = spare.unwrap_or(0) as usize + random.below(2);
+            set_ones(record, own_links(table, end.probe), ones, random);
+        }
+    }
+}
+
+fn set_any(record: &mut [u8], byte: u8, random: &mut Random) {
+    if !record.is_empty() {
+        record[random.below(record.len())] = byte;
+    }
+}
+
+/// Gives so many of the own links a 1, all outbound or all inbound, and the others none there.
+fn set_ones(record: &mut [u8], mut own: Vec<usize>, ones: usize, random: &mut Random) {
+    for place in (1..own.len()).rev() {
+        own.swap(place, random.below(place + 1));
+    }
+    let side = random.below(2);
+    for (done, place) in own.into_iter().enumerate() {
+        let no_one = random.pick(&[0, 2]);
+        if let Some(byte) = record.get_mut(2 * place + side) {
+            *byte = if done < ones { 1 } else { no_one };
+        }
+    }
+}

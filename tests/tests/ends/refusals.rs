@@ -1,0 +1,324 @@
+//! Bad records, frames and links, each with its refusal, and the order of refusals.
+
+use crate::{line, m2_end, m2_end_with, offer, refusal, without_spare, KINDS};
+use planner_tests::compare_ends::End;
+use planner_tests::ends::{Frame, Kind, What, LINE};
+use planner_tests::sites::marked;
+
+/// What a fresh end makes of a line.
+#[track_caller]
+fn heard(line: &[u8]) -> Result<What, u8> {
+    m2_end().hear(line, 1)
+}
+
+/// The record is turned down by each call.
+#[track_caller]
+fn refused(mut end: End, number: u8) {
+    assert_eq!(end.open(1), Err(number));
+    for kind in [1, 2] {
+        assert_eq!(end.hear(&line(kind, 2, 1), 1), Err(number));
+    }
+    for kind in KINDS {
+        assert_eq!(end.ask(kind, 1, LINE), Err(number));
+    }
+    assert_eq!(end.rests(1), Err(number));
+}
+
+/// No call turns the record down.
+#[track_caller]
+fn accepted(mut end: End) {
+    assert!(end.rests(1).is_ok());
+    for kind in KINDS {
+        assert!(end.ask(kind, 1, LINE).is_ok());
+    }
+    assert!(end.hear(&offer(2, 1), 1).is_ok());
+    assert!(end.open(1).is_ok());
+}
+
+#[test]
+fn record_of_the_wrong_length() {
+    for length in (0..14).chain([4096, 131_070]) {
+        match length {
+            6 => accepted(m2_end_with(&vec![0; length])),
+            _ => refused(m2_end_with(&vec![0; length]), 20),
+        }
+    }
+}
+
+#[test]
+fn record_with_a_byte_over_2() {
+    for place in 0..6 {
+        for byte in 3..=255 {
+            let mut end = m2_end();
+            end.record[place] = byte;
+            refused(end, 21);
+        }
+    }
+}
+
+#[test]
+fn record_with_a_byte_on_the_link_of_another_probe() {
+    for byte in [1, 2] {
+        refused(m2_end_with(&[0, 0, 0, 0, byte, 0]), 21);
+        refused(m2_end_with(&[0, 0, 0, 0, 0, byte]), 21);
+    }
+}
+
+#[test]
+fn more_standing_or_more_held_than_spare() {
+    refused(m2_end_with(&[1, 0, 1, 0, 0, 0]), 22);
+    refused(m2_end_with(&[0, 1, 0, 1, 0, 0]), 22);
+    refused(m2_end_with(&[1, 1, 2, 1, 0, 0]), 22);
+    for [one, other] in [[1, 0], [1, 2], [0, 1], [2, 1], [2, 2], [0, 0]] {
+        accepted(m2_end_with(&[one, one, other, other, 0, 0]));
+        accepted(m2_end_with(&[one, other, other, one, 0, 0]));
+    }
+}
+
+#[test]
+fn one_standing_or_held_at_spare_0() {
+    for place in 0..4 {
+        let mut end = End::fresh(&without_spare(), 1);
+        end.record[place] = 1;
+        refused(end, 22);
+        let mut end = End::fresh(&without_spare(), 1);
+        end.record[place] = 2;
+        accepted(end);
+    }
+}
+
+#[test]
+fn line_cut_at_each_byte() {
+    let line = offer(2, 1);
+    assert_eq!(line.len(), LINE);
+    for length in 0..LINE {
+        assert_eq!(heard(&line[..length]), Err(1));
+        assert_eq!(heard(&line[LINE - length..]), Err(1));
+    }
+    assert_eq!(heard(&line), Ok(What::Taken(1)));
+}
+
+#[test]
+fn line_of_15_digits_or_with_bytes_behind() {
+    for place in 0..=LINE {
+        for byte in [b'0', b'f', b'\n', b'\r', b' '] {
+            let mut longer = offer(2, 1);
+            longer.insert(place, byte);
+            assert_eq!(heard(&longer), Err(1));
+        }
+    }
+    assert_eq!(heard(&[offer(2, 1), offer(2, 1)].concat()), Err(1));
+    assert_eq!(heard(&[b'0'; 70_000]), Err(1));
+}
+
+/// A line feed inside makes the line too short, whatever stands before it.
+#[test]
+fn line_feed_inside() {
+    for place in 0..LINE - 1 {
+        for first in [b'0', b'X'] {
+            let mut line = offer(2, 1);
+            line[0] = first;
+            line[place] = b'\n';
+            assert_eq!(heard(&line), Err(1));
+        }
+    }
+}
+
+#[test]
+fn line_that_is_not_closed() {
+    for byte in (0..=255).filter(|&byte| byte != b'\n') {
+        let mut line = offer(2, 1);
+        line[LINE - 1] = byte;
+        assert_eq!(heard(&line), Err(1));
+    }
+}
+
+#[test]
+fn byte_that_is_no_digit() {
+    let is_digit = |byte: &u8| matches!(byte, b'0'..=b'9' | b'a'..=b'f');
+    for place in 0..LINE - 1 {
+        for byte in (0..=255).filter(|byte| !is_digit(byte) && *byte != b'\n') {
+            let mut line = offer(2, 1);
+            line[place] = byte;
+            assert_eq!(heard(&line), Err(2));
+        }
+    }
+    assert_eq!(heard(b"0100010002000A\n"), Err(2));
+}
+
+#[test]
+fn kind_with_no_meaning_here() {
+    for kind in (0..=255).filter(|kind| ![1, 2].contains(kind)) {
+        assert_eq!(heard(&line(kind, 2, 1)), Err(9));
+        assert_eq!(heard(&line(kind, 1, 1)), Err(9));
+    }
+}
+
+#[test]
+fn frame_of_another_table_number() {
+    for number in (0..=0xffff).filter(|&number| number != 1) {
+        let frame = Frame {
+            kind: 1,
+            number,
+            from: 2,
+            to: 1,
+        };
+        assert_eq!(heard(&frame.line()), Err(23));
+    }
+}
+
+#[test]
+fn frame_for_another_probe_or_from_no_neighbour() {
+    for probe in 0..=0xffff {
+        let from = match probe {
+            0 => Ok(What::Taken(0)),
+            2 => Ok(What::Taken(1)),
+            _ => Err(24),
+        };
+        assert_eq!(heard(&offer(probe, 1)), from);
+        if probe != 1 {
+            assert_eq!(heard(&offer(2, probe)), Err(24));
+            assert_eq!(heard(&offer(1, probe)), Err(24));
+        }
+    }
+}
+
+#[test]
+fn no_such_probe() {
+    for probe in [4, 5, 256, 0xffff] {
+        let mut end = End::fresh(&marked(1), probe);
+        assert_eq!(end.open(1), Err(24));
+        for from in [0, 2, 3, probe - 1, probe] {
+            assert_eq!(end.hear(&offer(from, probe), 1), Err(24));
+            assert_eq!(end.hear(&refusal(from, probe), 1), Err(24));
+        }
+        assert_eq!(end.ask(Kind::Offer, 0, LINE), Err(24));
+        assert_eq!(end.rests(2), Err(24));
+        // Every link is another probe's.
+        end.record[0] = 1;
+        refused(end, 21);
+    }
+}
+
+#[test]
+fn link_not_its_own() {
+    let mut end = m2_end_with(&[1, 1, 2, 2, 0, 0]);
+    for link in (2..=0xffff).step_by(7).chain([3, 4, 0xffff]) {
+        for kind in KINDS {
+            assert_eq!(end.ask(kind, link, LINE), Err(24));
+        }
+        assert_eq!(end.rests(link), Err(24));
+    }
+}
+
+#[test]
+fn refusal_where_outbound_is_0() {
+    for inbound in [0, 1, 2] {
+        let hear = |outbound| {
+            let mut end = m2_end_with(&[0, 0, outbound, inbound, 0, 0]);
+            let befell = end.hear(&refusal(2, 1), 1);
+            (befell, end.record[2])
+        };
+        assert_eq!(hear(0), (Err(25), 0));
+        assert_eq!(hear(1), (Ok(What::Learnt(1)), 2));
+        assert_eq!(hear(2), (Ok(What::NoChange(1)), 2));
+    }
+}
+
+#[test]
+fn full_log() {
+    let mut end = m2_end();
+    assert_eq!(end.open(0), Err(26));
+    assert_eq!(end.open(usize::MAX), Ok(What::Opened(1)));
+    // Nothing to open and nothing to change take an entry too.
+    assert_eq!(end.open(0), Err(26));
+    assert_eq!(end.hear(&offer(2, 1), 0), Err(26));
+    assert_eq!(end.hear(&offer(2, 1), 1), Ok(What::Taken(1)));
+    assert_eq!(end.hear(&offer(2, 1), 0), Err(26));
+    assert_eq!(end.hear(&refusal(2, 1), 0), Err(26));
+    // A frame that is turned down anyway, and asking, take none.
+    assert_eq!(end.hear(&refusal(0, 1), 0), Err(25));
+    assert_eq!(end.ask(Kind::Offer, 1, LINE), Ok(Some(offer(1, 2))));
+}
+
+/// Its frame is judged before its own number is.
+#[test]
+fn order_of_refusals_for_no_such_probe() {
+    let mut end = End::fresh(&marked(1), 4);
+    assert_eq!(end.open(0), Err(24));
+    let faults: [(&[u8], u8); 5] = [
+        (b"X3000200030004", 1),
+        (b"X3000200030004\n", 2),
+        (b"03000200030004\n", 9),
+        (b"02000200030004\n", 23),
+        (b"02000100030004\n", 24),
+    ];
+    for (line, number) in faults {
+        assert_eq!(end.hear(line, 0), Err(number));
+    }
+}
+
+/// A call of probe 1 of M2, which hears an offer of probe 2.
+struct Call {
+    end: End,
+    line: Vec<u8>,
+    free: usize,
+}
+
+impl Call {
+    fn set_link(&mut self, place: usize, low: u16, high: u16) {
+        self.end.numbers.entries[1][place] = low;
+        self.end.numbers.entries[2][place] = high;
+    }
+}
+
+/// A change that puts a fault in, and the fault's refusal.
+type Fault = (fn(&mut Call), u8);
+
+/// In the order of the refusals; 5 stands before 4, for it is at an earlier link.
+const FAULTS: [Fault; 15] = [
+    (|call| call.end.numbers.lent[3] = 2, 8),
+    (|call| call.end.numbers.probes = 0, 3),
+    (|call| call.set_link(1, 0, 1), 5),
+    (|call| call.set_link(2, 2, 2), 4),
+    (|call| call.end.numbers.entries[0][0] = 9, 7),
+    (|call| call.end.record.push(0), 20),
+    (|call| call.end.record[5] = 1, 21),
+    (|call| call.end.record[..4].fill(1), 22),
+    (|call| call.line.truncate(LINE - 1), 1),
+    (|call| call.line[9] = b'A', 2),
+    (|call| call.line[0] = b'f', 9),
+    (|call| call.line[2] = b'1', 23),
+    (|call| call.line[13] = b'0', 24),
+    (|call| call.line[1] = b'2', 25),
+    (|call| call.free = 0, 26),
+];
+
+/// Of any faults together the first in the list decides, if the call can have it.
+#[test]
+fn order_of_refusals() {
+    for chosen in 0_u32..1 << FAULTS.len() {
+        let held = (0..FAULTS.len()).filter(|fault| chosen >> fault & 1 == 1);
+        let mut call = Call {
+            end: m2_end(),
+            line: offer(2, 1),
+            free: 1,
+        };
+        held.clone().for_each(|fault| FAULTS[fault].0(&mut call));
+        let first = |without: &[u8]| {
+            let mut numbers = held.clone().map(|fault| FAULTS[fault].1);
+            numbers.find(|number| !without.contains(number))
+        };
+        let Call {
+            mut end,
+            line,
+            free,
+        } = call;
+        let of_state = first(&[1, 2, 9, 23, 24, 25, 26]);
+        assert_eq!(end.rests(1).err(), of_state);
+        assert_eq!(end.ask(Kind::Offer, 2, LINE).err(), of_state.or(Some(24)));
+        assert_eq!(end.ask(Kind::Offer, 2, LINE - 1), Err(8));
+        assert_eq!(end.hear(&line, free).err(), first(&[]));
+        assert_eq!(end.open(free).err(), first(&[1, 2, 9, 23, 24, 25]));
+    }
+}
