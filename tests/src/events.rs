@@ -70,10 +70,21 @@ pub fn befall(end: &mut End, table: &Table, random: &mut Random) -> Result<What,
     }
 }
 
-/// A fresh end after some random events.
+/// A fresh end; often its slices have random entries beyond the table's own.
+pub fn fresh(table: &Table, probe: u16, random: &mut Random) -> End {
+    let mut end = End::fresh(table, probe);
+    let [needs, links, ..] = end.numbers.lent;
+    let (more_needs, more) = (random.below(3), random.below(3));
+    let links = links + more;
+    let lengths = [needs + more_needs, links, links, links];
+    end.numbers.lend(lengths, random);
+    end
+}
+
+/// The same after some random events.
 #[track_caller]
 pub fn reached(table: &Table, probe: u16, random: &mut Random) -> End {
-    let mut end = End::fresh(table, probe);
+    let mut end = fresh(table, probe, random);
     let links = own_links(table, probe).len().min(40);
     for _ in 0..random.below(4 * links + 2) {
         let befell = befall(&mut end, table, random);
