@@ -13,8 +13,8 @@ use Rattle.cover.specs.Planning.{planningOf, Plans, PlansByTurns}
 use Rattle.cover.specs.declared.Planning.{Planning}
 use Rattle.cover.specs.declared.Planning.the-variants.{Plan, Refused as Unplanned}
 use Rattle.plan_output.specs.Output.{Outputs}
-use Rattle.plan_output.specs.declared.Output.{Output}
-use Rattle.plan_output.specs.declared.Output.the-variants.{Length as Printed, Refused as Unprinted}
+use Rattle.output.specs.declared.Output.{Output}
+use Rattle.output.specs.declared.Output.the-variants.{Length as Printed, Refused as Unprinted}
 use Rattle.table_write.specs.declared.Writing.{Writing}
 use Rattle.table_write.specs.declared.Writing.the-variants.{Length, Refused as Unwritten}
 use Rattle.entry.specs.declared.Answer.{Answer}

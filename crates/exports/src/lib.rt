@@ -21,7 +21,7 @@ ghost use Rattle.exports.specs.Packed.{packedReading, packedPlanning, pa
 use cover::Planning;
 use entry::Answer;
 use entry::What;
-use plan_output::Output;
+use output::Output;
 use probe::Asked;
 use probe::Kind;
 use probe::Resting;

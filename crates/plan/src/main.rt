@@ -1,5 +1,5 @@
 // The plan program: reads a table's text and prints its plan, or the text's refusal.
-use plan_output::Output;
+use output::Output;
 
 // Reads once, drops what came, and answers whether to go on.
 fn skip_some() -> bool {

@@ -8,7 +8,6 @@ use native.Mathlib.Decide.{decLe}
 use lib.Dec.{eqb}
 use lib.ListN.{length, length-append}
 use lib.Seq.{sets}
-use borrow.Author.Tests.{lt-ltb, le-ltb}
 use Rattle.range.specs.Sum.{sum, count, weigh}
 use Rattle.range.specs.Lists.{joined, stored}
 use Rattle.range.proofs.Sums.{weigh-same}
@@ -17,21 +16,10 @@ use Rattle.hex.proofs.Laws.{length-digits}
 use Rattle.table.specs.Table.{Table, item}
 use Rattle.table.specs.Text.{closingLine, tripleLine}
 use Rattle.table.proofs.Lengths.{length-triple}
-use Rattle.range.proofs.Sets.{sets-then, sets-start}
+use Rattle.range.proofs.Sets.{sets-then}
 use Rattle.cover_theory.specs.Plan.{kept, keptCount, costOf}
 use Rattle.slse.specs.Ordered.{planByte}
-use Rattle.plan_output.specs.Output.{headLine, keptLines, planText, Prints}
-use Rattle.plan_output.specs.declared.Output.the-variants.{Length, Refused}
-
-pub prints-refused : (printed out : List ℕ) → length out < length printed → Prints printed (Refused 8) out out
-prints-refused printed out l =
-    let short = lt-ltb (length out) (length printed) l in
-    record { answer = rw short; out = rw short }
-
-pub prints-done : (printed out out′ : List ℕ) (n : ℕ) → n ≡ length printed → n ≤ length out → out′ ≡ sets out 0 printed → Prints printed (Length n) out out′
-prints-done printed out out′ n e l w =
-    let enough = le-ltb (length out) (length printed) (omega arith) in
-    record { answer = rw (enough, e); out = rw enough (w ∙ sets-start out printed (omega arith)) }
+use Rattle.plan_output.specs.Output.{headLine, keptLines, planText}
 
 -- Lengths.
 

@@ -22,8 +22,9 @@ use Rattle.table_round.proofs.Functions.{answer-read}
 use Rattle.table_round.specs.Same.{Same}
 use Rattle.table_round.specs.Functions.{Slices, tableOf, readingFault, ReadTable}
 use Rattle.table_round.proofs.Tables.{same-fault}
-use Rattle.plan_output.specs.Output.{refusalLine, planText, Prints, Outputs}
-use Rattle.plan_output.specs.declared.Output.{Output}
+use Rattle.output.specs.Output.{refusalLine, Prints}
+use Rattle.output.specs.declared.Output.{Output}
+use Rattle.plan_output.specs.Output.{planText, Outputs}
 use Rattle.plan_output.proofs.Same.{same-plan}
 
 -- slices of the planner's lengths

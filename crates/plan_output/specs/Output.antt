@@ -1,21 +1,15 @@
 -- What the plan program prints: document 01, "Programs". Every printed line is closed by a line feed.
-use Prim.Native.Nat.{ℕ, _+_, _/_, _%_}
-use mathlib.Core.Path.{_≡_}
+use Prim.Native.Nat.{ℕ}
 use mathlib.Core.Bool.{false, cond}
 use mathlib.Core.List.{List, [], _∷_, _++_}
-use lib.Dec.{ltb, eqb}
-use lib.ListN.{length, drop}
+use lib.Dec.{eqb}
 use Rattle.range.specs.Lists.{joined}
 use Rattle.hex.specs.Digits.{digits}
 use Rattle.table.specs.Table.{Table}
 use Rattle.table.specs.Text.{closingLine, tripleLine, ofText, textFault}
 use Rattle.cover_theory.specs.Plan.{kept, keptCount, costOf}
-use Rattle.plan_output.specs.declared.Output.{Output}
-use Rattle.plan_output.specs.declared.Output.the-variants.{Length, Refused}
-
--- "a refusal prints as `e` and three decimal digits"
-abbrev pub refusalLine : ℕ → List ℕ
-refusalLine k = 101 ∷ (k / 100 % 10 + 48) ∷ (k / 10 % 10 + 48) ∷ (k % 10 + 48) ∷ 10 ∷ []
+use Rattle.output.specs.Output.{refusalLine, Prints}
+use Rattle.output.specs.declared.Output.{Output}
 
 -- "table number, kept count (four digits each) and cost (eight)"
 abbrev pub headLine : ℕ → ℕ → ℕ → List ℕ
@@ -34,11 +28,6 @@ abbrev pub outputOf : List ℕ → List ℕ
 outputOf s =
     let fault = textFault 256 2048 false s in
     cond (eqb fault 0) (planText (ofText s)) (refusalLine fault)
-
--- A lent slice is filled from its start, and the bytes beyond stay. The answer is the length printed, or 8 for "a lent .. output slice too short".
-pub record Prints (printed : List ℕ) (r : Output) (before after : List ℕ) : Type 0 where
-  pub answer : r ≡ cond (ltb (length before) (length printed)) (Refused 8) (Length (length printed))
-  pub out : after ≡ cond (ltb (length before) (length printed)) before (printed ++ drop (length printed) before)
 
 -- the promise for the text s
 abbrev pub Outputs : List ℕ → Output → List ℕ → List ℕ → Type 0

@@ -1,5 +1,5 @@
 // The lines that the plan program prints, within the bounds that these functions ask.
-use super::Output;
+use output::Output;
 ghost use mathlib.Core.Path.{_≡_};
 ghost use mathlib.Core.Bool.{cond};
 ghost use mathlib.Core.List.{[]};
@@ -12,22 +12,8 @@ ghost use Rattle.range.specs.Lists.{joined};
 ghost use Rattle.table.specs.Table.{item, ofSlices};
 ghost use Rattle.table.specs.Legal.{tableFault, roomFault};
 ghost use Rattle.table.specs.Text.{tripleLine};
-ghost use Rattle.plan_output.specs.Output.{refusalLine, headLine, planText, Prints};
-
-// A refusal's line.
-pub fn print_refusal(out: &mut [u8], fault: u8) -> Output
-    ensures { λ r. ⌜ Prints (refusalLine fault) r (now (out .entry)) (now (out .exit)) ⌝ }
-{
-    if out.len() < 5 {
-        return Output::Refused(8);
-    }
-    out[0] = b'e';
-    out[1] = fault / 100 % 10 + 48;
-    out[2] = fault / 10 % 10 + 48;
-    out[3] = fault % 10 + 48;
-    out[4] = b'\n';
-    Output::Length(5)
-}
+ghost use Rattle.output.specs.Output.{Prints};
+ghost use Rattle.plan_output.specs.Output.{headLine, planText};
 
 // A plan's first line.
 fn put_head(out: &mut [u8], number: u16, kept: u32, cost: u32)

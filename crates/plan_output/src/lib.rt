@@ -1,13 +1,8 @@
 // The plan of a table's text, as the plan program prints it.
+use output::Output;
 ghost use Rattle.plan_output.specs.Output.{Outputs};
 
 pub mod core;
-
-// The answer: the length printed, or the number of the refusal.
-pub enum Output {
-    Length(usize),
-    Refused(u8),
-}
 
 // Prints the plan of the table that a text gives, or the text's refusal.
 pub fn plan_text(text: &[u8], out: &mut [u8]) -> Output
@@ -34,6 +29,6 @@ pub fn plan_text(text: &[u8], out: &mut [u8]) -> Output
             &highs,
             &costs,
         ),
-        table_read::Reading::Refused(fault) => core::print_refusal(out, fault),
+        table_read::Reading::Refused(fault) => output::core::print_refusal(out, fault),
     }
 }

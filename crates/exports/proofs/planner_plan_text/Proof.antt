@@ -4,7 +4,8 @@ use Rattle.exports.proofs.planner_plan_text.Statement.{statement}
 use Rattle.exports.proofs.planner_plan_text.Tie as tie
 use native.Mathlib.Omega.{arith}
 use Rattle.plan_output.specs.Output.{outputOf}
-use Rattle.plan_output.proofs.Most.{most, printed-within}
+use Rattle.output.proofs.Printing.{printed-within}
+use Rattle.plan_output.proofs.Most.{most}
 use Rattle.exports.proofs.Answers.{outputs-packed}
 
 plan-text-requires : tie.Need-plan-text-requires

@@ -5,7 +5,7 @@ use Rattle.plan.proofs.main.Tie as tie
 use mathlib.Core.Path.{sym}
 use native.Mathlib.Omega.{arith}
 use lib.Seq.{length-take-le}
-use Rattle.plan_output.proofs.Most.{printed-within}
+use Rattle.output.proofs.Printing.{printed-within}
 
 slice-aggregate-read-full : tie.Need-slice-aggregate-read-full
 slice-aggregate-read-full c = search needs

@@ -1,0 +1,18 @@
+-- What is printed into a lent slice: document 01, "Programs". Every printed line is closed by a line feed.
+use Prim.Native.Nat.{ℕ, _+_, _/_, _%_}
+use mathlib.Core.Path.{_≡_}
+use mathlib.Core.Bool.{cond}
+use mathlib.Core.List.{List, [], _∷_, _++_}
+use lib.Dec.{ltb}
+use lib.ListN.{length, drop}
+use Rattle.output.specs.declared.Output.{Output}
+use Rattle.output.specs.declared.Output.the-variants.{Length, Refused}
+
+-- "In both programs a refusal prints as `e` and three decimal digits"
+abbrev pub refusalLine : ℕ → List ℕ
+refusalLine k = 101 ∷ (k / 100 % 10 + 48) ∷ (k / 10 % 10 + 48) ∷ (k % 10 + 48) ∷ 10 ∷ []
+
+-- A lent slice is filled from its start, and the bytes beyond stay. The answer is the length printed, or 8 for "a lent .. output slice too short".
+pub record Prints (printed : List ℕ) (r : Output) (before after : List ℕ) : Type 0 where
+  pub answer : r ≡ cond (ltb (length before) (length printed)) (Refused 8) (Length (length printed))
+  pub out : after ≡ cond (ltb (length before) (length printed)) before (printed ++ drop (length printed) before)
