@@ -1,22 +1,36 @@
 -- A script handled in pieces prints what it prints handled whole.
-use Prim.Native.Nat.{ℕ, zero, suc, _+_}
-use mathlib.Core.Path.{_≡_, refl, sym, _∙_}
+use Prim.Native.Nat.{ℕ, _+_, _*_, _%_}
+use mathlib.Core.Path.{_≡_, refl, sym, _∙_, ap}
 use mathlib.Core.Logic.{_⊎_, inl, inr}
-use mathlib.Core.Bool.{true, false, cond}
+use mathlib.Core.Bool.{Bool, true, false, cond, true≢false}
 use mathlib.Core.List.{List, [], _∷_, _++_, append-nil, append-assoc}
 use native.Mathlib.Omega.{arith}
+use native.Mathlib.Decide.{ℕ-discrete}
 use lib.Dec.{eqb}
-use lib.ListN.{length}
+use lib.ListN.{length, take, length-append}
+use borrow.Author.Tests.{eq-eqb, ne-eqb, eqb-true}
 use Rattle.range.specs.Sum.{sum}
 use Rattle.range.proofs.Bools.{decided}
-use Rattle.range.proofs.Sums.{sum-add}
-use Rattle.fleet_theory.specs.Fleet.{Slices, start, answerTo, next, run, linkChanges, changes, allChanges}
-use Rattle.script_theory.specs.Script.{answerLine, linesFrom, printed, scriptText, Script, afterLine, afterByte, afterPiece, afterEnd, begun, ended}
+use Rattle.range.specs.First.{orElse}
+use Rattle.range.proofs.Faults.{or-right}
+use Rattle.range.proofs.Sums.{sum-add, sum-same, none-count}
+use Rattle.table.specs.Table.{item}
+use Rattle.output.specs.Output.{refusalLine}
+use Rattle.frame.specs.Frame.{frameOf, frameFault}
+use Rattle.rules.specs.Rules.{entryOf}
+use Rattle.fleet_theory.specs.Fleet.{Slices, tableOf, slicesFault, fleetFault, outcomeOf, eventFault, faultOf, State, start, accepted, answerTo, next, run, differs, linkChanges, changes, allChanges, finished}
+use Rattle.fleet_theory.proofs.Run.{Holds, start-holds, fault-is, next-holds}
+use Rattle.script_theory.specs.Script.{answerLine, linesFrom, printed, lastLine, scriptText, Script, afterLine, afterByte, afterPiece, begun, endText}
+use Rattle.script_theory.proofs.Lines.{same-digits, Unclosed, unclosed-none, unclosed-next, unclosed-refused, take-again, short-or-refused}
 
-sum-zero : (n : ℕ) → sum n (λ i. 0) ≡ 0
-unfolding sum
-sum-zero zero = refl
-sum-zero (suc n) = let z = sum-zero n in omega arith
+no-changes : (r : List ℕ) (n : ℕ) → sum n (linkChanges r r) ≡ 0
+no-changes r n = sum-same n (linkChanges r r) (λ i. cond false 1 0) (λ i l. four i) ∙ none-count n (λ i. false) (λ i l e. true≢false (sym e))
+  where
+    byte : (j : ℕ) → differs r r j ≡ 0
+    byte j = rw (eq-eqb (item r j) (item r j) refl)
+
+    four : (i : ℕ) → linkChanges r r i ≡ 0
+    four i = sum-same 4 (λ k. differs r r (4 * i + k)) (λ k. cond false 1 0) (λ k l. byte (4 * i + k)) ∙ none-count 4 (λ k. false) (λ k l e. true≢false (sym e))
 
 module _ (x : Slices) (room : ℕ) where
   pub in-pieces : (p : Script) (a b : List ℕ) → afterPiece x room p (a ++ b) ≡ afterPiece x room (afterPiece x room p a) b
@@ -24,51 +38,103 @@ module _ (x : Slices) (room : ℕ) where
   in-pieces p [] b = refl
   in-pieces p (c ∷ a) b = in-pieces (afterByte x room p c) a b
 
-  -- a script handled to its end: by its lines
-  record ByLines (p q : Script) (ls : List (List ℕ)) : Type 0 where
-    state-is : q .state ≡ run x room (p .state) ls
-    out-is : q .out ≡ p .out ++ printed x room (p .state) ls
-    changed-is : q .changed ≡ p .changed + allChanges x room (p .state) ls
+  -- a script under way beside the state of the list of lines
+  abbrev beside : State → ℕ → List ℕ → List ℕ → Script
+  beside s changed held out = record { bytes = s .bytes; used = length (s .log); changed = changed; held = held; out = out }
 
-  no-lines : (p : Script) → ByLines p p []
-  unfolding run printed changes
-  no-lines p = record { state-is = refl; out-is = sym (append-nil (p .out)); changed-is = let z = sum-zero (x .links) in omega arith }
-
-  one-more : (p q : Script) (l : List ℕ) (ls : List (List ℕ)) → ByLines (afterLine x room p l) q ls → ByLines p q (l ∷ ls)
-  unfolding run printed changes
-  one-more p q l ls b =
-      let s′ = next x room (p .state) l in
-      let total = sum-add (x .links) (linkChanges (p .state .bytes) (s′ .bytes)) (changes x room s′ ls) in
-      record {
-        state-is = b .state-is;
-        out-is = b .out-is ∙ append-assoc (p .out) (answerLine (answerTo x room (p .state) l)) (printed x room s′ ls);
-        changed-is = let c = b .changed-is in omega arith;
-      }
-
-  by-lines : (p : Script) (text : List ℕ) → ByLines p (afterEnd x room (afterPiece x room p text)) (linesFrom (p .held) text)
-  unfolding afterPiece linesFrom
-  by-lines p [] = go (decided (eqb (length (p .held)) 0))
+  line-beside : (s : State) (c : ℕ) (h o l : List ℕ)
+      → afterLine x room (beside s c h o) l ≡ beside (next x room s l) ((c + sum (x .links) (linkChanges (s .bytes) (next x room s l .bytes))) % 4294967296) [] (o ++ answerLine (answerTo x room s l))
+  unfolding next
+  line-beside s c h o l = go (decided (eqb (faultOf x room s l) 0))
     where
-      go : (eqb (length (p .held)) 0 ≡ true) ⊎ (eqb (length (p .held)) 0 ≡ false)
-          → ByLines p (afterEnd x room p) (cond (eqb (length (p .held)) 0) [] (p .held ∷ []))
-      go (inl e) = rw e (no-lines p)
-      go (inr e) = rw e (one-more p (afterLine x room p (p .held)) (p .held) [] (no-lines (afterLine x room p (p .held))))
-  by-lines p (b ∷ bs) = go (decided (eqb b 10)) (λ q. by-lines q bs)
+      go : (eqb (faultOf x room s l) 0 ≡ true) ⊎ (eqb (faultOf x room s l) 0 ≡ false)
+          → afterLine x room (beside s c h o) l
+          ≡ (let s′ = cond (eqb (faultOf x room s l) 0) (accepted x s l) s in
+          beside s′ ((c + sum (x .links) (linkChanges (s .bytes) (s′ .bytes))) % 4294967296) [] (o ++ answerLine (answerTo x room s l)))
+      go (inl e) =
+          let n : length (s .log) + 1 ≡ length (accepted x s l .log) = sym (length-append (s .log) (entryOf (tableOf x) (frameOf l .to) (outcomeOf (tableOf x) (s .bytes) (frameOf l)) ∷ [])) in
+          rw (e, n)
+      go (inr e) = let n : length (s .log) + 0 ≡ length (s .log) = omega arith in rw (e, n)
+
+  -- lines of a wrong length do the same
+  refused-same : (p : Script) (l l′ : List ℕ) → frameFault l ≡ 1 → frameFault l′ ≡ 1 → afterLine x room p l ≡ afterLine x room p l′
+  refused-same p l l′ e e′ =
+      let fleet = fleetFault (tableOf x) (p .bytes) in
+      let some : eqb (orElse (slicesFault x) (orElse fleet 1)) 0 ≡ false =
+          ne-eqb (orElse (slicesFault x) (orElse fleet 1)) 0
+          (λ z. let a = or-right fleet 1 (or-right (slicesFault x) (orElse fleet 1) z) in omega arith) in
+      rw (e, e′, some)
+
+  line-capped : (p : Script) (h : List ℕ) (b : ℕ) → afterLine x room p (take 16 h ++ (b ∷ [])) ≡ afterLine x room p (h ++ (b ∷ []))
+  line-capped p h b = go (short-or-refused h b)
     where
-      h : List ℕ
-      h = p .held ++ (b ∷ [])
+      go : (take 16 h ≡ h) ⊎ ((frameFault (take 16 h ++ (b ∷ [])) ≡ 1) × (frameFault (h ++ (b ∷ [])) ≡ 1)) → afterLine x room p (take 16 h ++ (b ∷ [])) ≡ afterLine x room p (h ++ (b ∷ []))
+      go (inl e) = rw e
+      go (inr (a, c)) = refused-same p (take 16 h ++ (b ∷ [])) (h ++ (b ∷ [])) a c
 
-      go : (eqb b 10 ≡ true) ⊎ (eqb b 10 ≡ false)
-          → ((q : Script) → ByLines q (afterEnd x room (afterPiece x room q bs)) (linesFrom (q .held) bs))
-          → ByLines p (afterEnd x room (afterPiece x room (afterByte x room p b) bs)) (cond (eqb b 10) (h ∷ linesFrom [] bs) (linesFrom h bs))
-      go (inl e) ih = rw e (one-more p (afterEnd x room (afterPiece x room (afterLine x room p h) bs)) h (linesFrom [] bs) (ih (afterLine x room p h)))
-      go (inr e) ih =
-          let r = ih (record { state = p .state; changed = p .changed; held = h; out = p .out }) in
-          rw e (record { state-is = r .state-is; out-is = r .out-is; changed-is = r .changed-is })
+  changes-first : (s : State) (l : List ℕ) (ls : List (List ℕ))
+      → allChanges x room s (l ∷ ls) ≡ sum (x .links) (linkChanges (s .bytes) (next x room s l .bytes)) + allChanges x room (next x room s l) ls
+  unfolding changes
+  changes-first s l ls = sum-add (x .links) (linkChanges (s .bytes) (next x room s l .bytes)) (changes x room (next x room s l) ls)
 
-  -- handled byte by byte from the start, a text prints what it prints whole
-  pub whole : (text : List ℕ) → ended x room (afterPiece x room (begun x) text) ≡ scriptText x room text
-  whole text =
-      let b = by-lines (begun x) text in
-      let c : afterEnd x room (afterPiece x room (begun x) text) .changed ≡ allChanges x room (start x) (linesFrom [] text) = omega (arith, b .changed-is) in
-      rw (b .out-is, b .state-is, c)
+  changes-none : (s : State) → allChanges x room s [] ≡ 0
+  unfolding changes
+  changes-none s = none-count (x .links) (λ i. false) (λ i l e. true≢false (sym e))
+
+  module _ (fine : slicesFault x ≡ 0) where
+    -- all that is printed, from a state and the bytes of an unfinished line
+    abbrev Prints : State → ℕ → List ℕ → List ℕ → List ℕ → Type 0
+    Prints s c h o text =
+        let q = afterPiece x room (beside s c (take 16 h) o) text in
+        let ls = linesFrom h text in
+        q .out ++ endText x q ≡ o ++ (printed x room s ls ++ lastLine (finished (tableOf x) (run x room s ls .bytes)) (c + allChanges x room s ls))
+
+    ends : (s : State) → Holds (tableOf x) s → (c : ℕ) (h o : List ℕ) → Unclosed h → Prints s c h o []
+    unfolding afterPiece linesFrom printed run next
+    ends s hs c [] o u = let z : c + allChanges x room s [] ≡ c = (let n = changes-none s in omega arith) in rw z
+    ends s hs c (a ∷ h) o u =
+        let one = fault-is x fine s hs room (a ∷ h) in
+        let f : faultOf x room s (a ∷ h) ≡ 1 = one ∙ rw (unclosed-refused (a ∷ h) u) in
+        let stays : next x room s (a ∷ h) ≡ s = rw f in
+        let z : c + allChanges x room s ((a ∷ h) ∷ []) ≡ c =
+            (let n = changes-first s (a ∷ h) [] in
+            let m = ap (λ (s′ : State). sum (x .links) (linkChanges (s .bytes) (s′ .bytes)) + allChanges x room s′ []) stays in
+            let k = changes-none s in
+            let w = no-changes (s .bytes) (x .links) in
+            omega arith) in
+        rw (ne-eqb (length (a ∷ h)) 0 (λ e. omega arith), ne-eqb (length (a ∷ take 15 h)) 0 (λ e. omega arith), z, f)
+
+    by-text : (s : State) → Holds (tableOf x) s → (c : ℕ) (h o text : List ℕ) → Unclosed h → Prints s c h o text
+    unfolding afterPiece linesFrom printed run
+    by-text s hs c h o [] u = ends s hs c h o u
+    by-text s hs c h o (b ∷ bs) u = go (decided (eqb b 10)) (λ s′ hs′ c′ h′ o′ u′. by-text s′ hs′ c′ h′ o′ bs u′)
+      where
+        l : List ℕ
+        l = h ++ (b ∷ [])
+
+        go : (eqb b 10 ≡ true) ⊎ (eqb b 10 ≡ false)
+            → ((s′ : State) → Holds (tableOf x) s′ → (c′ : ℕ) (h′ o′ : List ℕ) → Unclosed h′ → Prints s′ c′ h′ o′ bs)
+            → (let q = afterPiece x room (afterByte x room (beside s c (take 16 h) o) b) bs in
+            let ls = cond (eqb b 10) (l ∷ linesFrom [] bs) (linesFrom l bs) in
+            q .out ++ endText x q ≡ o ++ (printed x room s ls ++ lastLine (finished (tableOf x) (run x room s ls .bytes)) (c + allChanges x room s ls)))
+        go (inl e) rest =
+            let s′ = next x room s l in
+            let k : ℕ = sum (x .links) (linkChanges (s .bytes) (s′ .bytes)) in
+            let ls = linesFrom [] bs in
+            let a = answerLine (answerTo x room s l) in
+            let done = lastLine (finished (tableOf x) (run x room s′ ls .bytes)) in
+            let c′ : ℕ = (c + k) % 4294967296 in
+            let r = rest s′ (next-holds x fine s hs room l) c′ [] (o ++ a) unclosed-none in
+            let n = changes-first s l ls in
+            let m : (c′ + allChanges x room s′ ls) % 4294967296 ≡ (c + allChanges x room s (l ∷ ls)) % 4294967296 = omega arith in
+            let d = same-digits (c′ + allChanges x room s′ ls) (c + allChanges x room s (l ∷ ls)) m in
+            rw (e, line-capped (beside s c (take 16 h) o) h b, line-beside s c (take 16 h) o l, ← d)
+            (r ∙ append-assoc o a (printed x room s′ ls ++ done (c′ + allChanges x room s′ ls))
+            ∙ ap (λ (z : List ℕ). o ++ z) (sym (append-assoc a (printed x room s′ ls) (done (c′ + allChanges x room s′ ls)))))
+        go (inr e) rest = rw (e, take-again h b) (rest s hs c l o (unclosed-next h b u e))
+
+    -- a text handled byte by byte from the start, then ended, prints what it prints whole
+    pub whole : (text : List ℕ) → (let q = afterPiece x room (begun x) text in q .out ++ endText x q ≡ scriptText x room text)
+    whole text =
+        let z : 0 + allChanges x room (start x) (linesFrom [] text) ≡ allChanges x room (start x) (linesFrom [] text) = omega arith in
+        rw (← z) (by-text (start x) (start-holds x fine) 0 [] [] text unclosed-none)

@@ -1,20 +1,22 @@
 -- What the script program prints: document 01, "Programs". Every printed line is closed by a line feed.
-use Prim.Native.Nat.{ℕ, _+_}
+use Prim.Native.Nat.{ℕ, _+_, _%_}
 use mathlib.Core.Bool.{Bool, true, cond}
 use mathlib.Core.List.{List, [], _∷_, _++_}
 use lib.Dec.{eqb}
-use lib.ListN.{length, drop, replicate}
+use lib.ListN.{length, take, drop, replicate}
 use Rattle.range.specs.Sum.{sum}
 use Rattle.range.specs.Lists.{stored}
 use Rattle.hex.specs.Digits.{digits}
 use Rattle.table.specs.Table.{Table}
 use Rattle.table.specs.Text.{ofText, textFault, textEnd}
+use Rattle.output.specs.Output.{refusalLine}
 use Rattle.entry.specs.declared.Entry.{Entry}
 use Rattle.entry.specs.declared.Answer.{Answer}
 use Rattle.entry.specs.declared.Answer.the-variants.{Logged, Refused}
-use Rattle.entry.specs.Entry.{codeOf, linkOf, displacedOf}
-use Rattle.plan_output.specs.Output.{refusalLine}
-use Rattle.fleet_theory.specs.Fleet.{Slices, tableOf, State, start, answerTo, next, run, linkChanges, allChanges, finished}
+use Rattle.entry.specs.Entry.{answerOf, codeOf, linkOf, displacedOf}
+use Rattle.frame.specs.Frame.{frameOf}
+use Rattle.rules.specs.Rules.{entryOf}
+use Rattle.fleet_theory.specs.Fleet.{Slices, tableOf, eventFault, outcomeOf, alteredBy, State, start, answerTo, next, run, linkChanges, allChanges, finished}
 
 -- "the entry: probe, what (two digits), link's place in the table from 0, displaced probe; four digits each but for the second"
 abbrev pub entryLine : Entry → List ℕ
@@ -46,8 +48,8 @@ scriptText x room text =
     printed x room (start x) ls ++ lastLine (finished (tableOf x) (run x room (start x) ls .bytes)) (allChanges x room (start x) ls)
 
 -- a table in slices as long as the largest
-abbrev pub slicesOf : Table → Slices
-slicesOf t =
+abbrev pub inSlices : Table → Slices
+inSlices t =
     record {
       number = t .number;
       probes = t .probes;
@@ -62,44 +64,49 @@ slicesOf t =
 abbrev pub scriptOutput : List ℕ → List ℕ
 scriptOutput s =
     let fault = textFault 256 2048 true s in
-    cond (eqb fault 0) (scriptText (slicesOf (ofText s)) 1024 (drop (textEnd (ofText s)) s)) (refusalLine fault)
+    cond (eqb fault 0) (scriptText (inSlices (ofText s)) 1024 (drop (textEnd (ofText s)) s)) (refusalLine fault)
 
--- A script under way: the fleet, the changes so far, the bytes of an unfinished line, and what is printed so far.
+-- A script under way: the fleet's record, the log's used entries, the changes so far, the bytes of an unfinished line, and what is printed so far.
+-- A frame line has 15 bytes, so 16 tell of a line that it is too long; changes are kept as far as eight digits print them.
 pub record Script : Type 0 where
-  pub state : State
+  pub bytes : List ℕ
+  pub used : ℕ
   pub changed : ℕ
   pub held : List ℕ
   pub out : List ℕ
 
--- after a line, a byte, a piece of the text, and the text's end
-abbrev pub afterLine : Slices → ℕ → Script → List ℕ → Script
-afterLine x room p l =
-    let s = p .state in
-    let s′ = next x room s l in
-    record {
-      state = s′;
-      changed = p .changed + sum (x .links) (linkChanges (s .bytes) (s′ .bytes));
-      held = [];
-      out = p .out ++ answerLine (answerTo x room s l);
-    }
+module _ (x : Slices) (room : ℕ) where
+  -- the record after a line
+  abbrev pub bytesAfter : Script → List ℕ → List ℕ
+  bytesAfter p l = cond (eqb (eventFault x (p .bytes) (p .used) room l) 0) (alteredBy (tableOf x) (p .bytes) (frameOf l)) (p .bytes)
 
-abbrev pub afterByte : Slices → ℕ → Script → ℕ → Script
-afterByte x room p b =
-    let h = p .held ++ (b ∷ []) in
-    cond (eqb b 10) (afterLine x room p h) (record { state = p .state; changed = p .changed; held = h; out = p .out })
+  abbrev pub answered : Script → List ℕ → Answer
+  answered p l =
+      answerOf (eventFault x (p .bytes) (p .used) room l) (entryOf (tableOf x) (frameOf l .to) (outcomeOf (tableOf x) (p .bytes) (frameOf l)))
 
-unfoldable pub afterPiece : Slices → ℕ → Script → List ℕ → Script
-afterPiece x room p [] = p
-afterPiece x room p (b ∷ bs) = afterPiece x room (afterByte x room p b) bs
+  -- after a line, a byte, and a piece of the text
+  abbrev pub afterLine : Script → List ℕ → Script
+  afterLine p l =
+      record {
+        bytes = bytesAfter p l;
+        used = p .used + cond (eqb (eventFault x (p .bytes) (p .used) room l) 0) 1 0;
+        changed = (p .changed + sum (x .links) (linkChanges (p .bytes) (bytesAfter p l))) % 4294967296;
+        held = [];
+        out = p .out ++ answerLine (answered p l);
+      }
 
-abbrev pub afterEnd : Slices → ℕ → Script → Script
-afterEnd x room p = cond (eqb (length (p .held)) 0) p (afterLine x room p (p .held))
+  abbrev pub afterByte : Script → ℕ → Script
+  afterByte p b =
+      let h = p .held ++ (b ∷ []) in
+      cond (eqb b 10) (afterLine p h) (record { bytes = p .bytes; used = p .used; changed = p .changed; held = take 16 h; out = p .out })
+
+  unfoldable pub afterPiece : Script → List ℕ → Script
+  afterPiece p [] = p
+  afterPiece p (b ∷ bs) = afterPiece (afterByte p b) bs
 
 abbrev pub begun : Slices → Script
-begun x = record { state = start x; changed = 0; held = []; out = [] }
+begun x = record { bytes = start x .bytes; used = 0; changed = 0; held = []; out = [] }
 
--- what is printed in all
-abbrev pub ended : Slices → ℕ → Script → List ℕ
-ended x room p =
-    let q = afterEnd x room p in
-    q .out ++ lastLine (finished (tableOf x) (q .state .bytes)) (q .changed)
+-- what the text's end prints: a last line without its line feed is refused by 1
+abbrev pub endText : Slices → Script → List ℕ
+endText x p = cond (eqb (length (p .held)) 0) [] (refusalLine 1) ++ lastLine (finished (tableOf x) (p .bytes)) (p .changed)

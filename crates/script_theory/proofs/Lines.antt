@@ -1,0 +1,98 @@
+-- Lines that are refused by 1, and eight digits.
+use Prim.Native.Nat.{ℕ, zero, suc, _+_, _*_, _/_, _%_, _<_, _≤_}
+use mathlib.Core.Path.{_≡_, refl, sym, _∙_, ap}
+use mathlib.Core.Logic.{_⊎_, inl, inr}
+use mathlib.Core.Bool.{true, false, cond}
+use mathlib.Core.List.{List, [], _∷_, _++_}
+use native.Mathlib.Omega.{arith}
+use native.Mathlib.Decide.{ℕ-discrete, decLe}
+use lib.Dec.{eqb}
+use lib.ListN.{length, take, length-append}
+use lib.Seq.{take-all, take-append-le, take-take, length-take-le}
+use borrow.Author.Tests.{ne-eqb, eq-eqb, le-ltb, eqb-true}
+use Rattle.range.specs.First.{orElse}
+use Rattle.range.proofs.Bools.{decided}
+use Rattle.hex.specs.Digits.{digits}
+use Rattle.lines.specs.Line.{untilFeed, lineAt}
+use Rattle.lines.specs.Digits.{lineFault}
+use Rattle.lines.specs.declared.Line.the-variants.{Missing}
+use Rattle.lines.proofs.Lines.{fault-of-missing}
+use Rattle.frame.specs.Frame.{frameFault}
+
+-- 16 ^ w times q
+abbrev shifted : ℕ → ℕ → ℕ
+shifted zero q = q
+shifted (suc w) q = 16 * shifted w q
+
+-- w digits write a number modulo 16 ^ w
+lowest-digits : (w q r : ℕ) → digits w (shifted w q + r) ≡ digits w r
+unfolding digits
+lowest-digits zero q r = refl
+lowest-digits (suc w) q r =
+    let z = shifted w q in
+    let a : (16 * z + r) / 16 ≡ z + r / 16 = omega arith in
+    let b : (16 * z + r) % 16 ≡ r % 16 = omega arith in
+    rw (a, b, lowest-digits w q (r / 16))
+
+eight-digits : (n : ℕ) → digits 8 (n % 4294967296) ≡ digits 8 n
+eight-digits n =
+    let e : shifted 8 (n / 4294967296) + n % 4294967296 ≡ n = omega arith in
+    sym (lowest-digits 8 (n / 4294967296) (n % 4294967296)) ∙ ap (digits 8) e
+
+pub same-digits : (m n : ℕ) → m % 4294967296 ≡ n % 4294967296 → digits 8 m ≡ digits 8 n
+same-digits m n e = sym (eight-digits m) ∙ ap (digits 8) e ∙ eight-digits n
+
+-- "not of its length"
+pub wrong-length : (l : List ℕ) → (length l ≡ 15 → ⊥) → frameFault l ≡ 1
+unfolding frameFault
+wrong-length l n = rw (ne-eqb (length l) 15 n)
+
+-- Bytes without a line feed.
+abbrev pub Unclosed : List ℕ → Type 0
+Unclosed h = untilFeed h ≡ length h
+
+pub unclosed-none : Unclosed []
+unfolding untilFeed
+unclosed-none = refl
+
+pub unclosed-next : (h : List ℕ) (b : ℕ) → Unclosed h → eqb b 10 ≡ false → Unclosed (h ++ (b ∷ []))
+unfolding untilFeed
+unclosed-next [] b u e = rw e
+unclosed-next (a ∷ h) b u e = go (decided (eqb a 10)) u (λ v. unclosed-next h b v e)
+  where
+    go : (eqb a 10 ≡ true) ⊎ (eqb a 10 ≡ false) → cond (eqb a 10) 0 (suc (untilFeed h)) ≡ suc (length h)
+        → (Unclosed h → Unclosed (h ++ (b ∷ []))) → cond (eqb a 10) 0 (suc (untilFeed (h ++ (b ∷ [])))) ≡ suc (length (h ++ (b ∷ [])))
+    go (inl f) v next = absurd (let w = rw f at v in omega arith)
+    go (inr f) v next = let w = rw f at v in rw f (ap suc (next (omega arith)))
+
+pub unclosed-refused : (h : List ℕ) → Unclosed h → frameFault h ≡ 1
+unfolding lineAt frameFault
+unclosed-refused h u = go (ℕ-discrete (length h) 15)
+  where
+    missing : lineAt h 0 .line ≡ Missing
+    missing = let e : 0 + untilFeed h ≡ length h = omega arith in rw (le-ltb (0 + untilFeed h) (length h) (omega arith))
+
+    go : Dec (length h ≡ 15) → frameFault h ≡ 1
+    go (yes e) = rw (eq-eqb (length h) 15 e, ← fault-of-missing h 0 14 missing)
+    go (no n) = wrong-length h n
+
+-- 16 bytes of a longer line do as the line.
+pub take-again : (h : List ℕ) (b : ℕ) → take 16 (take 16 h ++ (b ∷ [])) ≡ take 16 (h ++ (b ∷ []))
+take-again h b = go (decLe (length h) 16)
+  where
+    go : Dec (length h ≤ 16) → take 16 (take 16 h ++ (b ∷ [])) ≡ take 16 (h ++ (b ∷ []))
+    go (yes l) = rw (take-all 16 h l)
+    go (no n) =
+        let l = length-take-le 16 h (omega arith) in
+        take-append-le 16 (take 16 h) (b ∷ []) (omega arith) ∙ take-take 16 16 h (omega arith) ∙ sym (take-append-le 16 h (b ∷ []) (omega arith))
+
+pub short-or-refused : (h : List ℕ) (b : ℕ) → (take 16 h ≡ h) ⊎ ((frameFault (take 16 h ++ (b ∷ [])) ≡ 1) × (frameFault (h ++ (b ∷ [])) ≡ 1))
+short-or-refused h b = go (decLe (length h) 16)
+  where
+    go : Dec (length h ≤ 16) → (take 16 h ≡ h) ⊎ ((frameFault (take 16 h ++ (b ∷ [])) ≡ 1) × (frameFault (h ++ (b ∷ [])) ≡ 1))
+    go (yes l) = inl (take-all 16 h l)
+    go (no n) =
+        let l = length-take-le 16 h (omega arith) in
+        let a = length-append (take 16 h) (b ∷ []) in
+        let c = length-append h (b ∷ []) in
+        inr (wrong-length (take 16 h ++ (b ∷ [])) (λ e. omega arith), wrong-length (h ++ (b ∷ [])) (λ e. omega arith))
