@@ -51,7 +51,7 @@ fleet-good t r e =
     )
 
 -- so 21 lets each end's own bytes pass
-own-passes : (t : Table) (p : ℕ) (r : List ℕ) → first (overTwo r) (4 * t .links) ≡ 0 → first (byteFault t p (own t p r)) (t .links) ≡ 0
+pub own-passes : (t : Table) (p : ℕ) (r : List ℕ) → first (overTwo r) (4 * t .links) ≡ 0 → first (byteFault t p (own t p r)) (t .links) ≡ 0
 own-passes t p r fine = none-first (byteFault t p (own t p r)) (t .links) (λ i l. go i l (decided (touches t p i)))
   where
     small : (j : ℕ) → j < 4 * t .links → item r j ≤ 2

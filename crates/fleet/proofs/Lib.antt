@@ -2,4 +2,3 @@ pub mod Own
 pub mod Checks
 pub mod Counts
 pub mod Calls
-pub mod Changes

@@ -103,7 +103,7 @@ module _ (x : Slices) (fine : slicesFault x ≡ 0) where
         go (p, inr e) = let a = h .good .in-small p (j / 4) in omega arith
 
     -- 20 to 22 let each moment pass
-    fleet-passes : fleetFault t r ≡ 0
+    pub fleet-passes : fleetFault t r ≡ 0
     fleet-passes =
         or-none (cond (eqb (length r) (4 * x .links)) 0 20) (orElse (first byte (4 * x .links)) (first probe (x .probes)))
         (rw (eq-eqb (length r) (4 * x .links) (h .long)))

@@ -1,5 +1,5 @@
 -- Lines that are refused by 1, and eight digits.
-use Prim.Native.Nat.{ℕ, zero, suc, _+_, _*_, _/_, _%_, _<_, _≤_}
+use Prim.Native.Nat.{ℕ, zero, suc, _+_, _*_, _/_, _%_, _≤_}
 use mathlib.Core.Path.{_≡_, refl, sym, _∙_, ap}
 use mathlib.Core.Logic.{_⊎_, inl, inr}
 use mathlib.Core.Bool.{true, false, cond}
@@ -9,12 +9,10 @@ use native.Mathlib.Decide.{ℕ-discrete, decLe}
 use lib.Dec.{eqb}
 use lib.ListN.{length, take, length-append}
 use lib.Seq.{take-all, take-append-le, take-take, length-take-le}
-use borrow.Author.Tests.{ne-eqb, eq-eqb, le-ltb, eqb-true}
-use Rattle.range.specs.First.{orElse}
+use borrow.Author.Tests.{ne-eqb, eq-eqb, le-ltb}
 use Rattle.range.proofs.Bools.{decided}
 use Rattle.hex.specs.Digits.{digits}
 use Rattle.lines.specs.Line.{untilFeed, lineAt}
-use Rattle.lines.specs.Digits.{lineFault}
 use Rattle.lines.specs.declared.Line.the-variants.{Missing}
 use Rattle.lines.proofs.Lines.{fault-of-missing}
 use Rattle.frame.specs.Frame.{frameFault}

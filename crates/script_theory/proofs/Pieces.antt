@@ -2,23 +2,21 @@
 use Prim.Native.Nat.{ℕ, _+_, _*_, _%_}
 use mathlib.Core.Path.{_≡_, refl, sym, _∙_, ap}
 use mathlib.Core.Logic.{_⊎_, inl, inr}
-use mathlib.Core.Bool.{Bool, true, false, cond, true≢false}
-use mathlib.Core.List.{List, [], _∷_, _++_, append-nil, append-assoc}
+use mathlib.Core.Bool.{true, false, cond, true≢false}
+use mathlib.Core.List.{List, [], _∷_, _++_, append-assoc}
 use native.Mathlib.Omega.{arith}
-use native.Mathlib.Decide.{ℕ-discrete}
 use lib.Dec.{eqb}
 use lib.ListN.{length, take, length-append}
-use borrow.Author.Tests.{eq-eqb, ne-eqb, eqb-true}
+use borrow.Author.Tests.{eq-eqb, ne-eqb}
 use Rattle.range.specs.Sum.{sum}
 use Rattle.range.proofs.Bools.{decided}
 use Rattle.range.specs.First.{orElse}
 use Rattle.range.proofs.Faults.{or-right}
 use Rattle.range.proofs.Sums.{sum-add, sum-same, none-count}
 use Rattle.table.specs.Table.{item}
-use Rattle.output.specs.Output.{refusalLine}
 use Rattle.frame.specs.Frame.{frameOf, frameFault}
 use Rattle.rules.specs.Rules.{entryOf}
-use Rattle.fleet_theory.specs.Fleet.{Slices, tableOf, slicesFault, fleetFault, outcomeOf, eventFault, faultOf, State, start, accepted, answerTo, next, run, differs, linkChanges, changes, allChanges, finished}
+use Rattle.fleet_theory.specs.Fleet.{Slices, tableOf, slicesFault, fleetFault, outcomeOf, faultOf, State, start, accepted, answerTo, next, run, differs, linkChanges, changes, allChanges, finished}
 use Rattle.fleet_theory.proofs.Run.{Holds, start-holds, fault-is, next-holds}
 use Rattle.script_theory.specs.Script.{answerLine, linesFrom, printed, lastLine, scriptText, Script, afterLine, afterByte, afterPiece, begun, endText}
 use Rattle.script_theory.proofs.Lines.{same-digits, Unclosed, unclosed-none, unclosed-next, unclosed-refused, take-again, short-or-refused}
@@ -61,8 +59,8 @@ module _ (x : Slices) (room : ℕ) where
   refused-same p l l′ e e′ =
       let fleet = fleetFault (tableOf x) (p .bytes) in
       let some : eqb (orElse (slicesFault x) (orElse fleet 1)) 0 ≡ false =
-          ne-eqb (orElse (slicesFault x) (orElse fleet 1)) 0
-          (λ z. let a = or-right fleet 1 (or-right (slicesFault x) (orElse fleet 1) z) in omega arith) in
+      ne-eqb (orElse (slicesFault x) (orElse fleet 1)) 0
+      (λ z. let a = or-right fleet 1 (or-right (slicesFault x) (orElse fleet 1) z) in omega arith) in
       rw (e, e′, some)
 
   line-capped : (p : Script) (h : List ℕ) (b : ℕ) → afterLine x room p (take 16 h ++ (b ∷ [])) ≡ afterLine x room p (h ++ (b ∷ []))
@@ -97,11 +95,11 @@ module _ (x : Slices) (room : ℕ) where
         let f : faultOf x room s (a ∷ h) ≡ 1 = one ∙ rw (unclosed-refused (a ∷ h) u) in
         let stays : next x room s (a ∷ h) ≡ s = rw f in
         let z : c + allChanges x room s ((a ∷ h) ∷ []) ≡ c =
-            (let n = changes-first s (a ∷ h) [] in
-            let m = ap (λ (s′ : State). sum (x .links) (linkChanges (s .bytes) (s′ .bytes)) + allChanges x room s′ []) stays in
-            let k = changes-none s in
-            let w = no-changes (s .bytes) (x .links) in
-            omega arith) in
+        (let n = changes-first s (a ∷ h) [] in
+        let m = ap (λ (s′ : State). sum (x .links) (linkChanges (s .bytes) (s′ .bytes)) + allChanges x room s′ []) stays in
+        let k = changes-none s in
+        let w = no-changes (s .bytes) (x .links) in
+        omega arith) in
         rw (ne-eqb (length (a ∷ h)) 0 (λ e. omega arith), ne-eqb (length (a ∷ take 15 h)) 0 (λ e. omega arith), z, f)
 
     by-text : (s : State) → Holds (tableOf x) s → (c : ℕ) (h o text : List ℕ) → Unclosed h → Prints s c h o text

@@ -12,9 +12,7 @@ use lib.ListN.{length, set, length-set}
 use lib.Seq.{getD-set-same, getD-set-other}
 use borrow.Author.Tests.{ltb-true, eqb-true, eqb-false, eq-eqb, ne-eqb}
 use Rattle.range.specs.Sum.{sum}
-use Rattle.range.specs.First.{orElse}
 use Rattle.range.proofs.Bools.{and-left, and-right, decided}
-use Rattle.range.proofs.Faults.{or-left, or-right}
 use Rattle.range.proofs.Choice.{Best, nobody, chosen, best-is}
 use Rattle.range.proofs.Sums.{sum-same, sum-add, sum-one, none-count}
 use Rattle.table.specs.Table.{Table, item, touches, spare, dearer, cheaper}
@@ -23,19 +21,24 @@ use Rattle.cover_theory.proofs.Places.{opposite}
 use Rattle.cover_theory.proofs.Order.{dearer-order}
 use Rattle.bargain.proofs.Bytes.{legal-sound}
 use Rattle.record.specs.Record.{outbound, inbound, ownWith, standing, held, dearestUntried, cheapestHeld}
-use Rattle.frame.specs.Frame.{frameOf}
+use Rattle.frame.specs.Frame.{Frame, frameOf}
+use Rattle.entry.specs.declared.Entry.{Entry}
+use Rattle.entry.specs.declared.Answer.{Answer}
+use Rattle.entry.specs.Entry.{answerOf}
 use Rattle.rules.specs.declared.Event.{Event}
 use Rattle.rules.specs.declared.Event.the-variants.{Opening, Offer, Refusal}
 use Rattle.rules.specs.declared.Outcome.{Outcome}
 use Rattle.rules.specs.declared.Outcome.the-variants.{Opened, NothingToOpen, Taken, Displacing, Refused, Learnt, NoChange}
-use Rattle.rules.specs.Rules.{befalls, offer, whatOf}
-use Rattle.fleet_theory.specs.Fleet.{outAt, inAt, own, Slices, tableOf, slicesFault, lineFault, eventOf, outcomeOf, alterFleet, State, start, faultOf, answerTo, accepted, next, differs, linkChanges, changes, allChanges}
+use Rattle.rules.specs.Rules.{befalls, offer, whatOf, entryOf}
+use Rattle.fleet_theory.specs.Fleet.{outAt, inAt, own, Slices, tableOf, slicesFault, fleetFault, eventFault, eventOf, outcomeOf, alterFleet, alteredBy, State, start, faultOf, answerTo, accepted, next, differs, linkChanges, changes, allChanges}
 use Rattle.fleet_theory.proofs.Own.{out-reads, in-reads}
 use Rattle.rules.specs.Within.{OwnLink, OwnOutcome}
 use Rattle.record.proofs.Search.{dearest}
-use Rattle.fleet_theory.proofs.Events.{unsentOf, line-step}
-use Rattle.fleet_theory.proofs.Run.{slices-legal, Holds, fullFault, start-holds, fault-is, next-holds}
-use Rattle.fleet.specs.Answers.{changesOf, changesBy, changesIn}
+use Rattle.fleet_theory.proofs.Events.{line-step}
+use Rattle.fleet_theory.proofs.Run.{slices-legal, Holds, start-holds, fleet-passes, next-holds}
+use Rattle.fleet.specs.Answers.{Handled, changesOf, changesBy, changesIn}
+use Rattle.fleet.proofs.Checks.{fleet-good}
+use Rattle.fleet_laws.proofs.Passing.{passed-line}
 
 -- what an outcome stores differs from what stood there; e are the probe's own bytes
 abbrev NewBytes : List ℕ → Outcome → Type 0
@@ -192,35 +195,45 @@ module _ (x : Slices) (fine : slicesFault x ≡ 0) (room : ℕ) where
   t = tableOf x
 
   -- an accepted line alters as many bytes as its entry says, and a refused one none
-  pub line-changes : (s : State) → Holds t s → (l : List ℕ) → sum (x .links) (linkChanges (s .bytes) (next x room s l .bytes)) ≡ changesBy (answerTo x room s l)
-  unfolding next
-  line-changes s h l = go (ℕ-discrete (faultOf x room s l) 0)
+  pub line-changes : (r : List ℕ) → fleetFault t r ≡ 0 → (used : ℕ) (l : List ℕ) (answer : Answer) (after : List ℕ) → Handled x used room l answer r after
+      → sum (x .links) (linkChanges r after) ≡ changesBy answer
+  line-changes r good used l answer after h = rw (h .answer, h .record-after) (go (ℕ-discrete (eventFault x r used room l) 0))
     where
-      r : List ℕ
-      r = s .bytes
+      f : Frame
+      f = frameOf l
 
-      passed : faultOf x room s l ≡ 0 → sum (x .links) (linkChanges r (accepted x s l .bytes)) ≡ changesOf (whatOf t (frameOf l .to) (outcomeOf t r (frameOf l)))
+      long : length r ≡ 4 * x .links
+      long = fleet-good t r good .0
+
+      entry : Entry
+      entry = entryOf t (f .to) (outcomeOf t r f)
+
+      passed : eventFault x r used room l ≡ 0 → sum (x .links) (linkChanges r (alteredBy t r f)) ≡ changesOf (entry .what)
       passed e =
-          let f = frameOf l in
-          let unsent : ℕ = unsentOf t r f in
-          let full : ℕ = fullFault (length (s .log)) room in
-          let a = sym (fault-is x fine s h room l) ∙ e in
-          let line = or-left (lineFault t l) (orElse unsent full) a in
-          let sent = or-left unsent full (or-right (lineFault t l) (orElse unsent full) a) in
-          let step = line-step t (slices-legal x fine) r (h .long) l line sent in
-          outcome-changes t (f .to) r (h .long) (outcomeOf t r f) (step .own-links) (befalls-new t (slices-legal x fine) (f .to) (own t (f .to) r) (eventOf t f))
+          let p = passed-line x r used room l e in
+          let step = line-step t (slices-legal x fine) r long l (p .0) (p .1) in
+          outcome-changes t (f .to) r long (outcomeOf t r f) (step .own-links) (befalls-new t (slices-legal x fine) (f .to) (own t (f .to) r) (eventOf t f))
 
-      go : Dec (faultOf x room s l ≡ 0)
-          → sum (x .links) (linkChanges r ((cond (eqb (faultOf x room s l) 0) (accepted x s l) s) .bytes)) ≡ changesBy (answerTo x room s l)
+      go : Dec (eventFault x r used room l ≡ 0)
+          → sum (x .links) (linkChanges r (cond (eqb (eventFault x r used room l) 0) (alteredBy t r f) r)) ≡ changesBy (answerOf (eventFault x r used room l) entry)
       go (yes e) = rw e (passed e)
-      go (no d) = rw (ne-eqb (faultOf x room s l) 0 d) (no-change (x .links) r (h .long))
+      go (no d) = rw (ne-eqb (eventFault x r used room l) 0 d) (no-change (x .links) r long)
+
+  -- a step of the list of lines is a line handled
+  next-handled : (s : State) (l : List ℕ) → Handled x (length (s .log)) room l (answerTo x room s l) (s .bytes) (next x room s l .bytes)
+  unfolding next
+  next-handled s l = record { answer = refl; record-after = go (eqb (faultOf x room s l) 0) }
+    where
+      go : (b : Bool) → (cond b (accepted x s l) s) .bytes ≡ cond b (alteredBy t (s .bytes) (frameOf l)) (s .bytes)
+      go true = refl
+      go false = refl
 
   -- "The count the script program prints is their sum over the accepted events."
   list-changes : (s : State) → Holds t s → (ls : List (List ℕ)) → allChanges x room s ls ≡ changesIn x room s ls
   unfolding changes changesIn
   list-changes s h [] = none-count (x .links) (λ i. false) (λ i l e. true≢false (sym e))
   list-changes s h (l ∷ ls) =
-      let a = line-changes s h l in
+      let a = line-changes (s .bytes) (fleet-passes x fine s h) (length (s .log)) l _ _ (next-handled s l) in
       let b = list-changes (next x room s l) (next-holds x fine s h room l) ls in
       let c = sum-add (x .links) (linkChanges (s .bytes) (next x room s l .bytes)) (changes x room (next x room s l) ls) in
       omega arith
