@@ -21,7 +21,9 @@ use Rattle.rules.specs.declared.Event.{Event}
 use Rattle.probe.specs.Answers.{Befallen, Asks}
 use Rattle.probe.specs.declared.Kind.{Kind}
 use Rattle.probe.specs.declared.Asked.{Asked}
-use Rattle.exports.specs.Packed.{packedAnswer, BefallenPacked, packedAsked, AsksPacked, packedOutput, OutputsPacked, packedPlanning, PlansPacked, TurnsPacked, packedReading, packedWriting, ReadsPacked, WritesPacked}
+use Rattle.fleet_theory.specs.Fleet.{Slices}
+use Rattle.fleet.specs.Answers.{Handled}
+use Rattle.exports.specs.Packed.{packedAnswer, BefallenPacked, HandledPacked, packedAsked, AsksPacked, packedOutput, OutputsPacked, packedPlanning, PlansPacked, TurnsPacked, packedReading, packedWriting, ReadsPacked, WritesPacked}
 
 pub reads-packed : (fault : ℕ) (t : Site) (a : Reading) (r : ℕ) (needs needs′ lows lows′ highs highs′ costs costs′ : List ℕ)
     → Reads fault t a needs needs′ lows lows′ highs highs′ costs costs′ → r ≡ packedReading a → ReadsPacked fault t r needs needs′ lows lows′ highs highs′ costs costs′
@@ -64,3 +66,8 @@ pub asks-packed : (fault : ℕ) (t : Site) (p : ℕ) (k : Kind) (i : ℕ) (rec :
     → AsksPacked fault t p k i rec r before after
 asks-packed fault t p k i rec a r before after g e =
     record { answer = e ∙ ap packedAsked (g .answer); lent = record { answer = refl; line = g .line } }
+
+pub handled-packed : (x : Slices) (used room : ℕ) (line : List ℕ) (a : Answer) (r : ℕ) (before after : List ℕ) → Handled x used room line a before after → r ≡ packedAnswer a
+    → HandledPacked x used room line r before after
+handled-packed x used room line a r before after g e =
+    record { answer = e ∙ ap packedAnswer (g .answer); lent = record { answer = refl; record-after = g .record-after } }

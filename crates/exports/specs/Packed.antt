@@ -28,6 +28,11 @@ use Rattle.probe.specs.declared.Asked.{Asked}
 use Rattle.probe.specs.declared.Asked.the-variants.{Written, NotNow, Refused as Unasked}
 use Rattle.probe.specs.declared.Resting.{Resting}
 use Rattle.probe.specs.declared.Resting.the-variants.{Rests, Refused as Untold}
+use Rattle.frame.specs.Frame.{frameOf}
+use Rattle.fleet_theory.specs.Fleet.{Slices, tableOf, eventFault, outcomeOf}
+use Rattle.fleet.specs.Answers.{Handled}
+use Rattle.fleet.specs.declared.Finishing.{Finishing}
+use Rattle.fleet.specs.declared.Finishing.the-variants.{Says, Refused as Unsaid}
 
 -- the table's number, probe count and link count, 16 bits each, the link count lowest
 abbrev pub packedReading : Reading → ℕ
@@ -62,6 +67,11 @@ packedAsked (Unasked refusal) = refusal
 abbrev pub packedResting : Resting → ℕ
 packedResting (Rests rests) = 2 ^ 48 + cond rests 1 0
 packedResting (Untold refusal) = refusal
+
+-- 1 where the fleet is finished
+abbrev pub packedFinishing : Finishing → ℕ
+packedFinishing (Says finished) = 2 ^ 48 + cond finished 1 0
+packedFinishing (Unsaid refusal) = refusal
 
 -- the answer to asking by the fault found and whether the frame may be sent
 abbrev pub askedOf : ℕ → Bool → Asked
@@ -98,3 +108,7 @@ pub record BefallenPacked (fault : ℕ) (t : Site) (p : ℕ) (event : Event) (r 
 pub record AsksPacked (fault : ℕ) (t : Site) (p : ℕ) (k : Kind) (i : ℕ) (e : List ℕ) (r : ℕ) (before after : List ℕ) : Type 0 where
   pub answer : r ≡ packedAsked (askedOf fault (sendable (askedEvent k i) e))
   pub lent : Asks fault t p k i e (askedOf fault (sendable (askedEvent k i) e)) before after
+
+pub record HandledPacked (x : Slices) (used room : ℕ) (line : List ℕ) (r : ℕ) (before after : List ℕ) : Type 0 where
+  pub answer : r ≡ packedAnswer (answerOf (eventFault x before used room line) (entryOf (tableOf x) (frameOf line .to) (outcomeOf (tableOf x) before (frameOf line))))
+  pub lent : Handled x used room line (answerOf (eventFault x before used room line) (entryOf (tableOf x) (frameOf line .to) (outcomeOf (tableOf x) before (frameOf line)))) before after

@@ -7,19 +7,13 @@ use lib.Dec.{eqb}
 use lib.ListN.{set}
 use Rattle.table.specs.Table.{Table}
 use Rattle.entry.specs.declared.Entry.{Entry}
-use Rattle.entry.specs.declared.What.the-variants.{NothingToOpen}
 use Rattle.entry.specs.declared.Answer.{Answer}
-use Rattle.entry.specs.declared.Answer.the-variants.{Logged, Refused}
 use Rattle.rules.specs.declared.Event.{Event}
 use Rattle.entry.specs.Entry.{answerOf}
 use Rattle.rules.specs.Rules.{befalls, alter, entryOf}
 use Rattle.probe.specs.Answers.{Befallen}
-use Rattle.probe_log.specs.declared.Told.{Told}
-
--- where the entry goes: behind the used ones, or past the log's end where there is none
-abbrev pub toldOf : ℕ → ℕ → Answer → Told
-toldOf used room (Logged e) = record { at = used; entry = e; answer = Logged e }
-toldOf used room (Refused n) = record { at = room; entry = record { probe = 0; what = NothingToOpen }; answer = Refused n }
+use Rattle.wake_log.specs.declared.core.Told.{Told}
+use Rattle.wake_log.specs.Log.{toldOf}
 
 -- the call's answer and record as without a log; the log has the entry behind its used ones, or is unchanged
 pub record Logs (fault : ℕ) (t : Table) (p : ℕ) (event : Event) (r : Answer) (before after : List ℕ) (used : ℕ) (log log′ : List Entry) : Type 0 where

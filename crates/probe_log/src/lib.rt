@@ -1,5 +1,4 @@
 // The events of one end with its wake log: a lent slice of entries, and the count of its used ones.
-ghost use mathlib.Core.Path.{_≡_};
 ghost use Prim.Native.Nat.{_-_};
 ghost use lib.ListN.{length};
 ghost use Rattle.table.specs.Table.{ofSlices};
@@ -8,43 +7,8 @@ ghost use Rattle.frame.specs.Frame.{frameOf};
 ghost use Rattle.rules.specs.declared.Event.the-variants.{Opening};
 ghost use Rattle.rules.specs.Frames.{heardOf};
 ghost use Rattle.probe.specs.Checks.{hearFault, openFault};
-ghost use Rattle.probe_log.specs.Logged.{toldOf, ToldCall, Logs};
-
-// An answer, with its entry and the entry's place in the log.
-pub struct Told {
-    pub at: usize,
-    pub entry: entry::Entry,
-    pub answer: entry::Answer,
-}
-
-fn free(used: usize, room: usize) -> usize
-    ensures { λ r. ⌜ r ≡ room - used ⌝ }
-{
-    if room < used {
-        return 0;
-    }
-    room - used
-}
-
-fn tell(answer: entry::Answer, used: usize, room: usize) -> Told
-    ensures { λ r. ⌜ r ≡ toldOf used room answer ⌝ }
-{
-    match answer {
-        entry::Answer::Logged(e) => Told {
-            at: used,
-            entry: e,
-            answer: entry::Answer::Logged(e),
-        },
-        entry::Answer::Refused(n) => Told {
-            at: room,
-            entry: entry::Entry {
-                probe: 0,
-                what: entry::What::NothingToOpen,
-            },
-            answer: entry::Answer::Refused(n),
-        },
-    }
-}
+ghost use Rattle.probe_log.specs.Logged.{ToldCall, Logs};
+use wake_log::core::Told;
 
 fn open_told(
     number: u16,
@@ -75,9 +39,9 @@ fn open_told(
         costs,
         probe,
         rec,
-        free(used, room),
+        wake_log::core::free(used, room),
     );
-    tell(answer, used, room)
+    wake_log::core::tell(answer, used, room)
 }
 
 fn hear_told(
@@ -112,9 +76,9 @@ fn hear_told(
         probe,
         rec,
         frame,
-        free(used, room),
+        wake_log::core::free(used, room),
     );
-    tell(answer, used, room)
+    wake_log::core::tell(answer, used, room)
 }
 
 // The probe opens; the entry goes behind the used ones.

@@ -3,6 +3,8 @@ ghost use mathlib.Core.Path.{_≡_};
 ghost use lib.ListN.{getD, set};
 ghost use Rattle.wake_log.specs.Log.{noEntry};
 
+pub mod core;
+
 // Stores an entry at its place; past the log's end nothing is stored.
 pub fn append(log: &mut [entry::Entry], used: usize, e: entry::Entry)
     ensures { λ _. ⌜ now (log .exit) ≡ set (now (log .entry)) used e ⌝ }

@@ -51,9 +51,9 @@ use Rattle.rules.specs.declared.Event.the-variants.{Opening}
 use Rattle.probe.specs.Checks.{openFault}
 use Rattle.probe_log.specs.Logged.{ToldCall}
 use Rattle.probe_log.proofs.Stored.{stored}
-use Rattle.probe_log.specs.declared.Told.{Told}
-use Rattle.probe_log.proofs.Told as K
-use Rattle.probe_log.proofs.Told.Laws as K′
+use Rattle.wake_log.specs.declared.core.Told.{Told}
+use Rattle.wake_log.proofs.core.Told as K
+use Rattle.wake_log.proofs.core.Told.Laws as K′
 use Rattle.entry.proofs.Answer as R
 use Rattle.entry.proofs.Answer.Laws as R′
 use Rattle.probe_log.proofs.open_told as open-told

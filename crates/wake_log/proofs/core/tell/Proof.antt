@@ -1,7 +1,7 @@
--- `probe_log::tell` meets its contract.
+-- `wake_log::core::tell` meets its contract.
 use borrow.Author.Needs.{needs}
-use Rattle.probe_log.proofs.tell.Statement.{statement}
-use Rattle.probe_log.proofs.tell.Tie as tie
+use Rattle.wake_log.proofs.core.tell.Statement.{statement}
+use Rattle.wake_log.proofs.core.tell.Tie as tie
 
 enum-known-answer : tie.Need-enum-known-answer
 enum-known-answer c = search needs

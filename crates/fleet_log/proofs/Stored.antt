@@ -1,0 +1,19 @@
+-- A line's clause with the entry stored.
+use Prim.Native.Nat.{ℕ}
+use mathlib.Core.Path.{_≡_}
+use mathlib.Core.List.{List}
+use lib.ListN.{length, set}
+use Rattle.frame.specs.Frame.{frameOf}
+use Rattle.entry.specs.declared.Entry.{Entry}
+use Rattle.rules.specs.Rules.{entryOf}
+use Rattle.wake_log.specs.declared.core.Told.{Told}
+use Rattle.wake_log.proofs.Stored as wake
+use Rattle.fleet_theory.specs.Fleet.{Slices, tableOf, eventFault, outcomeOf}
+use Rattle.fleet_log.specs.Logged.{ToldLine, Logs}
+
+pub stored : (x : Slices) (used : ℕ) (line : List ℕ) (r : Told) (before after : List ℕ) (log log′ : List Entry)
+    → ToldLine x used (length log) line r before after → log′ ≡ set log (r .at) (r .entry)
+    → Logs x used line (r .answer) before after log log′
+stored x used line r before after log log′ c s =
+    let is = wake.stored (eventFault x before used (length log) line) used (entryOf (tableOf x) (frameOf line .to) (outcomeOf (tableOf x) before (frameOf line))) r log log′ (c .told) s in
+    record { handled = record { answer = is .0; record-after = c .record-after }; log-after = is .1 }

@@ -1,0 +1,24 @@
+-- `fleet_log::event_told` meets its contract.
+use borrow.Author.Needs.{needs}
+use Rattle.fleet_log.proofs.event_told.Statement.{statement}
+use Rattle.fleet_log.proofs.event_told.Tie as tie
+use mathlib.Core.Path.{_∙_, ap}
+use Rattle.wake_log.specs.Log.{toldOf}
+
+event-requires : tie.Need-event-requires
+event-requires c κs = search needs
+
+tell-requires : tie.Need-tell-requires
+tell-requires c κs = search needs
+
+same-length : tie.Need-same-length
+same-length c = search needs
+
+returns : tie.Need-returns
+returns c =
+    let a = c .before .before .before .before .before .before .before .before .before .before .before .args in
+    let b = c .before .before .before .event .ensures in
+    record { told = c .tell .ensures ∙ ap (toldOf (a .used) (a .room)) (b .answer); record-after = b .record-after }
+
+pub event-told-spec : {M : Type 1} → statement M
+event-told-spec = tie.close (tie.spec event-requires tell-requires same-length returns)
