@@ -1,4 +1,5 @@
 // The entries of the wake log, and the answer to an event.
+pub mod core;
 
 // What befell a probe, with the link where there is one, by its place in the table.
 pub enum What {

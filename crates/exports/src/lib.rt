@@ -200,54 +200,6 @@ pub extern "C" fn planner_plan_text(text: &[u8], out: &mut [u8]) -> u64
     }
 }
 
-// 01's code of what befell a probe.
-fn code(what: What) -> u8
-    ensures { λ r. ⌜ r ≡ codeOf what ⌝ }
-{
-    match what {
-        What::Opened(_) => 0,
-        What::NothingToOpen => 1,
-        What::Taken(_) => 2,
-        What::TakenDisplacing {
-            link: _,
-            displaced: _,
-        } => 3,
-        What::Refused(_) => 4,
-        What::RefusalLearnt(_) => 5,
-        What::NoChange(_) => 6,
-    }
-}
-
-// The link's place, or ffff.
-fn link_place(what: What) -> u16
-    ensures { λ r. ⌜ r ≡ linkOf what ⌝ }
-{
-    match what {
-        What::Opened(link) => link,
-        What::NothingToOpen => 65535,
-        What::Taken(link) => link,
-        What::TakenDisplacing { link, displaced: _ } => link,
-        What::Refused(link) => link,
-        What::RefusalLearnt(link) => link,
-        What::NoChange(link) => link,
-    }
-}
-
-// The displaced probe, or ffff.
-fn displaced_probe(what: What) -> u16
-    ensures { λ r. ⌜ r ≡ displacedOf what ⌝ }
-{
-    match what {
-        What::Opened(_) => 65535,
-        What::NothingToOpen => 65535,
-        What::Taken(_) => 65535,
-        What::TakenDisplacing { link: _, displaced } => displaced,
-        What::Refused(_) => 65535,
-        What::RefusalLearnt(_) => 65535,
-        What::NoChange(_) => 65535,
-    }
-}
-
 fn packed_answer(r: Answer) -> u64
     ensures { λ n. ⌜ n ≡ packedAnswer r ⌝ }
 {
@@ -256,9 +208,9 @@ fn packed_answer(r: Answer) -> u64
             let what = e.what;
             9223372036854775808
                 + (e.probe as u64) * 1099511627776
-                + (code(what) as u64) * 4294967296
-                + (link_place(what) as u64) * 65536
-                + (displaced_probe(what) as u64)
+                + (entry::core::code(what) as u64) * 4294967296
+                + (entry::core::link_place(what) as u64) * 65536
+                + (entry::core::displaced_probe(what) as u64)
         }
         Answer::Refused(refusal) => refusal as u64,
     }

@@ -85,7 +85,7 @@ module _ (x : Slices) (room : ℕ) where
     Prints s c h o text =
         let q = afterPiece x room (beside s c (take 16 h) o) text in
         let ls = linesFrom h text in
-        q .out ++ endText x q ≡ o ++ (printed x room s ls ++ lastLine (finished (tableOf x) (run x room s ls .bytes)) (c + allChanges x room s ls))
+        q .out ++ endText x (q .bytes) (length (q .held)) (q .changed) ≡ o ++ (printed x room s ls ++ lastLine (finished (tableOf x) (run x room s ls .bytes)) (c + allChanges x room s ls))
 
     ends : (s : State) → Holds (tableOf x) s → (c : ℕ) (h o : List ℕ) → Unclosed h → Prints s c h o []
     unfolding afterPiece linesFrom printed run next
@@ -114,7 +114,7 @@ module _ (x : Slices) (room : ℕ) where
             → ((s′ : State) → Holds (tableOf x) s′ → (c′ : ℕ) (h′ o′ : List ℕ) → Unclosed h′ → Prints s′ c′ h′ o′ bs)
             → (let q = afterPiece x room (afterByte x room (beside s c (take 16 h) o) b) bs in
             let ls = cond (eqb b 10) (l ∷ linesFrom [] bs) (linesFrom l bs) in
-            q .out ++ endText x q ≡ o ++ (printed x room s ls ++ lastLine (finished (tableOf x) (run x room s ls .bytes)) (c + allChanges x room s ls)))
+            q .out ++ endText x (q .bytes) (length (q .held)) (q .changed) ≡ o ++ (printed x room s ls ++ lastLine (finished (tableOf x) (run x room s ls .bytes)) (c + allChanges x room s ls)))
         go (inl e) rest =
             let s′ = next x room s l in
             let k : ℕ = sum (x .links) (linkChanges (s .bytes) (s′ .bytes)) in
@@ -132,7 +132,7 @@ module _ (x : Slices) (room : ℕ) where
         go (inr e) rest = rw (e, take-again h b) (rest s hs c l o (unclosed-next h b u e))
 
     -- a text handled byte by byte from the start, then ended, prints what it prints whole
-    pub whole : (text : List ℕ) → (let q = afterPiece x room (begun x) text in q .out ++ endText x q ≡ scriptText x room text)
+    pub whole : (text : List ℕ) → (let q = afterPiece x room (begun x) text in q .out ++ endText x (q .bytes) (length (q .held)) (q .changed) ≡ scriptText x room text)
     whole text =
         let z : 0 + allChanges x room (start x) (linesFrom [] text) ≡ allChanges x room (start x) (linesFrom [] text) = omega arith in
         rw (← z) (by-text (start x) (start-holds x fine) 0 [] [] text unclosed-none)

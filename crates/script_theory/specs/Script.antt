@@ -107,6 +107,6 @@ module _ (x : Slices) (room : ℕ) where
 abbrev pub begun : Slices → Script
 begun x = record { bytes = start x .bytes; used = 0; changed = 0; held = []; out = [] }
 
--- what the text's end prints: a last line without its line feed is refused by 1
-abbrev pub endText : Slices → Script → List ℕ
-endText x p = cond (eqb (length (p .held)) 0) [] (refusalLine 1) ++ lastLine (finished (tableOf x) (p .bytes)) (p .changed)
+-- what the text's end prints, by the record, the number of bytes of an unfinished line and the changes: a last line without its line feed is refused by 1
+abbrev pub endText : Slices → List ℕ → ℕ → ℕ → List ℕ
+endText x bytes held changed = cond (eqb held 0) [] (refusalLine 1) ++ lastLine (finished (tableOf x) bytes) changed
