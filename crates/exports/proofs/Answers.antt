@@ -23,7 +23,8 @@ use Rattle.probe.specs.declared.Kind.{Kind}
 use Rattle.probe.specs.declared.Asked.{Asked}
 use Rattle.fleet_theory.specs.Fleet.{Slices}
 use Rattle.fleet.specs.Answers.{Handled}
-use Rattle.exports.specs.Packed.{packedAnswer, BefallenPacked, HandledPacked, packedAsked, AsksPacked, packedOutput, OutputsPacked, packedPlanning, PlansPacked, TurnsPacked, packedReading, packedWriting, ReadsPacked, WritesPacked}
+use Rattle.packing.specs.Packed.{packedReading, packedWriting, packedPlanning, packedOutput, packedAnswer, packedAsked}
+use Rattle.exports.specs.Packed.{BefallenPacked, HandledPacked, AsksPacked, OutputsPacked, PlansPacked, TurnsPacked, ReadsPacked, WritesPacked}
 
 pub reads-packed : (fault : ℕ) (t : Site) (a : Reading) (r : ℕ) (needs needs′ lows lows′ highs highs′ costs costs′ : List ℕ)
     → Reads fault t a needs needs′ lows lows′ highs highs′ costs costs′ → r ≡ packedReading a → ReadsPacked fault t r needs needs′ lows lows′ highs highs′ costs costs′
@@ -42,9 +43,9 @@ pub turns-packed : (fault : ℕ) (t : Site) (a : Planning) (r : ℕ) (before aft
 turns-packed fault t a r before after work work′ g e =
     record { answer = e ∙ ap packedPlanning (g .plans .answer); lent = record { plans = record { answer = refl; plan = g .plans .plan }; cleared = g .cleared } }
 
-pub writes-packed : (fault : ℕ) (t : Site) (a b : Writing) (r : ℕ) (before after : List ℕ) → Writes fault t a before after → a ≡ b → r ≡ packedWriting b → WritesPacked fault t r before after
-writes-packed fault t a b r before after g e f =
-    record { answer = f ∙ ap packedWriting (sym e ∙ g .answer); lent = record { answer = refl; out = g .out } }
+pub writes-packed : (fault : ℕ) (t : Site) (a : Writing) (r : ℕ) (before after : List ℕ) → Writes fault t a before after → r ≡ packedWriting a → WritesPacked fault t r before after
+writes-packed fault t a r before after g e =
+    record { answer = e ∙ ap packedWriting (g .answer); lent = record { answer = refl; out = g .out } }
 
 -- a length that is answered is that of the text
 pub length-is : (fault : ℕ) (t : Site) (a : Writing) (n : ℕ) (before after : List ℕ) → Writes fault t a before after → a ≡ Length n → n ≡ textEnd t
@@ -54,8 +55,8 @@ length-is fault t a n before after g e = go (eqb fault 0) (sym e ∙ g .answer)
     go true h = cc
     go false h = let z : _≡_ {A = ℕ} 0 1 = cc in absurd (omega arith)
 
-pub outputs-packed : (text : List ℕ) (a b : Output) (r : ℕ) (before after : List ℕ) → Outputs text a before after → a ≡ b → r ≡ packedOutput b → OutputsPacked text r before after
-outputs-packed text a b r before after g e f = record { answered = a; answer = f ∙ ap packedOutput (sym e); lent = g }
+pub outputs-packed : (text : List ℕ) (a : Output) (r : ℕ) (before after : List ℕ) → Outputs text a before after → r ≡ packedOutput a → OutputsPacked text r before after
+outputs-packed text a r before after g e = record { answered = a; answer = e; lent = g }
 
 pub befallen-packed : (fault : ℕ) (t : Site) (p : ℕ) (event : Event) (a : Answer) (r : ℕ) (before after : List ℕ) → Befallen fault t p event a before after → r ≡ packedAnswer a
     → BefallenPacked fault t p event r before after

@@ -10,7 +10,6 @@ ghost use Rattle.table.specs.Text.{ofText, readFault};
 ghost use Rattle.table_write.specs.Writing.{writeFault};
 ghost use Rattle.cover.specs.Planning.{planFault, turnsFault};
 ghost use Rattle.frame.specs.Frame.{frameOf};
-ghost use Rattle.entry.specs.Entry.{codeOf, linkOf, displacedOf};
 ghost use Rattle.rules.specs.declared.Event.the-variants.{Opening};
 ghost use Rattle.rules.specs.Rules.{rests};
 ghost use Rattle.rules.specs.Frames.{heardOf};
@@ -19,18 +18,9 @@ ghost use Rattle.probe.specs.Checks.{hearFault, openFault, linkCallFault};
 ghost use Rattle.probe.specs.Answers.{lentFault, restingOf};
 ghost use Rattle.fleet_theory.specs.Fleet.{tableOf, slicesFault, fleetFault, finished};
 ghost use Rattle.fleet.specs.Answers.{slicesOf, finishingOf};
-ghost use Rattle.exports.specs.Packed.{packedReading, packedPlanning, packedAnswer, packedAsked, packedResting, packedFinishing, ReadsPacked, WritesPacked, PlansPacked, TurnsPacked, OutputsPacked, BefallenPacked, AsksPacked, HandledPacked};
-use cover::Planning;
-use entry::Answer;
-use entry::What;
-use fleet::Finishing;
-use output::Output;
-use probe::Asked;
+ghost use Rattle.packing.specs.Packed.{packedResting, packedFinishing};
+ghost use Rattle.exports.specs.Packed.{ReadsPacked, WritesPacked, PlansPacked, TurnsPacked, OutputsPacked, BefallenPacked, AsksPacked, HandledPacked};
 use probe::Kind;
-use probe::Resting;
-use table::Checking;
-use table_read::Reading;
-use table_write::Writing;
 
 // `table::check_table`: 0 where the table is fine.
 #[no_mangle]
@@ -45,27 +35,7 @@ pub extern "C" fn planner_check_table(
 ) -> u8
     ensures { λ r. ⌜ r ≡ refusalOf (checkingOf (sliceFault 256 2048 number probes links (now (needs .entry)) (now (lows .entry)) (now (highs .entry)) (now (costs .entry)))) ⌝ }
 {
-    match table::check_table(number, probes, links, needs, lows, highs, costs) {
-        Checking::Fine => 0,
-        Checking::Refused(refusal) => refusal,
-    }
-}
-
-fn packed_reading(r: Reading) -> u64
-    ensures { λ n. ⌜ n ≡ packedReading r ⌝ }
-{
-    match r {
-        Reading::Table {
-            number,
-            probes,
-            links,
-            rest: _,
-        } => 281474976710656
-            + (number as u64) * 4294967296
-            + (probes as u64) * 65536
-            + (links as u64),
-        Reading::Refused(refusal) => refusal as u64,
-    }
+    packing::refusal_of(table::check_table(number, probes, links, needs, lows, highs, costs))
 }
 
 // `table_read::read_table`, its answer packed.
@@ -83,7 +53,7 @@ pub extern "C" fn planner_read_table(
         (now (needs .entry)) (now (needs .exit)) (now (lows .entry)) (now (lows .exit))
         (now (highs .entry)) (now (highs .exit)) (now (costs .entry)) (now (costs .exit)) ⌝ }
 {
-    packed_reading(table_read::read_table(text, needs, lows, highs, costs))
+    packing::packed_reading(table_read::read_table(text, needs, lows, highs, costs))
 }
 
 // `table_read::read_table_prefix`, its answer packed.
@@ -101,7 +71,7 @@ pub extern "C" fn planner_read_table_prefix(
         (now (needs .entry)) (now (needs .exit)) (now (lows .entry)) (now (lows .exit))
         (now (highs .entry)) (now (highs .exit)) (now (costs .entry)) (now (costs .exit)) ⌝ }
 {
-    packed_reading(table_read::read_table_prefix(text, needs, lows, highs, costs))
+    packing::packed_reading(table_read::read_table_prefix(text, needs, lows, highs, costs))
 }
 
 // `table_write::write_table`, its answer packed.
@@ -121,21 +91,16 @@ pub extern "C" fn planner_write_table(
         (ofSlices number probes links (now (needs .entry)) (now (lows .entry)) (now (highs .entry)) (now (costs .entry)))
         r (now (out .entry)) (now (out .exit)) ⌝ }
 {
-    match table_write::write_table(number, probes, links, needs, lows, highs, costs, out) {
-        Writing::Length(length) => length as u64 + 281474976710656,
-        Writing::Refused(refusal) => refusal as u64,
-    }
-}
-
-fn packed_planning(r: Planning) -> u64
-    ensures { λ n. ⌜ n ≡ packedPlanning r ⌝ }
-{
-    match r {
-        Planning::Plan { kept, cost } => 281474976710656
-            + (kept as u64) * 4294967296
-            + (cost as u64),
-        Planning::Refused(refusal) => refusal as u64,
-    }
+    packing::packed_writing(table_write::write_table(
+        number,
+        probes,
+        links,
+        needs,
+        lows,
+        highs,
+        costs,
+        out,
+    ))
 }
 
 // `cover::plan_by_slse`, its answer packed.
@@ -155,7 +120,16 @@ pub extern "C" fn planner_plan_slse(
         (ofSlices number probes links (now (needs .entry)) (now (lows .entry)) (now (highs .entry)) (now (costs .entry)))
         r (now (plan .entry)) (now (plan .exit)) ⌝ }
 {
-    packed_planning(cover::plan_by_slse(number, probes, links, needs, lows, highs, costs, plan))
+    packing::packed_planning(cover::plan_by_slse(
+        number,
+        probes,
+        links,
+        needs,
+        lows,
+        highs,
+        costs,
+        plan,
+    ))
 }
 
 // `cover::plan_by_turns`, its answer packed.
@@ -176,7 +150,7 @@ pub extern "C" fn planner_plan_turns(
         (ofSlices number probes links (now (needs .entry)) (now (lows .entry)) (now (highs .entry)) (now (costs .entry)))
         r (now (plan .entry)) (now (plan .exit)) (now (work .entry)) (now (work .exit)) ⌝ }
 {
-    packed_planning(cover::plan_by_turns(
+    packing::packed_planning(cover::plan_by_turns(
         number,
         probes,
         links,
@@ -194,26 +168,7 @@ pub extern "C" fn planner_plan_turns(
 pub extern "C" fn planner_plan_text(text: &[u8], out: &mut [u8]) -> u64
     ensures { λ r. ⌜ OutputsPacked (now (text .entry)) r (now (out .entry)) (now (out .exit)) ⌝ }
 {
-    match plan_output::plan_text(text, out) {
-        Output::Length(length) => length as u64 + 281474976710656,
-        Output::Refused(refusal) => refusal as u64,
-    }
-}
-
-fn packed_answer(r: Answer) -> u64
-    ensures { λ n. ⌜ n ≡ packedAnswer r ⌝ }
-{
-    match r {
-        Answer::Logged(e) => {
-            let what = e.what;
-            9223372036854775808
-                + (e.probe as u64) * 1099511627776
-                + (entry::core::code(what) as u64) * 4294967296
-                + (entry::core::link_place(what) as u64) * 65536
-                + (entry::core::displaced_probe(what) as u64)
-        }
-        Answer::Refused(refusal) => refusal as u64,
-    }
+    packing::packed_output(plan_output::plan_text(text, out))
 }
 
 // `probe::open`, its answer packed.
@@ -236,7 +191,7 @@ pub extern "C" fn planner_probe_open(
         (ofSlices number probes links (now (needs .entry)) (now (lows .entry)) (now (highs .entry)) (now (costs .entry))) probe Opening
         r (now (rec .entry)) (now (rec .exit)) ⌝ }
 {
-    packed_answer(probe::open(
+    packing::packed_answer(probe::open(
         number,
         probes,
         links,
@@ -272,7 +227,7 @@ pub extern "C" fn planner_probe_hear(
         (heardOf (ofSlices number probes links (now (needs .entry)) (now (lows .entry)) (now (highs .entry)) (now (costs .entry))) (frameOf (now (frame .entry))))
         r (now (rec .entry)) (now (rec .exit)) ⌝ }
 {
-    packed_answer(probe::hear(
+    packing::packed_answer(probe::hear(
         number,
         probes,
         links,
@@ -285,16 +240,6 @@ pub extern "C" fn planner_probe_hear(
         frame,
         free,
     ))
-}
-
-fn packed_asked(r: Asked) -> u64
-    ensures { λ n. ⌜ n ≡ packedAsked r ⌝ }
-{
-    match r {
-        Asked::Written => 281474976710657,
-        Asked::NotNow => 281474976710656,
-        Asked::Refused(refusal) => refusal as u64,
-    }
 }
 
 // `probe::ask` for an offer, its answer packed.
@@ -318,7 +263,7 @@ pub extern "C" fn planner_probe_ask_offer(
         (ofSlices number probes links (now (needs .entry)) (now (lows .entry)) (now (highs .entry)) (now (costs .entry))) probe Offer link (now (rec .entry))
         r (now (out .entry)) (now (out .exit)) ⌝ }
 {
-    packed_asked(probe::ask(
+    packing::packed_asked(probe::ask(
         number,
         probes,
         links,
@@ -355,7 +300,7 @@ pub extern "C" fn planner_probe_ask_refusal(
         (ofSlices number probes links (now (needs .entry)) (now (lows .entry)) (now (highs .entry)) (now (costs .entry))) probe Refusal link (now (rec .entry))
         r (now (out .entry)) (now (out .exit)) ⌝ }
 {
-    packed_asked(probe::ask(
+    packing::packed_asked(probe::ask(
         number,
         probes,
         links,
@@ -369,20 +314,6 @@ pub extern "C" fn planner_probe_ask_refusal(
         link,
         out,
     ))
-}
-
-fn packed_resting(r: Resting) -> u64
-    ensures { λ n. ⌜ n ≡ packedResting r ⌝ }
-{
-    match r {
-        Resting::Rests(rests) => {
-            if rests {
-                return 281474976710657;
-            }
-            281474976710656
-        }
-        Resting::Refused(refusal) => refusal as u64,
-    }
 }
 
 // `probe::rests`, its answer packed.
@@ -404,7 +335,7 @@ pub extern "C" fn planner_probe_rests(
         (ofSlices number probes links (now (needs .entry)) (now (lows .entry)) (now (highs .entry)) (now (costs .entry))) probe (now (rec .entry)) link)
         (rests (now (rec .entry)) link)) ⌝ }
 {
-    packed_resting(probe::rests(
+    packing::packed_resting(probe::rests(
         number,
         probes,
         links,
@@ -436,7 +367,7 @@ pub extern "C" fn planner_fleet_event(
     ensures { λ r. ⌜ HandledPacked (slicesOf number probes links (now (needs .entry)) (now (lows .entry)) (now (highs .entry)) (now (costs .entry)))
         used room (now (line .entry)) r (now (rec .entry)) (now (rec .exit)) ⌝ }
 {
-    packed_answer(fleet::event(
+    packing::packed_answer(fleet::event(
         number,
         probes,
         links,
@@ -449,21 +380,6 @@ pub extern "C" fn planner_fleet_event(
         used,
         room,
     ))
-}
-
-fn packed_finishing(r: Finishing) -> u64
-    ensures { λ n. ⌜ n ≡ packedFinishing r ⌝ }
-{
-    match r {
-        Finishing::Says(finished) => {
-            if finished {
-                281474976710657
-            } else {
-                281474976710656
-            }
-        }
-        Finishing::Refused(refusal) => refusal as u64,
-    }
 }
 
 // `fleet::finished`, its answer packed.
@@ -483,5 +399,14 @@ pub extern "C" fn planner_fleet_finished(
         (fleetFault (tableOf (slicesOf number probes links (now (needs .entry)) (now (lows .entry)) (now (highs .entry)) (now (costs .entry)))) (now (rec .entry))))
         (finished (tableOf (slicesOf number probes links (now (needs .entry)) (now (lows .entry)) (now (highs .entry)) (now (costs .entry)))) (now (rec .entry)))) ⌝ }
 {
-    packed_finishing(fleet::finished(number, probes, links, needs, lows, highs, costs, rec))
+    packing::packed_finishing(fleet::finished(
+        number,
+        probes,
+        links,
+        needs,
+        lows,
+        highs,
+        costs,
+        rec,
+    ))
 }

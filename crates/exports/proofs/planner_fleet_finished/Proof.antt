@@ -3,7 +3,7 @@ use borrow.Author.Needs.{needs}
 use Rattle.exports.proofs.planner_fleet_finished.Statement.{statement}
 use Rattle.exports.proofs.planner_fleet_finished.Tie as tie
 use mathlib.Core.Path.{_∙_, ap}
-use Rattle.exports.specs.Packed.{packedFinishing}
+use Rattle.packing.specs.Packed.{packedFinishing}
 
 finished-requires : tie.Need-finished-requires
 finished-requires c κs = search needs

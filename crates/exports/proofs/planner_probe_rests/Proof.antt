@@ -3,7 +3,7 @@ use borrow.Author.Needs.{needs}
 use Rattle.exports.proofs.planner_probe_rests.Statement.{statement}
 use Rattle.exports.proofs.planner_probe_rests.Tie as tie
 use mathlib.Core.Path.{_∙_, ap}
-use Rattle.exports.specs.Packed.{packedResting}
+use Rattle.packing.specs.Packed.{packedResting}
 
 rests-requires : tie.Need-rests-requires
 rests-requires c κs = search needs

@@ -1,7 +1,7 @@
--- `exports::packed_planning` meets its contract.
+-- `packing::packed_planning` meets its contract.
 use borrow.Author.Needs.{needs}
-use Rattle.exports.proofs.packed_planning.Statement.{statement}
-use Rattle.exports.proofs.packed_planning.Tie as tie
+use Rattle.packing.proofs.packed_planning.Statement.{statement}
+use Rattle.packing.proofs.packed_planning.Tie as tie
 
 enum-known-r : tie.Need-enum-known-r
 enum-known-r c = search needs

@@ -1,7 +1,7 @@
--- `exports::packed_answer` meets its contract.
+-- `packing::packed_answer` meets its contract.
 use borrow.Author.Needs.{needs}
-use Rattle.exports.proofs.packed_answer.Statement.{statement}
-use Rattle.exports.proofs.packed_answer.Tie as tie
+use Rattle.packing.proofs.packed_answer.Statement.{statement}
+use Rattle.packing.proofs.packed_answer.Tie as tie
 
 enum-known-r : tie.Need-enum-known-r
 enum-known-r c = search needs
