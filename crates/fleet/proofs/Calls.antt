@@ -23,7 +23,7 @@ use Rattle.rules.proofs.Outcomes.{entry-same, befalls-same}
 use Rattle.fleet_theory.specs.Fleet.{Slices, tableOf, slicesFault, own, fleetFault, lineFault, eventOf, unsentFault, eventFault, outcomeOf, alterFleet, alteredBy, State, faultOf, answerTo, accepted, next}
 use Rattle.fleet.specs.declared.Finishing.the-variants as finishing
 use Rattle.fleet.specs.Answers.{slicesOf, Handled, finishingOf}
-use Rattle.fleet.proofs.Own.{own-same, fleet-same}
+use Rattle.fleet_theory.proofs.Own.{own-same, fleet-same}
 
 refused-answer : (fault n : ℕ) (entry : Entry) → n ≡ fault → (n ≡ 0 → ⊥) → Refused n ≡ answerOf fault entry
 refused-answer fault n entry e some = rw (← e, ne-eqb n 0 some)

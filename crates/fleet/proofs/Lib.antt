@@ -1,4 +1,2 @@
-pub mod Own
 pub mod Checks
-pub mod Counts
 pub mod Calls

@@ -29,7 +29,7 @@ pub fn event(
     ensures { λ r. ⌜ Handled (slicesOf number probes links (now (needs .entry)) (now (lows .entry)) (now (highs .entry)) (now (costs .entry)))
         used room (now (line .entry)) r (now (rec .entry)) (now (rec .exit)) ⌝ }
 {
-    let fault = core::state_fault(
+    let fault = fleet_checks::core::state_fault(
         probes as usize,
         links as usize,
         needs,
@@ -72,7 +72,7 @@ pub fn finished(
         (fleetFault (tableOf (slicesOf number probes links (now (needs .entry)) (now (lows .entry)) (now (highs .entry)) (now (costs .entry)))) (now (rec .entry))))
         (finished (tableOf (slicesOf number probes links (now (needs .entry)) (now (lows .entry)) (now (highs .entry)) (now (costs .entry)))) (now (rec .entry))) ⌝ }
 {
-    let fault = core::state_fault(
+    let fault = fleet_checks::core::state_fault(
         probes as usize,
         links as usize,
         needs,
@@ -84,5 +84,12 @@ pub fn finished(
     if fault != 0 {
         return Finishing::Refused(fault);
     }
-    Finishing::Says(core::is_finished(probes as usize, links as usize, needs, lows, highs, rec))
+    Finishing::Says(fleet_finished::core::is_finished(
+        probes as usize,
+        links as usize,
+        needs,
+        lows,
+        highs,
+        rec,
+    ))
 }

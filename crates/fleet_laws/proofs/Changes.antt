@@ -37,7 +37,7 @@ use Rattle.record.proofs.Search.{dearest}
 use Rattle.fleet_theory.proofs.Events.{line-step}
 use Rattle.fleet_theory.proofs.Run.{slices-legal, Holds, start-holds, fleet-passes, next-holds}
 use Rattle.fleet.specs.Answers.{Handled, changesOf, changesBy, changesIn}
-use Rattle.fleet.proofs.Checks.{fleet-good}
+use Rattle.fleet_checks.proofs.Checks.{fleet-good}
 use Rattle.fleet_laws.proofs.Passing.{passed-line}
 
 -- what an outcome stores differs from what stood there; e are the probe's own bytes

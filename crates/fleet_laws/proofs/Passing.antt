@@ -27,8 +27,8 @@ use Rattle.fleet_theory.proofs.Bytes.{length-altered}
 use Rattle.fleet_theory.proofs.Events.{Says, an-opening, an-offer, a-refusal, says, unsentOf, NotUnsent, line-step}
 use Rattle.fleet_theory.proofs.Run.{slices-legal}
 use Rattle.fleet_theory.proofs.Alone.{own-altered, own-else}
-use Rattle.fleet.specs.Within.{overTwo}
-use Rattle.fleet.proofs.Checks.{fleet-good, own-passes}
+use Rattle.fleet_checks.specs.Faults.{overTwo}
+use Rattle.fleet_checks.proofs.Checks.{fleet-good, own-passes}
 
 -- an accepted line has passed the checks before 27, and 27
 pub passed-line : (x : Slices) (r : List ℕ) (used room : ℕ) (l : List ℕ) → eventFault x r used room l ≡ 0 → (lineFault (tableOf x) l ≡ 0) × NotUnsent (tableOf x) r (frameOf l)

@@ -13,12 +13,12 @@ use lib.Seq.{getD-set-same, getD-set-other}
 use borrow.Author.Tests.{eqb-true}
 use Rattle.range.proofs.Bools.{decided}
 use Rattle.range.proofs.Lists.{length-joined, joined-at}
-use Rattle.table.specs.Table.{Table, item, touches}
+use Rattle.table.specs.Table.{Table, item, ofSlices, touches}
 use Rattle.record.specs.Record.{outbound, inbound}
 use Rattle.rules.specs.Within.{OwnLink}
 use Rattle.bargain.proofs.State.{store, Same}
 use Rattle.bargain.proofs.Bytes.{Cell, here, there, cell}
-use Rattle.fleet_theory.specs.Fleet.{outAt, inAt, ownPair, own}
+use Rattle.fleet_theory.specs.Fleet.{outAt, inAt, ownPair, own, fleetFault}
 
 -- the bytes of all ends, by probe and link
 abbrev pub outOf : Table → List ℕ → ℕ → ℕ → ℕ
@@ -52,14 +52,14 @@ module _ (t : Table) where
   unfolding own
   own-at p r i j l m = joined-at (ownPair t p r) 2 (t .links) i j (two p r) l m
 
-  out-is : (p : ℕ) (r : List ℕ) (i : ℕ) → i < t .links → outOf t r p i ≡ cond (touches t p i) (item r (outAt t p i)) 0
+  pub out-is : (p : ℕ) (r : List ℕ) (i : ℕ) → i < t .links → outOf t r p i ≡ cond (touches t p i) (item r (outAt t p i)) 0
   out-is p r i l = ap (item (own t p r)) (sym (add-zero (2 * i))) ∙ own-at p r i 0 l (omega arith) ∙ go (touches t p i)
     where
       go : (b : Bool) → getD (cond b (item r (outAt t p i) ∷ item r (inAt t p i) ∷ []) (0 ∷ 0 ∷ [])) 0 0 ≡ cond b (item r (outAt t p i)) 0
       go true = refl
       go false = refl
 
-  in-is : (p : ℕ) (r : List ℕ) (i : ℕ) → i < t .links → inOf t r p i ≡ cond (touches t p i) (item r (inAt t p i)) 0
+  pub in-is : (p : ℕ) (r : List ℕ) (i : ℕ) → i < t .links → inOf t r p i ≡ cond (touches t p i) (item r (inAt t p i)) 0
   in-is p r i l = own-at p r i 1 l (omega arith) ∙ go (touches t p i)
     where
       go : (b : Bool) → getD (cond b (item r (outAt t p i) ∷ item r (inAt t p i) ∷ []) (0 ∷ 0 ∷ [])) 1 0 ≡ cond b (item r (inAt t p i)) 0
@@ -163,3 +163,14 @@ module _ (t : Table) where
                 ∙ getD-set-other r (at p i) (at q j) v 0 (λ e. let c = reads .apart p i q j a b e in d (c .0) (c .1))
                 ∙ sym (reads .own-byte r q j b)
             sure (inr b) = reads .no-byte (set r (at p i) v) q j b ∙ sym (reads .no-byte r q j b)
+
+-- what the own bytes and the record's checks take from the table
+pub own-same : (number probes links : ℕ) (needs lows highs costs : List ℕ) (p : ℕ) (r : List ℕ)
+    → own (ofSlices 0 0 links [] lows highs []) p r ≡ own (ofSlices number probes links needs lows highs costs) p r
+unfolding own
+own-same number probes links needs lows highs costs p r = refl
+
+pub fleet-same : (number probes links : ℕ) (needs lows highs costs : List ℕ) (r : List ℕ)
+    → fleetFault (ofSlices 0 probes links needs lows highs []) r ≡ fleetFault (ofSlices number probes links needs lows highs costs) r
+unfolding own
+fleet-same number probes links needs lows highs costs r = refl

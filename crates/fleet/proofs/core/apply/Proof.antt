@@ -12,8 +12,9 @@ use Rattle.rules.specs.declared.Outcome.{Outcome}
 use Rattle.rules.specs.Rules.{befalls, entryOf}
 use Rattle.rules.proofs.Outcomes.{befalls-within, within-wider, entry-same}
 use Rattle.fleet_theory.specs.Fleet.{alterFleet}
-use Rattle.fleet.proofs.Own.{own-same}
-use Rattle.fleet.proofs.Checks.{legal-size, own-ready}
+use Rattle.fleet_theory.proofs.Own.{own-same}
+use Rattle.fleet_counts.proofs.Legal.{legal-size}
+use Rattle.fleet.proofs.Checks.{own-ready}
 
 slice-aggregate-own-bytes : tie.Need-slice-aggregate-own-bytes
 slice-aggregate-own-bytes c = search needs

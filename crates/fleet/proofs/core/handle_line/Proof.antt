@@ -6,7 +6,8 @@ use mathlib.Core.Path.{sym, _∙_}
 use native.Mathlib.Omega.{arith}
 use Rattle.table.specs.Table.{ofSlices}
 use Rattle.table.proofs.Slices.{given}
-use Rattle.fleet.proofs.Checks.{fleet-good, checked, line-frame, line-within, line-to}
+use Rattle.fleet_checks.proofs.Checks.{fleet-good}
+use Rattle.fleet.proofs.Checks.{checked, line-frame, line-within, line-to}
 use Rattle.fleet.proofs.Calls.{unsent-is, line-refused, unsent-refused, full-refused, line-accepted}
 
 line-fault-requires : tie.Need-line-fault-requires

@@ -1,0 +1,3 @@
+// The checks of a fleet's record.
+
+pub mod core;

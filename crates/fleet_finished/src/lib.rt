@@ -1,0 +1,2 @@
+// Whether a fleet is finished.
+pub mod core;

@@ -1,0 +1,108 @@
+// The ends' own bytes in the fleet's record: where they stand, their reading and their change.
+ghost use mathlib.Core.Path.{_≡_};
+ghost use mathlib.Core.Bool.{cond};
+ghost use mathlib.Core.List.{[]};
+ghost use Prim.Native.Nat.{_+_, _*_, _/_, _<_, _≤_};
+ghost use lib.ListN.{length, take};
+ghost use Rattle.table.specs.Table.{item, ofSlices, touches};
+ghost use Rattle.rules.specs.Within.{Within};
+ghost use Rattle.fleet_theory.specs.Fleet.{outAt, inAt, own, alterFleet};
+
+// Where the probe's outbound byte on a link stands.
+fn out_at(lows: &[u16], probe: usize, i: usize) -> usize
+    requires { ⌜ (i < length (now lows)) × (i < 65536) ⌝ }
+    ensures { λ r. ⌜ r ≡ outAt (ofSlices 0 0 0 [] (now (lows .entry)) [] []) probe i ⌝ }
+{
+    if probe == table::core::wide(lows[i]) {
+        return 4 * i;
+    }
+    4 * i + 2
+}
+
+// Where its inbound byte stands.
+fn in_at(lows: &[u16], probe: usize, i: usize) -> usize
+    requires { ⌜ (i < length (now lows)) × (i < 65536) ⌝ }
+    ensures { λ r. ⌜ r ≡ inAt (ofSlices 0 0 0 [] (now (lows .entry)) [] []) probe i ⌝ }
+{
+    if probe == table::core::wide(lows[i]) {
+        return 4 * i + 3;
+    }
+    4 * i + 1
+}
+
+// The probe's outbound byte on a link, 0 where the link is not its own.
+pub fn out_byte(rec: &[u8], lows: &[u16], highs: &[u16], probe: usize, i: usize) -> u8
+    requires { ⌜ (i < length (now lows)) × (i < length (now highs)) × (i < 65536) × (4 * i + 3 < length (now rec)) ⌝ }
+    ensures { λ r. ⌜ r ≡ cond (touches (ofSlices 0 0 0 [] (now (lows .entry)) (now (highs .entry)) []) probe i) (item (now (rec .entry)) (outAt (ofSlices 0 0 0 [] (now (lows .entry)) [] []) probe i)) 0 ⌝ }
+{
+    if !record::core::touches(lows, highs, probe, i) {
+        return 0;
+    }
+    let at = out_at(lows, probe, i);
+    rec[at]
+}
+
+// Its inbound byte.
+pub fn in_byte(rec: &[u8], lows: &[u16], highs: &[u16], probe: usize, i: usize) -> u8
+    requires { ⌜ (i < length (now lows)) × (i < length (now highs)) × (i < 65536) × (4 * i + 3 < length (now rec)) ⌝ }
+    ensures { λ r. ⌜ r ≡ cond (touches (ofSlices 0 0 0 [] (now (lows .entry)) (now (highs .entry)) []) probe i) (item (now (rec .entry)) (inAt (ofSlices 0 0 0 [] (now (lows .entry)) [] []) probe i)) 0 ⌝ }
+{
+    if !record::core::touches(lows, highs, probe, i) {
+        return 0;
+    }
+    let at = in_at(lows, probe, i);
+    rec[at]
+}
+
+// Fills the start with the probe's own bytes.
+pub fn own_bytes(
+    bytes: &mut [u8],
+    rec: &[u8],
+    links: usize,
+    lows: &[u16],
+    highs: &[u16],
+    probe: usize,
+)
+    requires { ⌜ (2 * links ≤ length (now bytes)) × (4 * links ≤ length (now rec)) × (links ≤ length (now lows)) × (links ≤ length (now highs)) × (links ≤ 65536) ⌝ }
+    ensures { λ _. ⌜ take (2 * links) (now (bytes .exit)) ≡ own (ofSlices 0 0 links [] (now (lows .entry)) (now (highs .entry)) []) probe (now (rec .entry)) ⌝ }
+{
+    let mut i = 0;
+    while i < links {
+        bytes[2 * i] = out_byte(rec, lows, highs, probe, i);
+        bytes[2 * i + 1] = in_byte(rec, lows, highs, probe, i);
+        i += 1;
+    }
+}
+
+// Alters the fleet's record by what befell the probe.
+pub fn alter_fleet(rec: &mut [u8], outcome: rules::Outcome, lows: &[u16], probe: usize)
+    requires { ⌜ (Within (length (now rec) / 4) outcome) × (Within (length (now lows)) outcome) × (Within 65536 outcome) ⌝ }
+    ensures { λ _. ⌜ now (rec .exit) ≡ alterFleet (ofSlices 0 0 0 [] (now (lows .entry)) [] []) probe outcome (now (rec .entry)) ⌝ }
+{
+    match outcome {
+        rules::Outcome::Opened(i) => {
+            let at = out_at(lows, probe, i);
+            rec[at] = 1;
+        }
+        rules::Outcome::NothingToOpen => {}
+        rules::Outcome::Taken(i) => {
+            let at = in_at(lows, probe, i);
+            rec[at] = 1;
+        }
+        rules::Outcome::Displacing { link, displaced } => {
+            let at = in_at(lows, probe, link);
+            let next = in_at(lows, probe, displaced);
+            rec[at] = 1;
+            rec[next] = 2;
+        }
+        rules::Outcome::Refused(i) => {
+            let at = in_at(lows, probe, i);
+            rec[at] = 2;
+        }
+        rules::Outcome::Learnt(i) => {
+            let at = out_at(lows, probe, i);
+            rec[at] = 2;
+        }
+        rules::Outcome::NoChange(_) => {}
+    }
+}

@@ -1,0 +1,3 @@
+// The ends' own bytes in the fleet's record: where they stand, their reading and their change.
+
+pub mod core;
