@@ -20,6 +20,15 @@ ghost use Rattle.fleet_theory.specs.Fleet.{tableOf, slicesFault, fleetFault, fi
 ghost use Rattle.fleet.specs.Answers.{slicesOf, finishingOf};
 ghost use Rattle.packing.specs.Packed.{packedResting, packedFinishing};
 ghost use Rattle.exports.specs.Packed.{ReadsPacked, WritesPacked, PlansPacked, TurnsPacked, OutputsPacked, BefallenPacked, AsksPacked, HandledPacked};
+use packing::packed_answer;
+use packing::packed_asked;
+use packing::packed_finishing;
+use packing::packed_output;
+use packing::packed_planning;
+use packing::packed_reading;
+use packing::packed_resting;
+use packing::packed_writing;
+use packing::refusal_of;
 use probe::Kind;
 
 // `table::check_table`: 0 where the table is fine.
@@ -35,7 +44,7 @@ pub extern "C" fn planner_check_table(
 ) -> u8
     ensures { λ r. ⌜ r ≡ refusalOf (checkingOf (sliceFault 256 2048 number probes links (now (needs .entry)) (now (lows .entry)) (now (highs .entry)) (now (costs .entry)))) ⌝ }
 {
-    packing::refusal_of(table::check_table(number, probes, links, needs, lows, highs, costs))
+    refusal_of(table::check_table(number, probes, links, needs, lows, highs, costs))
 }
 
 // `table_read::read_table`, its answer packed.
@@ -53,7 +62,7 @@ pub extern "C" fn planner_read_table(
         (now (needs .entry)) (now (needs .exit)) (now (lows .entry)) (now (lows .exit))
         (now (highs .entry)) (now (highs .exit)) (now (costs .entry)) (now (costs .exit)) ⌝ }
 {
-    packing::packed_reading(table_read::read_table(text, needs, lows, highs, costs))
+    packed_reading(table_read::read_table(text, needs, lows, highs, costs))
 }
 
 // `table_read::read_table_prefix`, its answer packed.
@@ -71,7 +80,7 @@ pub extern "C" fn planner_read_table_prefix(
         (now (needs .entry)) (now (needs .exit)) (now (lows .entry)) (now (lows .exit))
         (now (highs .entry)) (now (highs .exit)) (now (costs .entry)) (now (costs .exit)) ⌝ }
 {
-    packing::packed_reading(table_read::read_table_prefix(text, needs, lows, highs, costs))
+    packed_reading(table_read::read_table_prefix(text, needs, lows, highs, costs))
 }
 
 // `table_write::write_table`, its answer packed.
@@ -91,16 +100,7 @@ pub extern "C" fn planner_write_table(
         (ofSlices number probes links (now (needs .entry)) (now (lows .entry)) (now (highs .entry)) (now (costs .entry)))
         r (now (out .entry)) (now (out .exit)) ⌝ }
 {
-    packing::packed_writing(table_write::write_table(
-        number,
-        probes,
-        links,
-        needs,
-        lows,
-        highs,
-        costs,
-        out,
-    ))
+    packed_writing(table_write::write_table(number, probes, links, needs, lows, highs, costs, out))
 }
 
 // `cover::plan_by_slse`, its answer packed.
@@ -120,16 +120,7 @@ pub extern "C" fn planner_plan_slse(
         (ofSlices number probes links (now (needs .entry)) (now (lows .entry)) (now (highs .entry)) (now (costs .entry)))
         r (now (plan .entry)) (now (plan .exit)) ⌝ }
 {
-    packing::packed_planning(cover::plan_by_slse(
-        number,
-        probes,
-        links,
-        needs,
-        lows,
-        highs,
-        costs,
-        plan,
-    ))
+    packed_planning(cover::plan_by_slse(number, probes, links, needs, lows, highs, costs, plan))
 }
 
 // `cover::plan_by_turns`, its answer packed.
@@ -150,7 +141,7 @@ pub extern "C" fn planner_plan_turns(
         (ofSlices number probes links (now (needs .entry)) (now (lows .entry)) (now (highs .entry)) (now (costs .entry)))
         r (now (plan .entry)) (now (plan .exit)) (now (work .entry)) (now (work .exit)) ⌝ }
 {
-    packing::packed_planning(cover::plan_by_turns(
+    packed_planning(cover::plan_by_turns(
         number,
         probes,
         links,
@@ -168,7 +159,7 @@ pub extern "C" fn planner_plan_turns(
 pub extern "C" fn planner_plan_text(text: &[u8], out: &mut [u8]) -> u64
     ensures { λ r. ⌜ OutputsPacked (now (text .entry)) r (now (out .entry)) (now (out .exit)) ⌝ }
 {
-    packing::packed_output(plan_output::plan_text(text, out))
+    packed_output(plan_output::plan_text(text, out))
 }
 
 // `probe::open`, its answer packed.
@@ -191,7 +182,7 @@ pub extern "C" fn planner_probe_open(
         (ofSlices number probes links (now (needs .entry)) (now (lows .entry)) (now (highs .entry)) (now (costs .entry))) probe Opening
         r (now (rec .entry)) (now (rec .exit)) ⌝ }
 {
-    packing::packed_answer(probe::open(
+    packed_answer(probe::open(
         number,
         probes,
         links,
@@ -227,7 +218,7 @@ pub extern "C" fn planner_probe_hear(
         (heardOf (ofSlices number probes links (now (needs .entry)) (now (lows .entry)) (now (highs .entry)) (now (costs .entry))) (frameOf (now (frame .entry))))
         r (now (rec .entry)) (now (rec .exit)) ⌝ }
 {
-    packing::packed_answer(probe::hear(
+    packed_answer(probe::hear(
         number,
         probes,
         links,
@@ -263,7 +254,7 @@ pub extern "C" fn planner_probe_ask_offer(
         (ofSlices number probes links (now (needs .entry)) (now (lows .entry)) (now (highs .entry)) (now (costs .entry))) probe Offer link (now (rec .entry))
         r (now (out .entry)) (now (out .exit)) ⌝ }
 {
-    packing::packed_asked(probe::ask(
+    packed_asked(probe::ask(
         number,
         probes,
         links,
@@ -300,7 +291,7 @@ pub extern "C" fn planner_probe_ask_refusal(
         (ofSlices number probes links (now (needs .entry)) (now (lows .entry)) (now (highs .entry)) (now (costs .entry))) probe Refusal link (now (rec .entry))
         r (now (out .entry)) (now (out .exit)) ⌝ }
 {
-    packing::packed_asked(probe::ask(
+    packed_asked(probe::ask(
         number,
         probes,
         links,
@@ -335,7 +326,7 @@ pub extern "C" fn planner_probe_rests(
         (ofSlices number probes links (now (needs .entry)) (now (lows .entry)) (now (highs .entry)) (now (costs .entry))) probe (now (rec .entry)) link)
         (rests (now (rec .entry)) link)) ⌝ }
 {
-    packing::packed_resting(probe::rests(
+    packed_resting(probe::rests(
         number,
         probes,
         links,
@@ -367,7 +358,7 @@ pub extern "C" fn planner_fleet_event(
     ensures { λ r. ⌜ HandledPacked (slicesOf number probes links (now (needs .entry)) (now (lows .entry)) (now (highs .entry)) (now (costs .entry)))
         used room (now (line .entry)) r (now (rec .entry)) (now (rec .exit)) ⌝ }
 {
-    packing::packed_answer(fleet::event(
+    packed_answer(fleet::event(
         number,
         probes,
         links,
@@ -399,14 +390,5 @@ pub extern "C" fn planner_fleet_finished(
         (fleetFault (tableOf (slicesOf number probes links (now (needs .entry)) (now (lows .entry)) (now (highs .entry)) (now (costs .entry)))) (now (rec .entry))))
         (finished (tableOf (slicesOf number probes links (now (needs .entry)) (now (lows .entry)) (now (highs .entry)) (now (costs .entry)))) (now (rec .entry)))) ⌝ }
 {
-    packing::packed_finishing(fleet::finished(
-        number,
-        probes,
-        links,
-        needs,
-        lows,
-        highs,
-        costs,
-        rec,
-    ))
+    packed_finishing(fleet::finished(number, probes, links, needs, lows, highs, costs, rec))
 }

@@ -1,6 +1,6 @@
 // Answers as one number, for callers in other languages.
 ghost use mathlib.Core.Path.{_≡_};
-ghost use Prim.Native.Nat.{ℕ, _+_, _^_, _<_};
+ghost use Prim.Native.Nat.{ℕ, _^_, _<_};
 ghost use Rattle.table.specs.Checking.{refusalOf};
 ghost use Rattle.table_write.specs.declared.Writing.the-variants.{Length};
 ghost use Rattle.output.specs.declared.Output.the-variants.{Length as Printed};
@@ -43,7 +43,7 @@ pub fn packed_reading(r: Reading) -> u64
 }
 
 pub fn packed_writing(r: Writing) -> u64
-    requires { ⌜ ((length : ℕ) → r ≡ Length length → 2 ^ 48 + length < 2 ^ 64) ⌝ }
+    requires { ⌜ ((length : ℕ) → r ≡ Length length → length < 2 ^ 48) ⌝ }
     ensures { λ n. ⌜ n ≡ packedWriting r ⌝ }
 {
     match r {
@@ -64,7 +64,7 @@ pub fn packed_planning(r: Planning) -> u64
 }
 
 pub fn packed_output(r: Output) -> u64
-    requires { ⌜ ((length : ℕ) → r ≡ Printed length → 2 ^ 48 + length < 2 ^ 64) ⌝ }
+    requires { ⌜ ((length : ℕ) → r ≡ Printed length → length < 2 ^ 48) ⌝ }
     ensures { λ n. ⌜ n ≡ packedOutput r ⌝ }
 {
     match r {
