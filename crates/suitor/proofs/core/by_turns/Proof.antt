@@ -9,9 +9,9 @@ use native.Mathlib.Omega.{arith}
 use lib.ListN.{length, replicate, length-replicate}
 use Rattle.range.proofs.Lists.{zeros-at}
 use Rattle.table.specs.Table.{item}
-use Rattle.suitor.specs.Record.{Fits}
-use Rattle.suitor.proofs.Turns.{zeros-ready, zeros-kept}
-use Rattle.suitor.proofs.Plan.{small, no-fault, ends, fits, plan-bytes}
+use Rattle.offers.specs.Record.{Fits}
+use Rattle.offers.proofs.Turns.{zeros-ready, zeros-kept}
+use Rattle.offers.proofs.Plan.{small, no-fault, ends, fits, plan-bytes}
 
 clear-requires : tie.Need-clear-requires
 clear-requires c κs = search needs

@@ -8,7 +8,7 @@ use native.Mathlib.Omega.{arith}
 use lib.ListN.{length, length-set}
 use Rattle.range.specs.Lists.{stored}
 use Rattle.range.proofs.Lists.{stored-next}
-use Rattle.suitor.proofs.Bytes.{stored-zeros}
+use Rattle.offers.proofs.Bytes.{stored-zeros}
 
 abbrev Inv-loop : tie.InvT-loop
 Inv-loop work₀ i₀ work i = (i ≤ length work₀) × (work ≡ stored (λ k. 0) i work₀) × (length work ≡ length work₀)

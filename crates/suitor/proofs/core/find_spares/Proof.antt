@@ -5,7 +5,7 @@ use Rattle.suitor.proofs.core.find_spares.Tie as tie
 use native.Mathlib.Omega.{arith}
 use Rattle.table.specs.Table.{item}
 use Rattle.table.proofs.Faults.{links-ends}
-use Rattle.suitor.proofs.Plan.{spares-right}
+use Rattle.offers.proofs.Plan.{spares-right}
 
 count-degrees-requires : tie.Need-count-degrees-requires
 count-degrees-requires c κs = search needs

@@ -8,7 +8,7 @@ use native.Mathlib.Omega.{arith}
 use lib.ListN.{length, length-set}
 use Rattle.range.specs.Lists.{stored}
 use Rattle.range.proofs.Lists.{stored-next}
-use Rattle.suitor.specs.Record.{keptByte}
+use Rattle.offers.specs.Record.{keptByte}
 
 abbrev Inv-loop : tie.InvT-loop
 Inv-loop plan₀ rec links i₀ plan i = (i ≤ links) × (plan ≡ stored (keptByte rec) i plan₀) × (length plan ≡ length plan₀)

@@ -1,0 +1,2 @@
+// Offers and displacements, which call each other.
+pub mod core;

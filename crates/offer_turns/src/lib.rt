@@ -1,0 +1,2 @@
+// The turns of the probes, in number order.
+pub mod core;

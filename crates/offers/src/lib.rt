@@ -1,0 +1,1 @@
+// Offers by turn: definitions and laws, with no function.
