@@ -1,4 +1,4 @@
-// Lines of a lent text, and the reader that keeps the text beside the offset of its next line.
+// Lines of a lent text.
 ghost use mathlib.Core.Path.{_≡_};
 ghost use Prim.Native.Nat.{_+_, _≤_};
 ghost use lib.ListN.{length, getD};
@@ -17,17 +17,6 @@ pub enum Line {
 pub struct Found {
     pub line: Line,
     pub next: usize,
-}
-
-pub struct Reader<'a> {
-    pub text: &'a [u8],
-    pub at: usize,
-}
-
-// A line, and the reader that goes on behind it.
-pub struct Taken<'a> {
-    pub line: Line,
-    pub rest: Reader<'a>,
 }
 
 pub fn find_line(text: &[u8], at: usize) -> Found
@@ -55,39 +44,6 @@ pub fn is_end(text: &[u8], at: usize) -> bool
     ensures { λ r. ⌜ r ≡ leb (length (now (text .entry))) at ⌝ }
 {
     text.len() <= at
-}
-
-pub fn new<'a>(text: &'a [u8]) -> Reader<'a>
-    ensures { λ r. ⌜ (r .text ≡ text .entry) × (r .at ≡ 0) ⌝ }
-{
-    Reader { text, at: 0 }
-}
-
-pub fn next_line<'a>(r: Reader<'a>) -> Taken<'a>
-    ensures { λ t. ⌜ (t .line ≡ lineAt (now (r .entry .text)) (r .entry .at) .line) × (t .rest .text ≡ r .entry .text) × (t .rest .at ≡ lineAt (now (r .entry .text)) (r .entry .at) .next) ⌝ }
-{
-    let f = find_line(r.text, r.at);
-    Taken {
-        line: f.line,
-        rest: Reader {
-            text: r.text,
-            at: f.next,
-        },
-    }
-}
-
-pub fn at_end<'a>(r: Reader<'a>) -> bool
-    ensures { λ b. ⌜ b ≡ leb (length (now (r .entry .text))) (r .entry .at) ⌝ }
-{
-    is_end(r.text, r.at)
-}
-
-// For callers with a plain text: the first line, with no reader in the signature.
-pub fn first_line(text: &[u8]) -> Line
-    ensures { λ l. ⌜ l ≡ lineAt (now (text .entry)) 0 .line ⌝ }
-{
-    let t = next_line(new(text));
-    t.line
 }
 
 // 2, of so many bytes from an offset.

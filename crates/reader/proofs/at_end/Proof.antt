@@ -1,4 +1,4 @@
--- `lines::at_end` meets its contract: a walk of its MIR, by hand. The struct is taken apart, and `is_end` is called on the slice and the number. All that the proof knows of `is_end` is that it meets its contract.
+-- `reader::at_end` meets its contract: a walk of its MIR, by hand. The struct is taken apart, and `is_end` is called on the slice and the number. All that the proof knows of `is_end` is that it meets its contract.
 -- The struct is Copy: what it owns is had twice, one copy is kept whole for the exit, and of the other what text owns goes to the callee, beside the lifetime's token, which comes back.
 -- Assumes nothing.
 use mathlib.Core.Path.{_≡_, refl}
@@ -43,17 +43,17 @@ use denote.Triple.Table.{entered, cited}
 use denote.Triple.Walked.{says, Stays, stay-none, walkOf, goes-none, Walks, ends-at, walked, walk-meets}
 use denote.Exit.{yes}
 use denote.Triple.Clauses.{ensured, lasts}
-use Rattle.lines.specs.declared.Reader.{Reader}
-use Rattle.lines.proofs.Reader as T
-use Rattle.lines.proofs.Reader.Laws as T′
+use Rattle.reader.specs.declared.Reader.{Reader}
+use Rattle.reader.proofs.Reader as T
+use Rattle.reader.proofs.Reader.Laws as T′
 use Rattle.lines.proofs.is_end as is-end
 use Rattle.lines.proofs.is_end.Symbol as is-end-def
 use Rattle.lines.proofs.is_end.Symbol.{name as #lines·is-end}
 use Rattle.lines.proofs.is_end.Met as is-end-thm
-use Rattle.lines.proofs.at_end.Key.{name as #lines·at-end}
-use Rattle.lines.proofs.at_end as at-end
-use Rattle.lines.proofs.at_end.Statement as stated
-use Rattle.lines.proofs.at_end.Code as code
+use Rattle.reader.proofs.at_end.Key.{name as #reader·at-end}
+use Rattle.reader.proofs.at_end as at-end
+use Rattle.reader.proofs.at_end.Statement as stated
+use Rattle.reader.proofs.at_end.Code as code
 
 -- the struct's type, over the signature's lifetimes
 abbrev B : Lfts 1 → RattleType
@@ -157,6 +157,6 @@ pub at-end-spec : {M : Type 1} → stated.statement M
 unfolding code.routine tablesOf
 at-end-spec 𝓤 H 𝓜 𝓖 𝓡 =
     entered 𝓤 H (tripleOf 𝓤 H (𝓖 .A) at-end.signature (at-end.spec 𝓤 H (𝓖 .A) (𝓜 .mem) (𝓡 .run)))
-    (tables 𝓤 H 𝓜 𝓡 code.env .C) (tables 𝓤 H 𝓜 𝓡 code.env .Λ) #lines·at-end code.function (code.unfolded 𝓤 H 𝓜 𝓡)
+    (tables 𝓤 H 𝓜 𝓡 code.env .C) (tables 𝓤 H 𝓜 𝓡 code.env .Λ) #reader·at-end code.function (code.unfolded 𝓤 H 𝓜 𝓡)
     (at-end-meets 𝓤 H (𝓖 .A) (givenOf 𝓤 H 𝓜 𝓖) (𝓜 .mem) (𝓡 .run) (tablesOf 𝓤 H 𝓜 (tables 𝓤 H 𝓜 𝓡 code.env))
     (cited 𝓤 H (IsEnd 𝓤 H (𝓖 .A) (𝓜 .mem) (𝓡 .run)) 𝓜 𝓡 code.env #lines·is-end is-end-def.routine code.calls-lines·is-end (is-end-thm.met 𝓤 H 𝓜 𝓖 𝓡)))

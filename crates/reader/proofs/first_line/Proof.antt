@@ -1,4 +1,4 @@
--- `lines::first_line` meets its contract: a walk of its MIR, by hand. A `Reader` that one call returns is held in a local and passed to the next. All that the proof knows of `new` and of `next_line` is that each meets its contract.
+-- `reader::first_line` meets its contract: a walk of its MIR, by hand. A `Reader` that one call returns is held in a local and passed to the next. All that the proof knows of `new` and of `next_line` is that each meets its contract.
 -- The machine value that `new` returns is stored and passed on as it is. In a local of a body MIR erases the lifetime of the struct's type, so the value is shown to have the type at `erased`: what the struct owns does not say the lifetime's name.
 -- Assumes nothing.
 use mathlib.Core.Path.{_≡_, refl, ap, _∙_}
@@ -42,28 +42,28 @@ use denote.Triple.Table.{entered, cited}
 use denote.Triple.Walked.{says, Stays, stay-none-slice, walkOf, goes-none-slice, Walks, ends-at, walked, walk-meets}
 use denote.Exit.{yes}
 use denote.Triple.Clauses.{ensured, lasts}
 use Rattle.lines.specs.Line.{lineAt}
 use Rattle.lines.specs.declared.Line.{Line}
-use Rattle.lines.specs.declared.Reader.{Reader}
-use Rattle.lines.specs.declared.Taken.{Taken}
+use Rattle.reader.specs.declared.Reader.{Reader}
+use Rattle.reader.specs.declared.Taken.{Taken}
 use Rattle.lines.proofs.Line as S
 use Rattle.lines.proofs.Line.Laws as S′
-use Rattle.lines.proofs.Reader as T
-use Rattle.lines.proofs.Reader.Laws as T′
-use Rattle.lines.proofs.Taken as K
-use Rattle.lines.proofs.Taken.Laws as K′
-use Rattle.lines.proofs.new as new
-use Rattle.lines.proofs.new.Symbol as new-def
-use Rattle.lines.proofs.new.Symbol.{name as #lines·new}
-use Rattle.lines.proofs.new.Met as new-thm
-use Rattle.lines.proofs.next_line as next-line
-use Rattle.lines.proofs.next_line.Symbol as next-line-def
-use Rattle.lines.proofs.next_line.Symbol.{name as #lines·next-line}
-use Rattle.lines.proofs.next_line.Met as next-line-thm
-use Rattle.lines.proofs.first_line.Key.{name as #lines·first-line}
-use Rattle.lines.proofs.first_line as first-line
-use Rattle.lines.proofs.first_line.Statement as stated
-use Rattle.lines.proofs.first_line.Code as code
+use Rattle.reader.proofs.Reader as T
+use Rattle.reader.proofs.Reader.Laws as T′
+use Rattle.reader.proofs.Taken as K
+use Rattle.reader.proofs.Taken.Laws as K′
+use Rattle.reader.proofs.new as new
+use Rattle.reader.proofs.new.Symbol as new-def
+use Rattle.reader.proofs.new.Symbol.{name as #reader·new}
+use Rattle.reader.proofs.new.Met as new-thm
+use Rattle.reader.proofs.next_line as next-line
+use Rattle.reader.proofs.next_line.Symbol as next-line-def
+use Rattle.reader.proofs.next_line.Symbol.{name as #reader·next-line}
+use Rattle.reader.proofs.next_line.Met as next-line-thm
+use Rattle.reader.proofs.first_line.Key.{name as #reader·first-line}
+use Rattle.reader.proofs.first_line as first-line
+use Rattle.reader.proofs.first_line.Statement as stated
+use Rattle.reader.proofs.first_line.Code as code
 
 -- the struct's type, over the signature's lifetimes
 abbrev B : Lfts 1 → RattleType
@@ -148,7 +148,7 @@ module _ {M : Type 1} (𝓤 : URA M) (H : Heap 𝓤) (A : Atoms 𝓤) (W : Given
       use1 W (given (u ∷ [] ≡ LL.val D L t ∷ []) (‵ (all-own (D .parts) L (t .line, (t .rest, tt))))) (own-open 𝓤 H A W D L (t .line, (t .rest, tt)) u) $ learn ! (λ _.
       use1 W (‵ (ownAt (D .parts) L 0 (t .line)) ⊛ ‵ (rest (D .parts) L 0 (t .line, (t .rest, tt)))) (own-out 𝓤 H A W (D .parts) L 0 (t .line, (t .rest, tt))) $ split ! $ move ! (1 ∷ []) $ drop ! $ done !)
 
-  module _ (C : Calls 𝓤 H) (Λ : Loops 𝓤 H) (fm : FmC 𝓤 H (W .laws) C) (known-new : Triple 𝓤 (C #lines·new) (New 𝓤 H A mem run)) (known-next-line : Triple 𝓤 (C #lines·next-line) (NextLine 𝓤 H A mem run)) where
+  module _ (C : Calls 𝓤 H) (Λ : Loops 𝓤 H) (fm : FmC 𝓤 H (W .laws) C) (known-new : Triple 𝓤 (C #reader·new) (New 𝓤 H A mem run)) (known-next-line : Triple 𝓤 (C #reader·next-line) (NextLine 𝓤 H A mem run)) where
     walk : Is (ShrSlice (named 0) κ u8) s (v ∷ []) → ent 𝓤 (onEntry 𝓤 H A first-line.signature (κ, tt) (q, tt) (s, tt) (v ∷ [], tt)) (WpFn 𝓤 H C Λ code.function (v ∷ []) Post)
     walk p =
         qed W (raw (onEntry 𝓤 H A first-line.signature (κ, tt) (q, tt) (s, tt) (v ∷ [], tt)) ∷ []) ∵ enter ! C Λ code.function (v ∷ []) _ $
@@ -172,13 +172,13 @@ module _ {M : Type 1} (𝓤 : URA M) (H : Heap 𝓤) (A : Atoms 𝓤) (W : Given
         by ! (exits t u′ (e′ .0 ∙ (ap (λ (x : RefT (List ℕ)). lineAt (now x) (r .at) .line) (e .0) ∙ ap (λ (n : ℕ). lineAt (now s) n .line) (e .1))))))))))))))))
 
 module _ {M : Type 1} (𝓤 : URA M) (H : Heap 𝓤) (A : Atoms 𝓤) (W : Given 𝓤 H A) (mem : Memory → SProp 𝓤) (run : Routine → Fun 𝓤) where
-  first-line-walks : (C : Calls 𝓤 H) (Λ : Loops 𝓤 H) → FmC 𝓤 H (W .laws) C → Triple 𝓤 (C #lines·new) (New 𝓤 H A mem run) → Triple 𝓤 (C #lines·next-line) (NextLine 𝓤 H A mem run)
+  first-line-walks : (C : Calls 𝓤 H) (Λ : Loops 𝓤 H) → FmC 𝓤 H (W .laws) C → Triple 𝓤 (C #reader·new) (New 𝓤 H A mem run) → Triple 𝓤 (C #reader·next-line) (NextLine 𝓤 H A mem run)
       → Walks 𝓤 H A first-line.ended stayed (WpFn 𝓤 H C Λ code.function) (first-line.clauses 𝓤 H A mem run)
   first-line-walks C Λ fm known-new known-next-line = walked 𝓤 H A first-line.ended stayed (first-line.clauses 𝓤 H A mem run) (WpFn 𝓤 H C Λ code.function) (λ κs. (slice-vals, tt)) (λ κs. (shr-slice-tells (named 0) (κs .0) u8, tt))
       (λ κs qs bounds a g are. via 𝓤 _ (fst∗ 𝓤 _ (emp 𝓤)) (walk 𝓤 H A W mem run (κs .0) (qs .0) (a .0) C Λ fm known-new known-next-line (are .0)))
 
 first-line-meets : {M : Type 1} (𝓤 : URA M) (H : Heap 𝓤) (A : Atoms 𝓤) (W : Given 𝓤 H A) (mem : Memory → SProp 𝓤) (run : Routine → Fun 𝓤) (𝓣 : Tables 𝓤 H)
-    → Triple 𝓤 (𝓣 .C #lines·new) (New 𝓤 H A mem run) → Triple 𝓤 (𝓣 .C #lines·next-line) (NextLine 𝓤 H A mem run)
+    → Triple 𝓤 (𝓣 .C #reader·new) (New 𝓤 H A mem run) → Triple 𝓤 (𝓣 .C #reader·next-line) (NextLine 𝓤 H A mem run)
     → Meets 𝓤 H A first-line.signature (WpFn 𝓤 H (𝓣 .C) (𝓣 .Λ) code.function) (first-line.spec 𝓤 H A mem run)
 first-line-meets 𝓤 H A W mem run 𝓣 known-new known-next-line = walk-meets 𝓤 H A first-line.ended stayed W (goes-none-slice 𝓤 H A W 1 (0 ∷ []) tt (plain (λ _. u8)) yes, tt) (first-line.clauses 𝓤 H A mem run) (WpFn 𝓤 H (𝓣 .C) (𝓣 .Λ) code.function) (WpFn-mono 𝓤 H (W .laws) 𝓣 code.function)
     (first-line-walks 𝓤 H A W mem run (𝓣 .C) (𝓣 .Λ) (fmOf 𝓤 H (W .laws) 𝓣) known-new known-next-line)
@@ -187,7 +187,7 @@ pub first-line-spec : {M : Type 1} → stated.statement M
 unfolding code.routine tablesOf
 first-line-spec 𝓤 H 𝓜 𝓖 𝓡 =
     entered 𝓤 H (tripleOf 𝓤 H (𝓖 .A) first-line.signature (first-line.spec 𝓤 H (𝓖 .A) (𝓜 .mem) (𝓡 .run)))
-    (tables 𝓤 H 𝓜 𝓡 code.env .C) (tables 𝓤 H 𝓜 𝓡 code.env .Λ) #lines·first-line code.function (code.unfolded 𝓤 H 𝓜 𝓡)
+    (tables 𝓤 H 𝓜 𝓡 code.env .C) (tables 𝓤 H 𝓜 𝓡 code.env .Λ) #reader·first-line code.function (code.unfolded 𝓤 H 𝓜 𝓡)
     (first-line-meets 𝓤 H (𝓖 .A) (givenOf 𝓤 H 𝓜 𝓖) (𝓜 .mem) (𝓡 .run) (tablesOf 𝓤 H 𝓜 (tables 𝓤 H 𝓜 𝓡 code.env))
-    (cited 𝓤 H (New 𝓤 H (𝓖 .A) (𝓜 .mem) (𝓡 .run)) 𝓜 𝓡 code.env #lines·new new-def.routine code.calls-lines·new (new-thm.met 𝓤 H 𝓜 𝓖 𝓡))
-    (cited 𝓤 H (NextLine 𝓤 H (𝓖 .A) (𝓜 .mem) (𝓡 .run)) 𝓜 𝓡 code.env #lines·next-line next-line-def.routine code.calls-lines·next-line (next-line-thm.met 𝓤 H 𝓜 𝓖 𝓡)))
+    (cited 𝓤 H (New 𝓤 H (𝓖 .A) (𝓜 .mem) (𝓡 .run)) 𝓜 𝓡 code.env #reader·new new-def.routine code.calls-reader·new (new-thm.met 𝓤 H 𝓜 𝓖 𝓡))
+    (cited 𝓤 H (NextLine 𝓤 H (𝓖 .A) (𝓜 .mem) (𝓡 .run)) 𝓜 𝓡 code.env #reader·next-line next-line-def.routine code.calls-reader·next-line (next-line-thm.met 𝓤 H 𝓜 𝓖 𝓡)))

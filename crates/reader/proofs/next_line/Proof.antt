@@ -1,4 +1,4 @@
--- `lines::next_line` meets its contract: a walk of its MIR, by hand. The struct is taken apart, and `find_line` is called on the slice and the number. All that the proof knows of `find_line` is that it meets its contract.
+-- `reader::next_line` meets its contract: a walk of its MIR, by hand. The struct is taken apart, and `find_line` is called on the slice and the number. All that the proof knows of `find_line` is that it meets its contract.
 -- The struct is Copy: what it owns is had twice, one copy is kept whole for the exit, and of the other what text owns goes to the callee, beside the lifetime's token, which comes back. At exit the kept copy is had twice again: the second, with the next offset in the place of at, goes into the result beside the line.
 -- Assumes nothing.
 use mathlib.Core.Path.{_≡_, refl, ap}
@@ -43,24 +43,24 @@ use denote.Triple.Table.{entered, cited}
 use denote.Triple.Walked.{says, Stays, stay-none, walkOf, goes-none, Walks, ends-at, walked, walk-meets}
 use denote.Exit.{yes}
 use denote.Triple.Clauses.{ensured, lasts}
 use Rattle.lines.specs.Line.{lineAt}
 use Rattle.lines.specs.declared.Found.{Found}
-use Rattle.lines.specs.declared.Reader.{Reader}
-use Rattle.lines.specs.declared.Taken.{Taken}
+use Rattle.reader.specs.declared.Reader.{Reader}
+use Rattle.reader.specs.declared.Taken.{Taken}
 use Rattle.lines.proofs.Found as F
 use Rattle.lines.proofs.Found.Laws as F′
-use Rattle.lines.proofs.Reader as T
-use Rattle.lines.proofs.Reader.Laws as T′
-use Rattle.lines.proofs.Taken as K
-use Rattle.lines.proofs.Taken.Laws as K′
+use Rattle.reader.proofs.Reader as T
+use Rattle.reader.proofs.Reader.Laws as T′
+use Rattle.reader.proofs.Taken as K
+use Rattle.reader.proofs.Taken.Laws as K′
 use Rattle.lines.proofs.find_line as find-line
 use Rattle.lines.proofs.find_line.Symbol as find-line-def
 use Rattle.lines.proofs.find_line.Symbol.{name as #lines·find-line}
 use Rattle.lines.proofs.find_line.Met as find-line-thm
-use Rattle.lines.proofs.next_line.Key.{name as #lines·next-line}
-use Rattle.lines.proofs.next_line as next-line
-use Rattle.lines.proofs.next_line.Statement as stated
-use Rattle.lines.proofs.next_line.Code as code
+use Rattle.reader.proofs.next_line.Key.{name as #reader·next-line}
+use Rattle.reader.proofs.next_line as next-line
+use Rattle.reader.proofs.next_line.Statement as stated
+use Rattle.reader.proofs.next_line.Code as code
 
 -- the struct's type, over the signature's lifetimes
 abbrev B : Lfts 1 → RattleType
@@ -200,6 +200,6 @@ pub next-line-spec : {M : Type 1} → stated.statement M
 unfolding code.routine tablesOf
 next-line-spec 𝓤 H 𝓜 𝓖 𝓡 =
     entered 𝓤 H (tripleOf 𝓤 H (𝓖 .A) next-line.signature (next-line.spec 𝓤 H (𝓖 .A) (𝓜 .mem) (𝓡 .run)))
-    (tables 𝓤 H 𝓜 𝓡 code.env .C) (tables 𝓤 H 𝓜 𝓡 code.env .Λ) #lines·next-line code.function (code.unfolded 𝓤 H 𝓜 𝓡)
+    (tables 𝓤 H 𝓜 𝓡 code.env .C) (tables 𝓤 H 𝓜 𝓡 code.env .Λ) #reader·next-line code.function (code.unfolded 𝓤 H 𝓜 𝓡)
     (next-line-meets 𝓤 H (𝓖 .A) (givenOf 𝓤 H 𝓜 𝓖) (𝓜 .mem) (𝓡 .run) (tablesOf 𝓤 H 𝓜 (tables 𝓤 H 𝓜 𝓡 code.env))
     (cited 𝓤 H (FindLine 𝓤 H (𝓖 .A) (𝓜 .mem) (𝓡 .run)) 𝓜 𝓡 code.env #lines·find-line find-line-def.routine code.calls-lines·find-line (find-line-thm.met 𝓤 H 𝓜 𝓖 𝓡)))
