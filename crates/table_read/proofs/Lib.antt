@@ -1,5 +1,1 @@
-pub mod Begins
-pub mod Closing
-pub mod Good
-pub mod Local
 pub mod Answers

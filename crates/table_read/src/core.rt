@@ -1,189 +1,12 @@
-// The checks of a text, and its fields stored. The public readers call these, and so do readers with other limits.
+// A text read within limits: its answer, and its fields stored. The public readers call these, and so do readers with other limits.
 use super::Reading;
 ghost use mathlib.Core.Path.{_≡_};
 ghost use mathlib.Core.Bool.{true};
-ghost use Prim.Native.Nat.{ℕ, _+_, _*_, _<_, _≤_};
-ghost use lib.ListN.{length, drop};
-ghost use Rattle.range.specs.First.{first};
-ghost use Rattle.range.specs.Lists.{stored};
-ghost use Rattle.hex.specs.Digits.{numberAt};
-ghost use Rattle.table.specs.Legal.{needFault, roomFault};
-ghost use Rattle.table.specs.Text.{ofText, begins, closingFault, needLineFault, linkLineFault, headFault, bodyFault, textFault, readFault};
+ghost use Prim.Native.Nat.{_+_, _*_, _≤_};
+ghost use lib.ListN.{length};
+ghost use Rattle.table.specs.Legal.{roomFault};
+ghost use Rattle.table.specs.Text.{ofText, textFault, readFault};
 ghost use Rattle.table_read.specs.Reading.{readingOf, Filled, Reads};
-
-// 1 and 2 of the header, then 3.
-fn head_fault(text: &[u8], pmax: usize, lmax: usize) -> u8
-    ensures { λ r. ⌜ r ≡ headFault pmax lmax (now (text .entry)) ⌝ }
-{
-    let fault = lines::line_fault(text, 0, 12);
-    if fault != 0 {
-        return fault;
-    }
-    table::core::size_fault(
-        pmax,
-        lmax,
-        hex::core::number(text, 4, 4),
-        hex::core::number(text, 8, 4),
-    )
-}
-
-// 1 and 2 of the need lines.
-fn need_lines_fault(text: &[u8], probes: usize) -> u8
-    requires { ⌜ probes ≤ 65535 ⌝ }
-    ensures { λ r. ⌜ r ≡ first (needLineFault (now (text .entry))) probes ⌝ }
-{
-    let mut v = 0;
-    while v < probes {
-        let fault = lines::line_fault(text, 13 + 5 * v, 4);
-        if fault != 0 {
-            return fault;
-        }
-        v += 1;
-    }
-    0
-}
-
-// 1, 2, 4 and 5 of one link line.
-fn link_line_fault(text: &[u8], probes: usize, i: usize) -> u8
-    requires { ⌜ (probes ≡ ofText (now text) .probes) × (probes ≤ 65535) × (i ≤ 65535) ⌝ }
-    ensures { λ r. ⌜ r ≡ linkLineFault (now (text .entry)) i ⌝ }
-{
-    let at = 13 + 5 * probes + 13 * i;
-    let fault = lines::line_fault(text, at, 12);
-    if fault != 0 {
-        return fault;
-    }
-    let low = hex::core::number(text, at, 4);
-    let high = hex::core::number(text, at + 4, 4);
-    let ends = table::core::ends_fault(probes, low, high);
-    if ends != 0 {
-        return ends;
-    }
-    if i == 0 {
-        return 0;
-    }
-    table::core::order_fault(
-        hex::core::number(text, at - 13, 4),
-        hex::core::number(text, at - 9, 4),
-        low,
-        high,
-    )
-}
-
-// 1, 2, 4 and 5 of the link lines.
-fn link_lines_fault(text: &[u8], probes: usize, links: usize) -> u8
-    requires { ⌜ (probes ≡ ofText (now text) .probes) × (probes ≤ 65535) × (links ≤ 65535) ⌝ }
-    ensures { λ r. ⌜ r ≡ first (linkLineFault (now (text .entry))) links ⌝ }
-{
-    let mut i = 0;
-    while i < links {
-        let fault = link_line_fault(text, probes, i);
-        if fault != 0 {
-            return fault;
-        }
-        i += 1;
-    }
-    0
-}
-
-// Whether some bytes stand in a text at an offset.
-fn stands_at(text: &[u8], at: usize, what: &[u8]) -> bool
-    requires { ⌜ at ≤ length (now text) ⌝ }
-    ensures { λ r. ⌜ r ≡ begins (drop at (now (text .entry))) (now (what .entry)) ⌝ }
-{
-    let mut k = 0;
-    while k < what.len() {
-        if text.len() <= at + k {
-            return false;
-        }
-        if text[at + k] != what[k] {
-            return false;
-        }
-        k += 1;
-    }
-    true
-}
-
-// 6, where the closing line is to stand at an offset.
-fn closing_fault(text: &[u8], at: usize, more: bool) -> u8
-    requires { ⌜ at ≤ length (now text) ⌝ }
-    ensures { λ r. ⌜ r ≡ closingFault more (now (text .entry)) at ⌝ }
-{
-    if !stands_at(text, at, &table::core::CLOSING) {
-        return 6;
-    }
-    if more {
-        return 0;
-    }
-    if text.len() - at != 5 {
-        return 6;
-    }
-    0
-}
-
-// Stores the numbers of four digits that stand at equal distances.
-fn fill(text: &[u8], at: usize, step: usize, n: usize, out: &mut [u16])
-    requires { ⌜ (n ≤ length (now out)) × ((i : ℕ) → i < n → (at + step * i + 4 ≤ length (now text)) × (numberAt (now text) (at + step * i) 4 < 65536)) ⌝ }
-    ensures { λ _. ⌜ now (out .exit) ≡ stored (λ i. numberAt (now (text .entry)) (at + step * i) 4) n (now (out .entry)) ⌝ }
-{
-    let mut i = 0;
-    while i < n {
-        out[i] = hex::core::number(text, at + step * i, 4) as u16;
-        i += 1;
-    }
-}
-
-// 7, where the lines are good.
-fn needs_fault(text: &[u8], probes: usize, links: usize) -> u8
-    requires { ⌜ (probes ≡ ofText (now text) .probes) × (links ≡ ofText (now text) .links) × (probes ≤ 256) × (links ≤ 2048)
-        × (first (needLineFault (now text)) probes ≡ 0) × (first (linkLineFault (now text)) links ≡ 0) ⌝ }
-    ensures { λ r. ⌜ r ≡ first (needFault (ofText (now (text .entry)))) probes ⌝ }
-{
-    let mut needs = [0u16; 256];
-    let mut lows = [0u16; 2048];
-    let mut highs = [0u16; 2048];
-    fill(text, 13, 5, probes, &mut needs);
-    fill(text, 13 + 5 * probes, 13, links, &mut lows);
-    fill(text, 17 + 5 * probes, 13, links, &mut highs);
-    table::core::needs_fault(probes, links, &needs, &lows, &highs)
-}
-
-// What follows the header: 1, 2, 4 and 5 line by line, then 6 and 7.
-fn body_fault(text: &[u8], probes: usize, links: usize, more: bool) -> u8
-    requires { ⌜ (probes ≡ ofText (now text) .probes) × (links ≡ ofText (now text) .links) × (probes ≤ 256) × (links ≤ 2048) × (13 ≤ length (now text)) ⌝ }
-    ensures { λ r. ⌜ r ≡ bodyFault more (now (text .entry)) ⌝ }
-{
-    let need = need_lines_fault(text, probes);
-    if need != 0 {
-        return need;
-    }
-    let link = link_lines_fault(text, probes, links);
-    if link != 0 {
-        return link;
-    }
-    let closing = closing_fault(text, 13 + 5 * probes + 13 * links, more);
-    if closing != 0 {
-        return closing;
-    }
-    needs_fault(text, probes, links)
-}
-
-// 1 to 7.
-pub fn text_fault(text: &[u8], pmax: usize, lmax: usize, more: bool) -> u8
-    requires { ⌜ (pmax ≤ 256) × (lmax ≤ 2048) ⌝ }
-    ensures { λ r. ⌜ r ≡ textFault pmax lmax more (now (text .entry)) ⌝ }
-{
-    let head = head_fault(text, pmax, lmax);
-    if head != 0 {
-        return head;
-    }
-    body_fault(
-        text,
-        hex::core::number(text, 4, 4),
-        hex::core::number(text, 8, 4),
-        more,
-    )
-}
 
 // 1 to 8, by the lengths of the lent needs, lows, highs and costs.
 fn read_fault(
@@ -199,7 +22,7 @@ fn read_fault(
     requires { ⌜ (pmax ≤ 256) × (lmax ≤ 2048) ⌝ }
     ensures { λ r. ⌜ r ≡ readFault pmax lmax more (now (text .entry)) needs lows highs costs ⌝ }
 {
-    let fault = text_fault(text, pmax, lmax, more);
+    let fault = text_checks::core::text_fault(text, pmax, lmax, more);
     if fault != 0 {
         return fault;
     }
@@ -244,10 +67,10 @@ fn fill_table(
 {
     let probes = hex::core::number(text, 4, 4);
     let links = hex::core::number(text, 8, 4);
-    fill(text, 13, 5, probes, needs);
-    fill(text, 13 + 5 * probes, 13, links, lows);
-    fill(text, 17 + 5 * probes, 13, links, highs);
-    fill(text, 21 + 5 * probes, 13, links, costs);
+    text_checks::core::fill(text, 13, 5, probes, needs);
+    text_checks::core::fill(text, 13 + 5 * probes, 13, links, lows);
+    text_checks::core::fill(text, 17 + 5 * probes, 13, links, highs);
+    text_checks::core::fill(text, 21 + 5 * probes, 13, links, costs);
 }
 
 // Reads a text within the limits pmax and lmax; `more`: whether it may go on behind its closing line.

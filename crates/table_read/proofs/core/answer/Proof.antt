@@ -3,7 +3,7 @@ use Rattle.table_read.proofs.core.answer.Statement.{statement}
 use Rattle.table_read.proofs.core.answer.Tie as tie
 use mathlib.Core.Bool.{true}
 use native.Mathlib.Omega.{arith}
-use Rattle.table_read.proofs.Good.{text-head, head-field}
+use Rattle.text_lines.proofs.Good.{text-head, head-field}
 
 number-requires : tie.Need-number-requires
 number-requires c κs =

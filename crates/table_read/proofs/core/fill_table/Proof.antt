@@ -10,7 +10,7 @@ use lib.ListN.{length}
 use Rattle.table.specs.Text.{ofText, needStart, linkStart}
 use Rattle.table.proofs.Faults.{room-good}
 use Rattle.table.proofs.Accepted.{text-good}
-use Rattle.table_read.proofs.Good.{text-head, fields, fields-stored}
+use Rattle.text_lines.proofs.Good.{text-head, fields, fields-stored}
 
 number-requires : tie.Need-number-requires
 number-requires c κs =

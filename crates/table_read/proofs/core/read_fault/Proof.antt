@@ -6,7 +6,7 @@ use mathlib.Core.Path.{sym, _∙_}
 use native.Mathlib.Omega.{arith}
 use Rattle.range.proofs.Faults.{or-here, or-next}
 use Rattle.table.specs.Text.{readFault}
-use Rattle.table_read.proofs.Good.{text-head}
+use Rattle.text_lines.proofs.Good.{text-head}
 
 text-fault-requires : tie.Need-text-fault-requires
 text-fault-requires c κs = search needs

@@ -1,0 +1,3 @@
+pub mod Begins
+pub mod Closing
+pub mod Good

@@ -1,0 +1,2 @@
+// The checks of a table's text, line by line.
+pub mod core;
