@@ -27,7 +27,7 @@ use Rattle.cover_theory.proofs.Plan.{at-same}
 use Rattle.cover_theory.proofs.Slse.{slse-is-plan}
 use Rattle.cover_theory.proofs.Pass.{early, pass-step}
 use Rattle.slse.specs.Ordered.{planByte}
-use Rattle.slse.specs.Steps.{eitherShort, bothOver, oneMore, oneLess}
+use Rattle.slse_links.specs.Steps.{eitherShort, bothOver, oneMore, oneLess}
 
 and-false : (b : Bool) → (b && false) ≡ false
 and-false true = refl

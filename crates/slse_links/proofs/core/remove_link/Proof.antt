@@ -1,7 +1,7 @@
--- `slse::core::remove_link` meets its contract.
+-- `slse_links::core::remove_link` meets its contract.
 use borrow.Author.Needs.{needs}
-use Rattle.slse.proofs.core.remove_link.Statement.{statement}
-use Rattle.slse.proofs.core.remove_link.Tie as tie
+use Rattle.slse_links.proofs.core.remove_link.Statement.{statement}
+use Rattle.slse_links.proofs.core.remove_link.Tie as tie
 use Prim.Native.Nat.{_-_, _<_}
 use mathlib.Core.Path.{sym, _∙_, ap}
 use native.Mathlib.Omega.{arith}

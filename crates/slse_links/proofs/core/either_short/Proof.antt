@@ -1,7 +1,7 @@
--- `slse::core::either_short` meets its contract.
+-- `slse_links::core::either_short` meets its contract.
 use borrow.Author.Needs.{needs}
-use Rattle.slse.proofs.core.either_short.Statement.{statement}
-use Rattle.slse.proofs.core.either_short.Tie as tie
+use Rattle.slse_links.proofs.core.either_short.Statement.{statement}
+use Rattle.slse_links.proofs.core.either_short.Tie as tie
 use borrow.Author.Tests.{lt-ltb, le-ltb}
 
 mul-if1 : tie.Need-mul-if1

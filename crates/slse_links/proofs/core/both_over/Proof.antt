@@ -1,7 +1,7 @@
--- `slse::core::both_over` meets its contract.
+-- `slse_links::core::both_over` meets its contract.
 use borrow.Author.Needs.{needs}
-use Rattle.slse.proofs.core.both_over.Statement.{statement}
-use Rattle.slse.proofs.core.both_over.Tie as tie
+use Rattle.slse_links.proofs.core.both_over.Statement.{statement}
+use Rattle.slse_links.proofs.core.both_over.Tie as tie
 use borrow.Author.Tests.{lt-ltb, le-ltb}
 
 mul-if1 : tie.Need-mul-if1

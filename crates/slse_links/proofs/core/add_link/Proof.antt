@@ -1,7 +1,7 @@
--- `slse::core::add_link` meets its contract.
+-- `slse_links::core::add_link` meets its contract.
 use borrow.Author.Needs.{needs}
-use Rattle.slse.proofs.core.add_link.Statement.{statement}
-use Rattle.slse.proofs.core.add_link.Tie as tie
+use Rattle.slse_links.proofs.core.add_link.Statement.{statement}
+use Rattle.slse_links.proofs.core.add_link.Tie as tie
 use mathlib.Core.Path.{sym, _∙_, ap}
 use Prim.Native.Nat.{_+_}
 use native.Mathlib.Omega.{arith}

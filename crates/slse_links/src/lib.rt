@@ -1,0 +1,2 @@
+// S-LSE on one link: whether it is added or removed.
+pub mod core;
