@@ -1,2 +1,2 @@
-// The record of an end: its checks, and what its rules look for.
+// The record of an end: its links, its spare and its bytes counted.
 pub mod core;

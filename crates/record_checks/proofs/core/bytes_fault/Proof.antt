@@ -1,7 +1,7 @@
--- `record::core::bytes_fault` meets its contract.
+-- `record_checks::core::bytes_fault` meets its contract.
 use borrow.Author.Needs.{needs}
-use Rattle.record.proofs.core.bytes_fault.Statement.{statement}
-use Rattle.record.proofs.core.bytes_fault.Tie as tie
+use Rattle.record_checks.proofs.core.bytes_fault.Statement.{statement}
+use Rattle.record_checks.proofs.core.bytes_fault.Tie as tie
 use Prim.Native.Nat.{ℕ, _-_, _≤_}
 use mathlib.Core.Path.{_≡_, refl, sym, _∙_}
 use mathlib.Core.List.{List, []}

@@ -1,15 +1,15 @@
--- `record::core::record_fault` meets its contract.
+-- `record_checks::core::record_fault` meets its contract.
 use borrow.Author.Needs.{needs}
-use Rattle.record.proofs.core.record_fault.Statement.{statement}
-use Rattle.record.proofs.core.record_fault.Tie as tie
+use Rattle.record_checks.proofs.core.record_fault.Statement.{statement}
+use Rattle.record_checks.proofs.core.record_fault.Tie as tie
 use mathlib.Core.Path.{_≡_, sym, _∙_}
 use mathlib.Core.List.{[]}
 use borrow.Author.Tests.{eq-eqb, ne-eqb}
 use Rattle.range.specs.First.{first}
 use Rattle.range.proofs.Faults.{or-here}
 use Rattle.table.specs.Table.{Table, ofSlices}
 use Rattle.record.specs.Record.{byteFault}
-use Rattle.record.proofs.Bytes.{many-standing, many-held, none-over}
+use Rattle.record_checks.proofs.Bytes.{many-standing, many-held, none-over}
 
 mul-if1 : tie.Need-mul-if1
 mul-if1 c = search needs

@@ -1,7 +1,7 @@
--- `record::core::dearer_later` meets its contract.
+-- `record_search::core::cheaper_later` meets its contract.
 use borrow.Author.Needs.{needs}
-use Rattle.record.proofs.core.dearer_later.Statement.{statement}
-use Rattle.record.proofs.core.dearer_later.Tie as tie
+use Rattle.record_search.proofs.core.cheaper_later.Statement.{statement}
+use Rattle.record_search.proofs.core.cheaper_later.Tie as tie
 use borrow.Author.Tests.{le-leb, lt-leb}
 
 returns : tie.Need-returns
@@ -22,8 +22,8 @@ shared-slice-read-result-2 c = search needs
 returns-2 : tie.Need-returns-2
 returns-2 c = rw (lt-leb _ _ (c .before .before .if1 .left))
 
-pub dearer-later-spec : {M : Type 1} → statement M
-dearer-later-spec =
+pub cheaper-later-spec : {M : Type 1} → statement M
+cheaper-later-spec =
     tie.close
     (tie.spec
     returns

@@ -1,7 +1,7 @@
--- `record::core::byte_fault` meets its contract.
+-- `record_checks::core::byte_fault` meets its contract.
 use borrow.Author.Needs.{needs}
-use Rattle.record.proofs.core.byte_fault.Statement.{statement}
-use Rattle.record.proofs.core.byte_fault.Tie as tie
+use Rattle.record_checks.proofs.core.byte_fault.Statement.{statement}
+use Rattle.record_checks.proofs.core.byte_fault.Tie as tie
 use borrow.Author.Tests.{lt-ltb, le-ltb, eq-eqb, ne-eqb}
 
 mul-if1 : tie.Need-mul-if1

@@ -1,0 +1,2 @@
+// The checks of an end's record.
+pub mod core;
