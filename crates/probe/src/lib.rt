@@ -8,7 +8,7 @@ ghost use Rattle.frame.specs.Frame.{frameOf};
 ghost use Rattle.rules.specs.declared.Event.the-variants.{Opening};
 ghost use Rattle.rules.specs.Rules.{rests};
 ghost use Rattle.rules.specs.Frames.{heardOf};
-ghost use Rattle.probe.specs.Checks.{hearFault, openFault, linkCallFault};
+ghost use Rattle.probe_checks.specs.Checks.{hearFault, openFault, linkCallFault};
 ghost use Rattle.probe.specs.Answers.{Befallen, Asks, lentFault, restingOf};
 
 pub mod core;
@@ -51,7 +51,7 @@ pub fn open(
         (ofSlices number probes links (now (needs .entry)) (now (lows .entry)) (now (highs .entry)) (now (costs .entry))) probe Opening
         r (now (rec .entry)) (now (rec .exit)) ⌝ }
 {
-    let fault = core::open_fault(
+    let fault = probe_checks::core::open_fault(
         probes as usize,
         links as usize,
         needs,
@@ -100,7 +100,7 @@ pub fn hear(
         (heardOf (ofSlices number probes links (now (needs .entry)) (now (lows .entry)) (now (highs .entry)) (now (costs .entry))) (frameOf (now (frame .entry))))
         r (now (rec .entry)) (now (rec .exit)) ⌝ }
 {
-    let fault = core::hear_fault(
+    let fault = probe_checks::core::hear_fault(
         number,
         probes as usize,
         links as usize,
@@ -116,7 +116,7 @@ pub fn hear(
     if fault != 0 {
         return entry::Answer::Refused(fault);
     }
-    let event = core::event_of(links as usize, lows, highs, frame);
+    let event = probe_checks::core::event_of(links as usize, lows, highs, frame);
     let e = core::apply(
         event,
         probes as usize,
@@ -155,7 +155,7 @@ pub fn ask(
     if out.len() < 15 {
         return Asked::Refused(8);
     }
-    let fault = core::link_call_fault(
+    let fault = probe_checks::core::link_call_fault(
         probes as usize,
         links as usize,
         needs,
@@ -195,7 +195,7 @@ pub fn rests(
         (ofSlices number probes links (now (needs .entry)) (now (lows .entry)) (now (highs .entry)) (now (costs .entry))) probe (now (rec .entry)) link)
         (rests (now (rec .entry)) link) ⌝ }
 {
-    let fault = core::link_call_fault(
+    let fault = probe_checks::core::link_call_fault(
         probes as usize,
         links as usize,
         needs,

@@ -6,7 +6,7 @@ ghost use Rattle.table.specs.Legal.{sliceFault};
 ghost use Rattle.frame.specs.Frame.{frameOf};
 ghost use Rattle.rules.specs.declared.Event.the-variants.{Opening};
 ghost use Rattle.rules.specs.Frames.{heardOf};
-ghost use Rattle.probe.specs.Checks.{hearFault, openFault};
+ghost use Rattle.probe_checks.specs.Checks.{hearFault, openFault};
 ghost use Rattle.probe_log.specs.Logged.{ToldCall, Logs};
 use wake_log::core::Told;
 

@@ -24,7 +24,7 @@ use Rattle.rules.proofs.Frames.{other-across, between-is, ends-below, writable}
 use Rattle.probe.specs.declared.Kind.{Kind}
 use Rattle.probe.specs.declared.Kind.the-variants as kind
 use Rattle.probe.specs.declared.Asked.{Asked}
-use Rattle.probe.specs.Checks.{kindFault, toFault, heardFault}
+use Rattle.probe_checks.specs.Checks.{kindFault, toFault, heardFault}
 use Rattle.probe.specs.Answers.{Asks, kindOf, askedEvent, askedFrame, askedLine, lentFault}
 use Rattle.probe.proofs.Calls.{asked-event}
 

@@ -10,15 +10,15 @@ use Rattle.table.specs.Table.{Table}
 use Rattle.table.specs.Legal.{Legal}
 use Rattle.cover_theory.proofs.Settled.{near, back}
 use Rattle.frame.specs.Frame.{Frame, frameOf}
-use Rattle.record.proofs.Bytes.{good-record, record-passes}
+use Rattle.record_checks.proofs.Bytes.{good-record, record-passes}
 use Rattle.rules.specs.declared.Event.{Event}
 use Rattle.rules.specs.Rules.{befalls}
 use Rattle.rules.specs.Frames.{between, heardOf}
 use Rattle.rules.specs.Within.{OwnLink, OwnEvent, OwnOutcome}
 use Rattle.rules.proofs.Frames.{between-across}
 use Rattle.rules.proofs.Befalls.{Befell, befell, befell-own, own-within}
-use Rattle.probe.specs.Checks.{heardFault, linkCallFault}
-use Rattle.probe.proofs.Accepted.{heard-link, heard-to}
+use Rattle.probe_checks.specs.Checks.{heardFault, linkCallFault}
+use Rattle.probe_checks.proofs.Accepted.{heard-link, heard-to}
 use Rattle.probe_theory.specs.EndLaws.{EndLaws, after}
 use Rattle.probe_theory.proofs.Changes.{outcome-few, outcome-own}
 use Rattle.probe_theory.proofs.Usable.{befell-good}

@@ -14,7 +14,7 @@ use Rattle.range.proofs.Sums.{weigh-le, weigh-same}
 use Rattle.range.proofs.Counts.{count-except, count-swap}
 use Rattle.table.specs.Table.{Table, touches, spare}
 use Rattle.record.specs.Record.{outbound, inbound, ownWith, standing, held}
-use Rattle.record.proofs.Bytes.{Passes, GoodRecord}
+use Rattle.record_checks.proofs.Bytes.{Passes, GoodRecord}
 use Rattle.rules.specs.declared.Event.{Event}
 use Rattle.rules.specs.declared.Outcome.{Outcome}
 use Rattle.rules.specs.Rules.{alter}

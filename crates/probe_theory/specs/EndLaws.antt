@@ -17,7 +17,7 @@ use Rattle.rules.specs.Frames.{heardOf}
 use Rattle.rules.specs.Within.{OwnLink, OwnEvent}
 use Rattle.probe.specs.declared.Kind.{Kind}
 use Rattle.probe.specs.declared.Asked.{Asked}
-use Rattle.probe.specs.Checks.{heardFault, linkCallFault}
+use Rattle.probe_checks.specs.Checks.{heardFault, linkCallFault}
 use Rattle.probe.specs.Answers.{Asks, askedEvent, askedFrame, askedLine, lentFault}
 
 -- "A change is one byte altered": how many of the first n links have an outbound, and an inbound, byte that differs

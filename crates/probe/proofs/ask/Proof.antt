@@ -8,9 +8,9 @@ use borrow.Author.Tests.{eq-eqb, ne-eqb, lt-ltb, le-ltb, not-true, not-false}
 use Rattle.table.specs.Table.{Table, ofSlices}
 use Rattle.table.specs.Legal.{sliceFault}
 use Rattle.table.proofs.Slices.{given}
-use Rattle.record.proofs.Bytes.{record-good}
-use Rattle.probe.specs.Checks.{linkCallFault}
-use Rattle.probe.proofs.Accepted.{link-parts}
+use Rattle.record_checks.proofs.Bytes.{record-good}
+use Rattle.probe_checks.specs.Checks.{linkCallFault}
+use Rattle.probe_checks.proofs.Accepted.{link-parts}
 
 returns : tie.Need-returns
 returns c = record { answer = rw (lt-ltb _ _ (c .if1 .taken)); line = rw (lt-ltb _ _ (c .if1 .taken)) }

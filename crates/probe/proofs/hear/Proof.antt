@@ -9,7 +9,7 @@ use Rattle.table.proofs.Slices.{given}
 use Rattle.rules.specs.Frames.{heardOf}
 use Rattle.rules.proofs.Ready.{ready}
 use Rattle.frame.specs.Frame.{frameOf}
-use Rattle.probe.proofs.Accepted.{hear-parts, heard-frame, heard-within}
+use Rattle.probe_checks.proofs.Accepted.{hear-parts, heard-frame, heard-within}
 use Rattle.probe.proofs.Calls.{refused-call, accepted-call}
 
 hear-fault-requires : tie.Need-hear-fault-requires

@@ -8,8 +8,8 @@ use Rattle.table.specs.Legal.{sliceFault}
 use Rattle.table.proofs.Slices.{given}
 use Rattle.rules.specs.declared.Event.the-variants.{Opening}
 use Rattle.rules.proofs.Ready.{ready}
-use Rattle.probe.specs.Checks.{openFault}
-use Rattle.probe.proofs.Accepted.{open-parts}
+use Rattle.probe_checks.specs.Checks.{openFault}
+use Rattle.probe_checks.proofs.Accepted.{open-parts}
 use Rattle.probe.proofs.Calls.{refused-call, accepted-call}
 
 open-fault-requires : tie.Need-open-fault-requires

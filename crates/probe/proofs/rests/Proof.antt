@@ -7,9 +7,9 @@ use native.Mathlib.Omega.{arith}
 use borrow.Author.Tests.{eq-eqb, ne-eqb}
 use Rattle.table.specs.Table.{Table, ofSlices}
 use Rattle.table.specs.Legal.{sliceFault}
-use Rattle.record.proofs.Bytes.{record-good}
-use Rattle.probe.specs.Checks.{linkCallFault}
-use Rattle.probe.proofs.Accepted.{link-parts}
+use Rattle.record_checks.proofs.Bytes.{record-good}
+use Rattle.probe_checks.specs.Checks.{linkCallFault}
+use Rattle.probe_checks.proofs.Accepted.{link-parts}
 
 link-call-fault-requires : tie.Need-link-call-fault-requires
 link-call-fault-requires c κs = search needs

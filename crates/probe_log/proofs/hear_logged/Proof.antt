@@ -49,7 +49,7 @@ use Rattle.table.specs.Table.{ofSlices}
 use Rattle.table.specs.Legal.{sliceFault}
 use Rattle.frame.specs.Frame.{frameOf}
 use Rattle.rules.specs.Frames.{heardOf}
-use Rattle.probe.specs.Checks.{hearFault}
+use Rattle.probe_checks.specs.Checks.{hearFault}
 use Rattle.probe_log.specs.Logged.{ToldCall}
 use Rattle.probe_log.proofs.Stored.{stored}
 use Rattle.wake_log.specs.declared.core.Told.{Told}

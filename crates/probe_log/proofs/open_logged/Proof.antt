@@ -48,7 +48,7 @@ use Rattle.wake_log.proofs.append.Met as append-thm
 use Rattle.table.specs.Table.{ofSlices}
 use Rattle.table.specs.Legal.{sliceFault}
 use Rattle.rules.specs.declared.Event.the-variants.{Opening}
-use Rattle.probe.specs.Checks.{openFault}
+use Rattle.probe_checks.specs.Checks.{openFault}
 use Rattle.probe_log.specs.Logged.{ToldCall}
 use Rattle.probe_log.proofs.Stored.{stored}
 use Rattle.wake_log.specs.declared.core.Told.{Told}

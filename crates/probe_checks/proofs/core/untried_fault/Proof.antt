@@ -1,7 +1,7 @@
--- `probe::core::untried_fault` meets its contract.
+-- `probe_checks::core::untried_fault` meets its contract.
 use borrow.Author.Needs.{needs}
-use Rattle.probe.proofs.core.untried_fault.Statement.{statement}
-use Rattle.probe.proofs.core.untried_fault.Tie as tie
+use Rattle.probe_checks.proofs.core.untried_fault.Statement.{statement}
+use Rattle.probe_checks.proofs.core.untried_fault.Tie as tie
 use native.Mathlib.Omega.{arith}
 use borrow.Author.Tests.{eq-eqb, ne-eqb}
 

@@ -1,20 +1,20 @@
--- `probe::core::hear_fault` meets its contract.
+-- `probe_checks::core::hear_fault` meets its contract.
 use Prim.Native.Nat.{ℕ}
-use Rattle.probe.proofs.Accepted.{hear-early, hear-late, heard-frame, heard-within}
+use Rattle.probe_checks.proofs.Accepted.{hear-early, hear-late, heard-frame, heard-within}
 use Rattle.range.specs.First.{orElse}
 use Rattle.record.specs.Record.{recordFault}
 use Rattle.table.specs.Legal.{sliceFault}
 use Rattle.table.specs.Table.{Table, ofSlices}
 use borrow.Author.Needs.{needs}
-use Rattle.probe.proofs.core.hear_fault.Statement.{statement}
-use Rattle.probe.proofs.core.hear_fault.Tie as tie
+use Rattle.probe_checks.proofs.core.hear_fault.Statement.{statement}
+use Rattle.probe_checks.proofs.core.hear_fault.Tie as tie
 use mathlib.Core.Path.{_≡_, sym, _∙_}
 use native.Mathlib.Omega.{arith}
 use borrow.Author.Tests.{eq-eqb, ne-eqb}
 use Rattle.range.proofs.Faults.{or-here, or-left, or-right}
 use Rattle.table.proofs.Slices.{given}
-use Rattle.record.proofs.Bytes.{record-good}
-use Rattle.probe.specs.Checks.{heardFault}
+use Rattle.record_checks.proofs.Bytes.{record-good}
+use Rattle.probe_checks.specs.Checks.{heardFault}
 
 state-fault-requires : tie.Need-state-fault-requires
 state-fault-requires c κs = search needs

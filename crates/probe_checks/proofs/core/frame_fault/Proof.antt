@@ -1,12 +1,12 @@
--- `probe::core::frame_fault` meets its contract.
+-- `probe_checks::core::frame_fault` meets its contract.
 use borrow.Author.Needs.{needs}
-use Rattle.probe.proofs.core.frame_fault.Statement.{statement}
-use Rattle.probe.proofs.core.frame_fault.Tie as tie
+use Rattle.probe_checks.proofs.core.frame_fault.Statement.{statement}
+use Rattle.probe_checks.proofs.core.frame_fault.Tie as tie
 use mathlib.Core.Path.{sym, _∙_}
 use borrow.Author.Tests.{lt-ltb, le-ltb, eq-eqb, ne-eqb}
 use Rattle.range.proofs.Faults.{or-here}
-use Rattle.probe.specs.Checks.{heardFault}
-use Rattle.probe.proofs.Accepted.{known-kind, other-kind}
+use Rattle.probe_checks.specs.Checks.{heardFault}
+use Rattle.probe_checks.proofs.Accepted.{known-kind, other-kind}
 
 frame-fault-requires : tie.Need-frame-fault-requires
 frame-fault-requires c κs = search needs

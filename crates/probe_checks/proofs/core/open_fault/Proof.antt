@@ -1,13 +1,13 @@
--- `probe::core::open_fault` meets its contract.
+-- `probe_checks::core::open_fault` meets its contract.
 use Prim.Native.Nat.{ℕ}
-use Rattle.probe.proofs.Accepted.{open-early, open-late}
+use Rattle.probe_checks.proofs.Accepted.{open-early, open-late}
 use Rattle.range.specs.First.{orElse}
 use Rattle.record.specs.Record.{recordFault}
 use Rattle.table.specs.Legal.{sliceFault}
 use Rattle.table.specs.Table.{Table, ofSlices}
 use borrow.Author.Needs.{needs}
-use Rattle.probe.proofs.core.open_fault.Statement.{statement}
-use Rattle.probe.proofs.core.open_fault.Tie as tie
+use Rattle.probe_checks.proofs.core.open_fault.Statement.{statement}
+use Rattle.probe_checks.proofs.core.open_fault.Tie as tie
 use mathlib.Core.Path.{_≡_, sym, _∙_}
 use borrow.Author.Tests.{lt-ltb, le-ltb, eq-eqb, ne-eqb}
 

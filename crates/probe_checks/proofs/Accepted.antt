@@ -16,7 +16,7 @@ use Rattle.frame.specs.Frame.{Frame, frameOf, frameFault}
 use Rattle.record.specs.Record.{recordFault}
 use Rattle.rules.specs.Frames.{between, numberFault, heardOf}
 use Rattle.rules.specs.Within.{EventWithin}
-use Rattle.probe.specs.Checks.{kindFault, toFault, probeFault, linkFault, untriedFault, fullFault, heardFault, hearFault, openFault, linkCallFault}
+use Rattle.probe_checks.specs.Checks.{kindFault, toFault, probeFault, linkFault, untriedFault, fullFault, heardFault, hearFault, openFault, linkCallFault}
 
 module _ (t : Table) (p : ℕ) (l : List ℕ) (e : heardFault t p l ≡ 0) where
   abbrev f : Frame

@@ -1,7 +1,7 @@
--- `probe::core::state_fault` meets its contract.
+-- `probe_checks::core::state_fault` meets its contract.
 use borrow.Author.Needs.{needs}
-use Rattle.probe.proofs.core.state_fault.Statement.{statement}
-use Rattle.probe.proofs.core.state_fault.Tie as tie
+use Rattle.probe_checks.proofs.core.state_fault.Statement.{statement}
+use Rattle.probe_checks.proofs.core.state_fault.Tie as tie
 use mathlib.Core.Path.{sym, _∙_}
 use native.Mathlib.Omega.{arith}
 use Rattle.range.proofs.Faults.{or-here, or-next}

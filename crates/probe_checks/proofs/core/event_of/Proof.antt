@@ -1,7 +1,7 @@
--- `probe::core::event_of` meets its contract.
+-- `probe_checks::core::event_of` meets its contract.
 use borrow.Author.Needs.{needs}
-use Rattle.probe.proofs.core.event_of.Statement.{statement}
-use Rattle.probe.proofs.core.event_of.Tie as tie
+use Rattle.probe_checks.proofs.core.event_of.Statement.{statement}
+use Rattle.probe_checks.proofs.core.event_of.Tie as tie
 use borrow.Author.Tests.{eq-eqb, ne-eqb}
 
 field-requires : tie.Need-field-requires

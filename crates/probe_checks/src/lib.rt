@@ -1,0 +1,2 @@
+// The checks of an end's calls, and what a frame says.
+pub mod core;
