@@ -1,5 +1,4 @@
 pub mod Same
-pub mod Printing
 pub mod Reading
 pub mod Most
 pub mod Long

@@ -23,8 +23,8 @@ use Rattle.table.specs.Legal.{linkFault, needFault}
 use Rattle.table.specs.Text.{ofText, needStart, linkStart, begins, closingLine, closingFault, needLineFault, linkLineFault, headFault, bodyFault, textFault, textEnd}
 use Rattle.table.proofs.Accepted.{text-good}
 use Rattle.table.proofs.Faults.{Size}
-use Rattle.table_read.proofs.Good.{head-good, text-head}
-use Rattle.plan_output.specs.Output.{outputOf}
+use Rattle.text_lines.proofs.Good.{head-good, text-head}
+use Rattle.plan_lines.specs.Output.{outputOf}
 
 -- both texts have n bytes or more, and the first n are equal
 record Agree (s u : List ℕ) (n : ℕ) : Type 0 where

@@ -9,12 +9,12 @@ use lib.ListN.{length}
 use borrow.Author.Tests.{eq-eqb, ne-eqb, le-ltb}
 use Rattle.range.proofs.Sums.{count-le}
 use Rattle.table.specs.Text.{ofText, textFault}
-use Rattle.table_read.proofs.Good.{text-head}
+use Rattle.text_lines.proofs.Good.{text-head}
 use Rattle.cover_theory.specs.Plan.{kept}
-use Rattle.plan_output.specs.Output.{outputOf, Outputs}
+use Rattle.plan_lines.specs.Output.{outputOf, Outputs}
 use Rattle.output.specs.declared.Output.{Output}
 use Rattle.output.specs.declared.Output.the-variants.{Length}
-use Rattle.plan_output.proofs.Printing.{length-plan}
+use Rattle.plan_lines.proofs.Printing.{length-plan}
 
 pub most : (s : List ℕ) → length (outputOf s) ≤ 26646
 most s = go (ℕ-discrete (textFault 256 2048 false s) 0)

@@ -17,14 +17,14 @@ use Rattle.table.proofs.Accepted.{text-legal}
 use Rattle.table_read.specs.Reading.{filledOf}
 use Rattle.table_read.specs.declared.Reading.{Reading}
 use Rattle.table_read.specs.declared.Reading.the-variants.{Table as Read, Refused as Unread}
-use Rattle.table_read.proofs.Good.{text-head}
+use Rattle.text_lines.proofs.Good.{text-head}
 use Rattle.table_round.proofs.Functions.{answer-read}
 use Rattle.table_round.specs.Same.{Same}
 use Rattle.table_round.specs.Functions.{Slices, tableOf, readingFault, ReadTable}
 use Rattle.table_round.proofs.Tables.{same-fault}
 use Rattle.output.specs.Output.{refusalLine, Prints}
 use Rattle.output.specs.declared.Output.{Output}
-use Rattle.plan_output.specs.Output.{planText, Outputs}
+use Rattle.plan_lines.specs.Output.{planText, Outputs}
 use Rattle.plan_output.proofs.Same.{same-plan}
 
 -- slices of the planner's lengths

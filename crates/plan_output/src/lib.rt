@@ -1,6 +1,6 @@
 // The plan of a table's text, as the plan program prints it.
 use output::Output;
-ghost use Rattle.plan_output.specs.Output.{Outputs};
+ghost use Rattle.plan_lines.specs.Output.{Outputs};
 
 pub mod core;
 

@@ -9,9 +9,9 @@ use Rattle.table.specs.Table.{ofSlices}
 use Rattle.table.proofs.Faults.{room-good}
 use Rattle.slse.proofs.Turns.{size}
 use Rattle.cover.proofs.Answers.{numbered}
-use Rattle.plan_output.specs.Output.{planText}
+use Rattle.plan_lines.specs.Output.{planText}
 use Rattle.output.proofs.Printing.{prints-refused, prints-done}
-use Rattle.plan_output.proofs.Printing.{length-plan, count-says, plan-then}
+use Rattle.plan_lines.proofs.Printing.{length-plan, count-says, plan-then}
 
 slice-aggregate-slse-plan : tie.Need-slice-aggregate-slse-plan
 slice-aggregate-slse-plan c = search needs

@@ -1,7 +1,7 @@
--- `plan_output::core::put_kept` meets its contract.
+-- `plan_lines::core::put_kept` meets its contract.
 use borrow.Author.Needs.{needs}
-use Rattle.plan_output.proofs.core.put_kept.Statement.{statement}
-use Rattle.plan_output.proofs.core.put_kept.Tie as tie
+use Rattle.plan_lines.proofs.core.put_kept.Statement.{statement}
+use Rattle.plan_lines.proofs.core.put_kept.Tie as tie
 use Prim.Native.Nat.{ℕ, _+_, _-_, _*_, _≤_}
 use mathlib.Core.Path.{_≡_, refl, _∙_}
 use mathlib.Core.Bool.{Bool}
@@ -14,7 +14,7 @@ use Rattle.range.specs.Sum.{sum, count}
 use Rattle.range.specs.Lists.{joined}
 use Rattle.range.proofs.Sums.{weigh-next}
 use Rattle.table.specs.Table.{item}
-use Rattle.plan_output.proofs.Printing.{lineIf, count-part, lines-then}
+use Rattle.plan_lines.proofs.Printing.{lineIf, count-part, lines-then}
 
 abbrev isKept : List ℕ → ℕ → Bool
 isKept plan i = eqb (item plan i) 1

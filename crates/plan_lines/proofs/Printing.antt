@@ -19,7 +19,7 @@ use Rattle.table.proofs.Lengths.{length-triple}
 use Rattle.range.proofs.Sets.{sets-then}
 use Rattle.cover_theory.specs.Plan.{kept, keptCount, costOf}
 use Rattle.slse.specs.Ordered.{planByte}
-use Rattle.plan_output.specs.Output.{headLine, keptLines, planText}
+use Rattle.plan_lines.specs.Output.{headLine, keptLines, planText}
 
 -- Lengths.
 

@@ -1,6 +1,6 @@
--- `cover::core::counted` meets its contract.
-use Rattle.cover.proofs.core.counted.Statement.{statement}
-use Rattle.cover.proofs.core.counted.Tie as tie
+-- `plan_counts::core::counted` meets its contract.
+use Rattle.plan_counts.proofs.core.counted.Statement.{statement}
+use Rattle.plan_counts.proofs.core.counted.Tie as tie
 use borrow.Author.Tests.{eq-eqb, ne-eqb}
 
 returns : tie.Need-returns

@@ -1,0 +1,2 @@
+// The count and the cost of the links that a plan keeps.
+pub mod core;
