@@ -14,7 +14,7 @@ use Rattle.table_write.specs.declared.Writing.{Writing}
 use Rattle.table_write.specs.declared.Writing.the-variants.{Length, Refused}
 use Rattle.cover.specs.Planning.{Plans, PlansByTurns}
 use Rattle.cover.specs.declared.Planning.{Planning}
-use Rattle.plan_output.specs.Output.{Outputs}
+use Rattle.plan_lines.specs.Output.{Outputs}
 use Rattle.output.specs.declared.Output.{Output}
 use Rattle.entry.specs.declared.Answer.{Answer}
 use Rattle.rules.specs.declared.Event.{Event}

@@ -8,7 +8,7 @@ use Rattle.table.specs.Table.{Table as Site}
 use Rattle.table_read.specs.Reading.{readingOf, Reads}
 use Rattle.table_write.specs.Writing.{writingOf, Writes}
 use Rattle.cover.specs.Planning.{planningOf, Plans, PlansByTurns}
-use Rattle.plan_output.specs.Output.{Outputs}
+use Rattle.plan_lines.specs.Output.{Outputs}
 use Rattle.output.specs.declared.Output.{Output}
 use Rattle.entry.specs.Entry.{answerOf}
 use Rattle.rules.specs.declared.Event.{Event}

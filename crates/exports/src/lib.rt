@@ -14,7 +14,7 @@ ghost use Rattle.rules.specs.declared.Event.the-variants.{Opening};
 ghost use Rattle.rules.specs.Rules.{rests};
 ghost use Rattle.rules.specs.Frames.{heardOf};
 ghost use Rattle.probe.specs.declared.Kind.the-variants.{Offer, Refusal};
-ghost use Rattle.probe.specs.Checks.{hearFault, openFault, linkCallFault};
+ghost use Rattle.probe_checks.specs.Checks.{hearFault, openFault, linkCallFault};
 ghost use Rattle.probe.specs.Answers.{lentFault, restingOf};
 ghost use Rattle.fleet_theory.specs.Fleet.{tableOf, slicesFault, fleetFault, finished};
 ghost use Rattle.fleet.specs.Answers.{slicesOf, finishingOf};

@@ -33,7 +33,7 @@ use Rattle.rules.specs.Rules.{befalls, offer, whatOf, entryOf}
 use Rattle.fleet_theory.specs.Fleet.{outAt, inAt, own, Slices, tableOf, slicesFault, fleetFault, eventFault, eventOf, outcomeOf, alterFleet, alteredBy, State, start, faultOf, answerTo, accepted, next, differs, linkChanges, changes, allChanges}
 use Rattle.fleet_theory.proofs.Own.{out-reads, in-reads}
 use Rattle.rules.specs.Within.{OwnLink, OwnOutcome}
-use Rattle.record.proofs.Search.{dearest}
+use Rattle.record_search.proofs.Search.{dearest}
 use Rattle.fleet_theory.proofs.Events.{line-step}
 use Rattle.fleet_theory.proofs.Run.{slices-legal, Holds, start-holds, fleet-passes, next-holds}
 use Rattle.fleet.specs.Answers.{Handled, changesOf, changesBy, changesIn}

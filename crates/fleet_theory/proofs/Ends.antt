@@ -18,7 +18,7 @@ use Rattle.table.specs.Legal.{Legal}
 use Rattle.cover_theory.proofs.Settled.{back}
 use Rattle.frame.specs.Frame.{Frame, frameOf, frameFault}
 use Rattle.record.specs.Record.{recordFault}
-use Rattle.record.proofs.Bytes.{record-passes}
+use Rattle.record_checks.proofs.Bytes.{record-passes}
 use Rattle.rules.specs.declared.Event.{Event}
 use Rattle.rules.specs.declared.Event.the-variants.{Opening}
 use Rattle.rules.specs.Rules.{sendable}
@@ -28,8 +28,8 @@ use Rattle.rules.proofs.Frames.{between-is}
 use Rattle.probe.specs.declared.Kind.{Kind}
 use Rattle.probe.specs.declared.Asked.{Asked}
 use Rattle.probe.specs.declared.Asked.the-variants as asked
-use Rattle.probe.specs.Checks as end
-use Rattle.probe.specs.Checks.{toFault, probeFault, linkFault, untriedFault, fullFault, heardFault, hearFault, openFault, linkCallFault}
+use Rattle.probe_checks.specs.Checks as end
+use Rattle.probe_checks.specs.Checks.{toFault, probeFault, linkFault, untriedFault, fullFault, heardFault, hearFault, openFault, linkCallFault}
 use Rattle.probe.specs.Answers.{Asks, askedEvent, askedFrame, askedLine, lentFault}
 use Rattle.probe.proofs.Calls.{asked-event}
 use Rattle.fleet_theory.specs.Fleet.{own, kindFault, endsFault, eventOf, Slices, tableOf, slicesFault, outcomeOf, State, start, run}

@@ -15,7 +15,7 @@ use Rattle.table.specs.Legal.{Legal}
 use Rattle.cover_theory.proofs.Plan.{at-end}
 use Rattle.cover_theory.proofs.Settled.{Across, near, back}
 use Rattle.record.specs.Record.{outbound, ownWith, standing, held, dearestUntried, cheapestHeld}
-use Rattle.record.proofs.Search.{dearest}
+use Rattle.record_search.proofs.Search.{dearest}
 use Rattle.frame.specs.Frame.{Frame, frameOf, frameLine}
 use Rattle.rules.specs.declared.Event.{Event}
 use Rattle.rules.specs.declared.Event.the-variants.{Opening, Offer, Refusal}

@@ -17,7 +17,7 @@ use Rattle.table.specs.Legal.{Legal}
 use Rattle.cover_theory.proofs.Plan.{at-end}
 use Rattle.cover_theory.proofs.Settled.{Across, up, down, back}
 use Rattle.record.specs.Record.{outbound, ownWith, standing, dearestUntried}
-use Rattle.record.proofs.Search.{dearest}
+use Rattle.record_search.proofs.Search.{dearest}
 use Rattle.frame.specs.Frame.{Frame, frameOf}
 use Rattle.bargain.proofs.State.{onesAt, Quiet}
 use Rattle.bargain.proofs.Bytes.{legal-sound}

@@ -17,7 +17,7 @@ use Rattle.rules.specs.Within.{OwnLink}
 use Rattle.probe.specs.declared.Kind.{Kind}
 use Rattle.probe.specs.declared.Asked.{Asked}
 use Rattle.probe.specs.declared.Asked.the-variants.{Written}
-use Rattle.probe.specs.Checks.{hearFault, openFault, linkCallFault}
+use Rattle.probe_checks.specs.Checks.{hearFault, openFault, linkCallFault}
 use Rattle.probe.specs.Answers.{Befallen, Asks, askedEvent, askedFrame, askedLine, lentFault}
 use Rattle.fleet_theory.specs.Fleet.{Slices, tableOf, slicesFault, State, start, own, faultOf, answerTo, next, run}
 use Rattle.fleet_theory.specs.Demand3.{IsFrame, MaySend}

@@ -14,7 +14,7 @@ use Rattle.table.specs.Legal.{Legal}
 use Rattle.cover_theory.proofs.Places.{Order, Side, here, earlier, later, side}
 use Rattle.cover_theory.proofs.Order.{sound, dearer-order}
 use Rattle.record.specs.Record.{outbound, inbound, ownWith, standing, held, dearestUntried, cheapestHeld}
-use Rattle.record.proofs.Search.{dearest, cheapest}
+use Rattle.record_search.proofs.Search.{dearest, cheapest}
 use Rattle.rules.specs.declared.Event.{Event}
 use Rattle.rules.specs.declared.Event.the-variants.{Opening, Offer, Refusal}
 use Rattle.rules.specs.declared.Outcome.{Outcome}

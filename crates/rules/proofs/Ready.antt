@@ -7,7 +7,7 @@ use lib.ListN.{length}
 use Rattle.table.specs.Table.{ofSlices}
 use Rattle.table.proofs.Slices.{Given}
 use Rattle.record.specs.Record.{recordFault}
-use Rattle.record.proofs.Bytes.{record-good}
+use Rattle.record_checks.proofs.Bytes.{record-good}
 use Rattle.rules.specs.Within.{Ready}
 
 pub ready : (number probes links : ℕ) (needs lows highs costs : List ℕ) (p : ℕ) (e : List ℕ) → Given 256 2048 number probes links needs lows highs costs

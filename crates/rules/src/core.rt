@@ -43,7 +43,16 @@ fn decide_opening(
     if spare <= record::core::ones(rec, links, 0) {
         return Outcome::NothingToOpen;
     }
-    let i = record::core::dearest_untried(rec, probes, links, needs, lows, highs, costs, probe);
+    let i = record_search::core::dearest_untried(
+        rec,
+        probes,
+        links,
+        needs,
+        lows,
+        highs,
+        costs,
+        probe,
+    );
     if links <= i {
         return Outcome::NothingToOpen;
     }
@@ -68,7 +77,7 @@ fn decide_offer(
     if record::core::ones(rec, links, 1) < spare {
         return Outcome::Taken(i);
     }
-    let displaced = record::core::cheapest_held(
+    let displaced = record_search::core::cheapest_held(
         rec,
         probes,
         links,

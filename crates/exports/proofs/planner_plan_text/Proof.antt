@@ -3,7 +3,7 @@ use borrow.Author.Needs.{needs}
 use Rattle.exports.proofs.planner_plan_text.Statement.{statement}
 use Rattle.exports.proofs.planner_plan_text.Tie as tie
 use native.Mathlib.Omega.{arith}
-use Rattle.plan_output.specs.Output.{outputOf}
+use Rattle.plan_lines.specs.Output.{outputOf}
 use Rattle.output.proofs.Printing.{printed-within}
 use Rattle.plan_output.proofs.Most.{most}
 use Rattle.exports.proofs.Answers.{outputs-packed}

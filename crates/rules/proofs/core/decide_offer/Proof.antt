@@ -5,7 +5,7 @@ use Rattle.rules.proofs.core.decide_offer.Tie as tie
 use mathlib.Core.Path.{sym, _∙_}
 use borrow.Author.Tests.{lt-ltb, le-ltb}
 use Rattle.table.specs.Table.{Table, ofSlices}
-use Rattle.record.proofs.Bytes.{ones-held}
+use Rattle.record_checks.proofs.Bytes.{ones-held}
 use Rattle.cover_theory.proofs.Order.{sound, dearer-by-place}
 
 spare-requires : tie.Need-spare-requires

@@ -4,7 +4,7 @@ use Rattle.rules.proofs.core.decide_opening.Statement.{statement}
 use Rattle.rules.proofs.core.decide_opening.Tie as tie
 use borrow.Author.Tests.{lt-ltb, le-ltb}
 use Rattle.table.specs.Table.{Table, ofSlices}
-use Rattle.record.proofs.Bytes.{ones-standing}
+use Rattle.record_checks.proofs.Bytes.{ones-standing}
 
 spare-requires : tie.Need-spare-requires
 spare-requires c κs = search needs
