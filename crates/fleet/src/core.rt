@@ -29,7 +29,7 @@ fn apply(
 {
     let mut bytes = [0u8; 4096];
     fleet_record::core::own_bytes(&mut bytes, rec, links, lows, highs, probe as usize);
-    let outcome = rules::core::decide(
+    let outcome = decisions::core::decide(
         event,
         &bytes[..2 * links],
         probes,

@@ -30,7 +30,7 @@ fn ends_fault(
         }
         return 0;
     }
-    if links <= rules::core::between(links, lows, highs, from, to) {
+    if links <= link_between::core::between(links, lows, highs, from, to) {
         return 24;
     }
     0
@@ -75,7 +75,7 @@ pub fn line_event(links: usize, lows: &[u16], highs: &[u16], line: &[u8]) -> rul
     }
     let from = frame::core::field(line, 6, 4);
     let to = frame::core::field(line, 10, 4);
-    let i = rules::core::between(links, lows, highs, from, to);
+    let i = link_between::core::between(links, lows, highs, from, to);
     if kind == 1 {
         return rules::Event::Offer(i);
     }

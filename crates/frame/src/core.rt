@@ -30,5 +30,5 @@ pub fn write_frame(out: &mut [u8], kind: u8, number: u16, from: u16, to: u16)
     ensures { λ _. ⌜ now (out .exit) ≡ sets (now (out .entry)) 0 (frameLine (record { kind = kind; number = number; from = from; to = to })) ⌝ }
 {
     hex::core::put_number(out, 0, 2, kind as u32);
-    text_write::core::put_triple(out, 2, number, from, to);
+    line_write::core::put_triple(out, 2, number, from, to);
 }

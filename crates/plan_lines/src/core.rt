@@ -31,7 +31,7 @@ fn put_link(out: &mut [u8], at: usize, byte: u8, low: u16, high: u16, cost: u16)
     if byte != 1 {
         return at;
     }
-    text_write::core::put_triple(out, at, low, high, cost);
+    line_write::core::put_triple(out, at, low, high, cost);
     at + 13
 }
 

@@ -35,6 +35,6 @@ pub fn print_plan(
     let cost = plan_counts::core::kept_cost(&plan, links, costs);
     plan_lines::core::put_head(out, number, kept, cost);
     plan_lines::core::put_kept(out, &plan, links, lows, highs, costs);
-    text_write::core::put_closing(out, end);
+    line_write::core::put_closing(out, end);
     Output::Length(end + 5)
 }

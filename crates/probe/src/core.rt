@@ -24,7 +24,7 @@ pub fn apply(
         (befalls (ofSlices 0 probes links (now (needs .entry)) (now (lows .entry)) (now (highs .entry)) (now (costs .entry))) probe event (now (rec .entry))))
         × (now (rec .exit) ≡ alter (befalls (ofSlices 0 probes links (now (needs .entry)) (now (lows .entry)) (now (highs .entry)) (now (costs .entry))) probe event (now (rec .entry))) (now (rec .entry))) ⌝ }
 {
-    let outcome = rules::core::decide(
+    let outcome = decisions::core::decide(
         event,
         rec,
         probes,

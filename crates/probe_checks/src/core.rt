@@ -42,7 +42,9 @@ fn frame_fault(
     if to != probe {
         return 24;
     }
-    if links <= rules::core::between(links, lows, highs, frame::core::field(frame, 6, 4), to) {
+    if links
+        <= link_between::core::between(links, lows, highs, frame::core::field(frame, 6, 4), to)
+    {
         return 24;
     }
     0
@@ -55,7 +57,7 @@ pub fn event_of(links: usize, lows: &[u16], highs: &[u16], frame: &[u8]) -> rule
 {
     let from = frame::core::field(frame, 6, 4);
     let to = frame::core::field(frame, 10, 4);
-    let i = rules::core::between(links, lows, highs, from, to);
+    let i = link_between::core::between(links, lows, highs, from, to);
     if frame::core::field(frame, 0, 2) == 1 {
         return rules::Event::Offer(i);
     }

@@ -1,2 +1,2 @@
-// The lines of a table's text written. The writers of a table, of a frame and of a plan call these, within the bounds that they ask.
+// A table's text, written as a whole.
 pub mod core;

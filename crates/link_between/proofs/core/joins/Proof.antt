@@ -1,7 +1,7 @@
--- `rules::core::joins` meets its contract.
+-- `link_between::core::joins` meets its contract.
 use borrow.Author.Needs.{needs}
-use Rattle.rules.proofs.core.joins.Statement.{statement}
-use Rattle.rules.proofs.core.joins.Tie as tie
+use Rattle.link_between.proofs.core.joins.Statement.{statement}
+use Rattle.link_between.proofs.core.joins.Tie as tie
 use mathlib.Core.Path.{sym, _∙_}
 
 mul-wide : tie.Need-mul-wide

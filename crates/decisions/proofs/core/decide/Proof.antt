@@ -1,7 +1,7 @@
--- `rules::core::decide` meets its contract.
+-- `decisions::core::decide` meets its contract.
 use borrow.Author.Needs.{needs}
-use Rattle.rules.proofs.core.decide.Statement.{statement}
-use Rattle.rules.proofs.core.decide.Tie as tie
+use Rattle.decisions.proofs.core.decide.Statement.{statement}
+use Rattle.decisions.proofs.core.decide.Tie as tie
 use native.Mathlib.Omega.{arith}
 use borrow.Author.Tests.{eq-eqb, ne-eqb}
 

@@ -1,7 +1,7 @@
--- `rules::core::dearer` meets its contract.
+-- `decisions::core::dearer` meets its contract.
 use borrow.Author.Needs.{needs}
-use Rattle.rules.proofs.core.dearer.Statement.{statement}
-use Rattle.rules.proofs.core.dearer.Tie as tie
+use Rattle.decisions.proofs.core.dearer.Statement.{statement}
+use Rattle.decisions.proofs.core.dearer.Tie as tie
 use borrow.Author.Tests.{lt-ltb, le-ltb, eq-eqb, ne-eqb}
 use native.Mathlib.Omega.{arith}
 use lib.ListN.{getD}

@@ -1,7 +1,7 @@
--- `rules::core::decide_offer` meets its contract.
+-- `decisions::core::decide_offer` meets its contract.
 use borrow.Author.Needs.{needs}
-use Rattle.rules.proofs.core.decide_offer.Statement.{statement}
-use Rattle.rules.proofs.core.decide_offer.Tie as tie
+use Rattle.decisions.proofs.core.decide_offer.Statement.{statement}
+use Rattle.decisions.proofs.core.decide_offer.Tie as tie
 use mathlib.Core.Path.{sym, _∙_}
 use borrow.Author.Tests.{lt-ltb, le-ltb}
 use Rattle.table.specs.Table.{Table, ofSlices}

@@ -1,7 +1,7 @@
--- `text_write::core::put_closing` meets its contract.
+-- `line_write::core::put_closing` meets its contract.
 use borrow.Author.Needs.{needs}
-use Rattle.text_write.proofs.core.put_closing.Statement.{statement}
-use Rattle.text_write.proofs.core.put_closing.Tie as tie
+use Rattle.line_write.proofs.core.put_closing.Statement.{statement}
+use Rattle.line_write.proofs.core.put_closing.Tie as tie
 use Prim.Native.Nat.{_-_, _≤_}
 use mathlib.Core.Path.{_≡_, refl}
 use native.Mathlib.Omega.{arith}

@@ -1,7 +1,7 @@
--- `rules::core::decide_opening` meets its contract.
+-- `decisions::core::decide_opening` meets its contract.
 use borrow.Author.Needs.{needs}
-use Rattle.rules.proofs.core.decide_opening.Statement.{statement}
-use Rattle.rules.proofs.core.decide_opening.Tie as tie
+use Rattle.decisions.proofs.core.decide_opening.Statement.{statement}
+use Rattle.decisions.proofs.core.decide_opening.Tie as tie
 use borrow.Author.Tests.{lt-ltb, le-ltb}
 use Rattle.table.specs.Table.{Table, ofSlices}
 use Rattle.record_checks.proofs.Bytes.{ones-standing}

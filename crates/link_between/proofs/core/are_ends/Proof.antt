@@ -1,6 +1,6 @@
--- `rules::core::are_ends` meets its contract.
-use Rattle.rules.proofs.core.are_ends.Statement.{statement}
-use Rattle.rules.proofs.core.are_ends.Tie as tie
+-- `link_between::core::are_ends` meets its contract.
+use Rattle.link_between.proofs.core.are_ends.Statement.{statement}
+use Rattle.link_between.proofs.core.are_ends.Tie as tie
 use borrow.Author.Tests.{eq-eqb, ne-eqb}
 
 returns : tie.Need-returns

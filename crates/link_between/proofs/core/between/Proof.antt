@@ -1,7 +1,7 @@
--- `rules::core::between` meets its contract.
+-- `link_between::core::between` meets its contract.
 use borrow.Author.Needs.{needs}
-use Rattle.rules.proofs.core.between.Statement.{statement}
-use Rattle.rules.proofs.core.between.Tie as tie
+use Rattle.link_between.proofs.core.between.Statement.{statement}
+use Rattle.link_between.proofs.core.between.Tie as tie
 use Prim.Native.Nat.{ℕ, _+_, _-_, _≤_, _<_}
 use mathlib.Core.Path.{_≡_, sym, _∙_}
 use mathlib.Core.List.{List, []}

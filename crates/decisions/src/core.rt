@@ -1,0 +1,127 @@
+// What befalls an end, by its rules.
+ghost use mathlib.Core.Path.{_≡_};
+ghost use mathlib.Core.Bool.{_&&_, _||_};
+ghost use Prim.Native.Nat.{_<_};
+ghost use lib.Dec.{ltb, eqb};
+ghost use lib.ListN.{length};
+ghost use Rattle.table.specs.Table.{item, ofSlices};
+ghost use Rattle.rules.specs.Rules.{opening, offer, befalls};
+ghost use Rattle.rules.specs.Within.{EventWithin, Ready};
+use rules::Event;
+use rules::Outcome;
+
+// Whether the link i is dearer than the link j.
+fn dearer(costs: &[u16], i: usize, j: usize) -> bool
+    requires { ⌜ (i < length (now costs)) × (j < length (now costs)) ⌝ }
+    ensures { λ r. ⌜ r ≡ (ltb (item (now (costs .entry)) j) (item (now (costs .entry)) i) || (eqb (item (now (costs .entry)) i) (item (now (costs .entry)) j) && ltb j i)) ⌝ }
+{
+    if costs[j] < costs[i] {
+        return true;
+    }
+    if costs[i] < costs[j] {
+        return false;
+    }
+    j < i
+}
+
+fn decide_opening(
+    rec: &[u8],
+    probes: usize,
+    links: usize,
+    needs: &[u16],
+    lows: &[u16],
+    highs: &[u16],
+    costs: &[u16],
+    probe: usize,
+) -> Outcome
+    requires { ⌜ Ready (ofSlices 0 probes links (now needs) (now lows) (now highs) (now costs)) probe (now rec) (length (now lows)) (length (now highs)) (length (now costs)) ⌝ }
+    ensures { λ r. ⌜ r ≡ opening (ofSlices 0 probes links (now (needs .entry)) (now (lows .entry)) (now (highs .entry)) (now (costs .entry))) probe (now (rec .entry)) ⌝ }
+{
+    let spare = record::core::spare(links, needs, lows, highs, probe);
+    if spare <= record::core::ones(rec, links, 0) {
+        return Outcome::NothingToOpen;
+    }
+    let i = record_search::core::dearest_untried(
+        rec,
+        probes,
+        links,
+        needs,
+        lows,
+        highs,
+        costs,
+        probe,
+    );
+    if links <= i {
+        return Outcome::NothingToOpen;
+    }
+    Outcome::Opened(i)
+}
+
+fn decide_offer(
+    rec: &[u8],
+    probes: usize,
+    links: usize,
+    needs: &[u16],
+    lows: &[u16],
+    highs: &[u16],
+    costs: &[u16],
+    probe: usize,
+    i: usize,
+) -> Outcome
+    requires { ⌜ Ready (ofSlices 0 probes links (now needs) (now lows) (now highs) (now costs)) probe (now rec) (length (now lows)) (length (now highs)) (length (now costs)) × (i < links) ⌝ }
+    ensures { λ r. ⌜ r ≡ offer (ofSlices 0 probes links (now (needs .entry)) (now (lows .entry)) (now (highs .entry)) (now (costs .entry))) probe (now (rec .entry)) i ⌝ }
+{
+    let spare = record::core::spare(links, needs, lows, highs, probe);
+    if record::core::ones(rec, links, 1) < spare {
+        return Outcome::Taken(i);
+    }
+    let displaced = record_search::core::cheapest_held(
+        rec,
+        probes,
+        links,
+        needs,
+        lows,
+        highs,
+        costs,
+        probe,
+    );
+    if links <= displaced {
+        return Outcome::Refused(i);
+    }
+    if dearer(costs, i, displaced) {
+        return Outcome::Displacing { link: i, displaced };
+    }
+    Outcome::Refused(i)
+}
+
+// What befalls the probe.
+pub fn decide(
+    event: Event,
+    rec: &[u8],
+    probes: usize,
+    links: usize,
+    needs: &[u16],
+    lows: &[u16],
+    highs: &[u16],
+    costs: &[u16],
+    probe: usize,
+) -> Outcome
+    requires { ⌜ Ready (ofSlices 0 probes links (now needs) (now lows) (now highs) (now costs)) probe (now rec) (length (now lows)) (length (now highs)) (length (now costs)) × EventWithin links event ⌝ }
+    ensures { λ r. ⌜ r ≡ befalls (ofSlices 0 probes links (now (needs .entry)) (now (lows .entry)) (now (highs .entry)) (now (costs .entry))) probe event (now (rec .entry)) ⌝ }
+{
+    match event {
+        Event::Opening => decide_opening(rec, probes, links, needs, lows, highs, costs, probe),
+        Event::Offer(i) => {
+            if rec[2 * i + 1] != 0 {
+                return Outcome::NoChange(i);
+            }
+            decide_offer(rec, probes, links, needs, lows, highs, costs, probe, i)
+        }
+        Event::Refusal(i) => {
+            if rec[2 * i] == 2 {
+                return Outcome::NoChange(i);
+            }
+            Outcome::Learnt(i)
+        }
+    }
+}

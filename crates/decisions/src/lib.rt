@@ -1,0 +1,2 @@
+// What befalls an end, by its rules.
+pub mod core;

@@ -1,0 +1,2 @@
+// The link between two probes.
+pub mod core;
