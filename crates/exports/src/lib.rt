@@ -10,7 +10,6 @@ ghost use Rattle.table.specs.Text.{ofText, readFault};
 ghost use Rattle.table_write.specs.Writing.{writeFault};
 ghost use Rattle.cover.specs.Planning.{planFault, turnsFault};
 ghost use Rattle.frame.specs.Frame.{frameOf};
-ghost use Rattle.entry.specs.Entry.{codeOf, linkOf, displacedOf};
 ghost use Rattle.rules.specs.declared.Event.the-variants.{Opening};
 ghost use Rattle.rules.specs.Rules.{rests};
 ghost use Rattle.rules.specs.Frames.{heardOf};
