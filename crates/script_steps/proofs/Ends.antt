@@ -48,6 +48,10 @@ module _ (x : Slices) (bytes : List ℕ) (held changed : ℕ) where
       go true u l = omega arith
       go false u l = omega arith
 
+pub end-most : (b : Bool) → cond b 11 16 ≤ 16
+end-most true = omega arith
+end-most false = omega arith
+
 zeros-part : (n m : ℕ) → n ≤ m → _≡_ {A = List ℕ} (take n (replicate m 0)) (replicate n 0)
 zeros-part zero m l = refl
 zeros-part (suc n) zero l = absurd (omega arith)

@@ -172,7 +172,7 @@ pub fn take_piece(
         × (progress .held ≤ 16) × (length (now line) ≡ 17) × (5 * (progress .held + length (now piece)) ≤ length (now out)) ⌝ }
     ensures { λ r. ⌜ Buffered (afterPiece (slicesOf number probes links (now (needs .entry)) (now (lows .entry)) (now (highs .entry)) (now (costs .entry)))
         room (underWay progress (now (rec .entry)) (now (line .entry))) (now (piece .entry))) 0 r (now (rec .exit)) (now (line .exit)) (now (out .entry)) (now (out .exit))
-        × (r .at + 5 * r .progress .held ≤ 5 * (progress .held + length (now (piece .entry)))) ⌝ }
+        × (r .at + 5 * r .progress .held ≤ 5 * (progress .held + length (now (piece .entry)))) × (r .progress .held ≤ 16) ⌝ }
 {
     let mut place = Place { at: 0, progress };
     let mut i = 0;
@@ -250,7 +250,8 @@ pub fn print_script(
     requires { ⌜ (slicesFault (slicesOf number probes links (now needs) (now lows) (now highs) (now costs)) ≡ 0) × (5 * length (now text) + 16 ≤ length (now out)) ⌝ }
     ensures { λ r. ⌜ (now (out .exit) ≡ sets (now (out .entry)) 0
         (scriptText (slicesOf number probes links (now (needs .entry)) (now (lows .entry)) (now (highs .entry)) (now (costs .entry))) 1024 (now (text .entry))))
-        × (r ≡ length (scriptText (slicesOf number probes links (now (needs .entry)) (now (lows .entry)) (now (highs .entry)) (now (costs .entry))) 1024 (now (text .entry)))) ⌝ }
+        × (r ≡ length (scriptText (slicesOf number probes links (now (needs .entry)) (now (lows .entry)) (now (highs .entry)) (now (costs .entry))) 1024 (now (text .entry))))
+        × (r ≤ length (now (out .entry))) ⌝ }
 {
     let mut bytes = [0u8; 8192];
     let mut line = [0u8; 17];

@@ -133,6 +133,7 @@ module _ (x : Slices) (room : ℕ) where
 
     -- a text handled byte by byte from the start, then ended, prints what it prints whole
     pub whole : (text : List ℕ) → (let q = afterPiece x room (begun x) text in q .out ++ endText x (q .bytes) (length (q .held)) (q .changed) ≡ scriptText x room text)
+    unfolding scriptText
     whole text =
         let z : 0 + allChanges x room (start x) (linesFrom [] text) ≡ allChanges x room (start x) (linesFrom [] text) = omega arith in
         rw (← z) (by-text (start x) (start-holds x fine) 0 [] [] text unclosed-none)

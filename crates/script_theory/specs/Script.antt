@@ -42,7 +42,7 @@ abbrev pub lastLine : Bool → ℕ → List ℕ
 lastLine done changes = digits 2 (cond done 1 0) ++ (digits 8 changes ++ (10 ∷ []))
 
 -- what the lines behind the table print, with a log of some room
-abbrev pub scriptText : Slices → ℕ → List ℕ → List ℕ
+unfoldable pub scriptText : Slices → ℕ → List ℕ → List ℕ
 scriptText x room text =
     let ls = linesFrom [] text in
     printed x room (start x) ls ++ lastLine (finished (tableOf x) (run x room (start x) ls .bytes)) (allChanges x room (start x) ls)

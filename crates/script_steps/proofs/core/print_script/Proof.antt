@@ -7,11 +7,12 @@ use mathlib.Core.List.{List}
 use mathlib.Core.Path.{refl, sym, _∙_}
 use native.Mathlib.Omega.{arith}
 use lib.ListN.{replicate}
+use lib.Dec.{eqb}
 use lib.Seq.{length-take-le}
 use Rattle.table.proofs.Slices.{given}
 use Rattle.fleet.specs.Answers.{slicesOf}
 use Rattle.fleet.proofs.Checks.{fits}
-use Rattle.script_steps.proofs.Ends.{links-within, zeros-pass, all-printed, all-length}
+use Rattle.script_steps.proofs.Ends.{end-most, links-within, zeros-pass, all-printed, all-length}
 
 mul-bytes : tie.Need-mul-bytes
 mul-bytes c =
@@ -66,8 +67,9 @@ returns c =
     let x = slicesOf (a .number) (a .probes) (a .links) (a .needs .now) (a .lows .now) (a .highs .now) (a .costs .now) in
     let m = links-within x (s .pre .0) in
     let w : 4 * a .links ≤ 8192 = omega arith in
+    let most = end-most (eqb (k .result .progress .held) 0) in
     let line : List ℕ = replicate 17 0 in
-    (all-printed x (s .pre .0) w _ (refl, refl, refl) line _ (a .text .now) _ (a .out .now) _ _ _ (k .ensures .0) (c .before .before .before .put-end .ensures .0 (a .number) (a .costs .now)), c .before .before .before .put-end .ensures .1 ∙ all-length x (s .pre .0) w _ (refl, refl, refl) line _ (a .text .now) _ (a .out .now) _ (a .out .now) _ (k .ensures .0))
+    (all-printed x (s .pre .0) w _ (refl, refl, refl) line _ (a .text .now) _ (a .out .now) _ _ _ (k .ensures .0) (c .before .before .before .put-end .ensures .0 (a .number) (a .costs .now)), c .before .before .before .put-end .ensures .1 ∙ all-length x (s .pre .0) w _ (refl, refl, refl) line _ (a .text .now) _ (a .out .now) _ (a .out .now) _ (k .ensures .0), omega (arith, k .ensures .1, s .pre .1, c .before .before .before .put-end .ensures .1))
 
 pub print-script-spec : {M : Type 1} → statement M
 print-script-spec =

@@ -70,7 +70,7 @@ returns c =
     let v = c .before .loop .inv in
     let n = length-take-le (a .progress .held) (a .line .now) (omega (arith, s .pre .2, s .pre .3)) in
     let t = v .1 .short in
-    (taken-all x (a .room) (s .pre .0) (underWay (a .progress) (a .rec .now) (a .line .now)) (a .piece .now) (a .out .now) (c .before .loop .i) (c .before .loop .place) _ _ _ (omega (arith, c .loop-test .left)) (v .1), omega (arith, v .0))
+    (taken-all x (a .room) (s .pre .0) (underWay (a .progress) (a .rec .now) (a .line .now)) (a .piece .now) (a .out .now) (c .before .loop .i) (c .before .loop .place) _ _ _ (omega (arith, c .loop-test .left)) (v .1), omega (arith, v .0), v .1 .few)
 
 pub take-piece-spec : {M : Type 1} → statement M
 take-piece-spec =
