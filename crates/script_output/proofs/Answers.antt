@@ -1,5 +1,5 @@
 -- How the code's answers come to what is promised.
-use Prim.Native.Nat.{ℕ, _≤_, _<_}
+use Prim.Native.Nat.{ℕ, _+_, _*_, _≤_, _<_}
 use mathlib.Core.Path.{_≡_, sym, _∙_, ap}
 use mathlib.Core.Bool.{cond}
 use mathlib.Core.List.{List}
@@ -9,14 +9,16 @@ use lib.Dec.{ltb}
 use lib.ListN.{length, take, drop}
 use lib.Seq.{sets, take-take, take-all, take-at, length-take-le}
 use borrow.Author.Tests.{eq-eqb, ne-eqb, lt-ltb, le-ltb}
+use Rattle.range.specs.First.{orElse}
 use Rattle.range.proofs.Sets.{sets-start}
 use Rattle.output.specs.declared.Output.the-variants.{Length, Refused}
+use Rattle.fleet_theory.specs.Fleet.{Slices, tableOf, slicesFault, fleetFault}
 use Rattle.script_theory.specs.Script.{Script}
 use Rattle.script_steps.specs.declared.Progress.{Progress}
 use Rattle.script_steps.specs.declared.core.Place.{Place}
 use Rattle.script_steps.specs.Within.{underWay, Buffered}
 use Rattle.script_output.specs.declared.Handling.the-variants as handling
-use Rattle.script_output.specs.Handling.{before, Handles, PrintsUnless}
+use Rattle.script_output.specs.Handling.{callFault, pieceFault, before, Handles, PrintsUnless}
 
 pub unprinted : (fault n : ℕ) (printed out : List ℕ) → n ≡ fault → (n ≡ 0 → ⊥) → PrintsUnless fault printed (Refused n) out out
 unprinted fault n printed out e some = let f = ne-eqb fault 0 (λ z. some (e ∙ z)) in record { answer = rw f (ap Refused e); out = rw f }
@@ -80,3 +82,20 @@ module _ (line : List ℕ) (h : ℕ) (long : 16 ≤ length line) where
       let c : take n buffer′ ≡ take n line =
       ap (take n) (s ∙ sets-start buffer (take n line) (omega arith)) ∙ take-at (take n line) (drop (length (take n line)) buffer) n m in
       rw (c, e, k) (rw held-part)
+
+-- The fault of a piece.
+pub line-short : (line out held piece : ℕ) → line < 16 → pieceFault line out held piece ≡ 8
+line-short line out held piece l = rw (lt-ltb line 16 l)
+
+pub out-short : (line out held piece : ℕ) → 16 ≤ line → out < 5 * (held + piece) → pieceFault line out held piece ≡ 8
+out-short line out held piece l s = rw (le-ltb line 16 l, lt-ltb out (5 * (held + piece)) s)
+
+pub piece-fits : (line out held piece : ℕ) → 16 ≤ line → 5 * (held + piece) ≤ out → pieceFault line out held piece ≡ 0
+piece-fits line out held piece l s = rw (le-ltb line 16 l, le-ltb out (5 * (held + piece)) s)
+
+module _ (x : Slices) (rec : List ℕ) (lent : ℕ) where
+  pub call-lent : lent ≡ 8 → 8 ≡ callFault lent x rec
+  call-lent e = rw e
+
+  pub call-state : (n : ℕ) → lent ≡ 0 → n ≡ orElse (slicesFault x) (fleetFault (tableOf x) rec) → n ≡ callFault lent x rec
+  call-state n e s = rw e s
