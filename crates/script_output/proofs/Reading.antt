@@ -28,6 +28,7 @@ use Rattle.output.specs.declared.Output.the-variants.{Length}
 use Rattle.fleet_theory.specs.Fleet.{Slices, tableOf, slicesFault}
 use Rattle.fleet.specs.Answers.{slicesOf}
 use Rattle.script_theory.specs.Script.{inSlices, scriptText, scriptOutput}
+use Rattle.script_steps.proofs.Ends.{links-within}
 use Rattle.script_output.specs.Handling.{PrintsUnless}
 use Rattle.script_output.proofs.Answers.{printed-all}
 
@@ -146,6 +147,9 @@ module _ (s : List ℕ) (r : Reading) (needs lows highs costs : List ℕ)
 
     pub read-fine : slicesFault (slicesOf number probes links needs lows highs costs) ≡ 0
     read-fine = ap slicesFault slices-are ∙ slices-fine s accepted
+
+    pub read-links : links ≤ 2048
+    read-links = links-within (slicesOf number probes links needs lows highs costs) read-fine
 
     pub rest-within : (23 ≤ rest) × (rest ≤ length s)
     rest-within = rw (is .4) (end-within s accepted)
