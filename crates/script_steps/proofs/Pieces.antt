@@ -3,7 +3,7 @@ use Prim.Native.Nat.{ℕ, suc, _+_, _*_, _≤_, _<_}
 use mathlib.Core.Path.{_≡_, refl, sym, _∙_, ap}
 use mathlib.Core.Logic.{_⊎_, inl, inr}
 use mathlib.Core.Bool.{true, false}
-use mathlib.Core.List.{List, [], _∷_, _++_, append-nil, append-assoc}
+use mathlib.Core.List.{List, [], _∷_, _++_}
 use native.Mathlib.Omega.{arith}
 use native.Mathlib.Decide.{ℕ-discrete, decLe}
 use lib.Dec.{eqb}
@@ -14,15 +14,15 @@ use Rattle.range.proofs.Bools.{decided}
 use Rattle.range.proofs.Sets.{sets-then}
 use Rattle.fleet_theory.specs.Fleet.{Slices, tableOf, slicesFault, fleetFault, eventFault}
 use Rattle.fleet_laws.proofs.Passing.{passed-line, record-stays}
-use Rattle.script_theory.specs.Script.{Script, bytesAfter, afterByte, afterPiece}
-use Rattle.script_theory.proofs.Pieces.{in-pieces}
+use Rattle.script_theory.specs.Script.{Script, bytesAfter, afterByte, afterPiece, carried}
+use Rattle.script_theory.proofs.Pieces.{in-pieces, onto, byte-onto, carried-onto}
 use Rattle.script_steps.specs.Within.{underWay, Buffered}
 use Rattle.script_steps.specs.declared.Progress.{Progress}
 use Rattle.script_steps.specs.declared.core.Place.{Place}
 use Rattle.script_steps.proofs.Printing.{answer-short}
 
 -- at most n, and at most 16
-short-take : (h : List ℕ) → (length (take 16 h) ≤ length h) × (length (take 16 h) ≤ 16)
+pub short-take : (h : List ℕ) → (length (take 16 h) ≤ length h) × (length (take 16 h) ≤ 16)
 short-take h = go (decLe (length h) 16)
   where
     go : Dec (length h ≤ 16) → (length (take 16 h) ≤ length h) × (length (take 16 h) ≤ 16)
@@ -30,33 +30,16 @@ short-take h = go (decLe (length h) 16)
     go (no d) = let n = length-take-le 16 h (omega arith) in (omega arith, omega arith)
 
 module _ (x : Slices) (room : ℕ) where
-  -- with more printed before it
-  abbrev onto : List ℕ → Script → Script
-  onto o p = record { bytes = p .bytes; used = p .used; changed = p .changed; held = p .held; out = o ++ p .out }
-
-  abbrev bare : Script → Script
-  bare p = record { bytes = p .bytes; used = p .used; changed = p .changed; held = p .held; out = [] }
-
-  byte-onto : (o : List ℕ) (p : Script) (b : ℕ) → afterByte x room (onto o p) b ≡ onto o (afterByte x room p b)
-  byte-onto o p b = go (decided (eqb b 10))
-    where
-      go : (eqb b 10 ≡ true) ⊎ (eqb b 10 ≡ false) → afterByte x room (onto o p) b ≡ onto o (afterByte x room p b)
-      go (inl e) = rw (e, append-assoc o (p .out) _)
-      go (inr e) = rw e
-
-  bare-onto : (q : Script) → onto (q .out) (bare q) ≡ q
-  bare-onto q = rw (append-nil (q .out))
-
   -- the next byte of a piece
   next-byte : (p : Script) (piece : List ℕ) (i : ℕ) → i < length piece
-      → (let q = afterPiece x room p (take i piece) in afterPiece x room p (take (i + 1) piece) ≡ onto (q .out) (afterByte x room (bare q) (getD piece i 0)))
+      → (let q = afterPiece x room p (take i piece) in afterPiece x room p (take (i + 1) piece) ≡ onto x room (q .out) (afterByte x room (carried q) (getD piece i 0)))
   unfolding afterPiece
   next-byte p piece i l =
       let q = afterPiece x room p (take i piece) in
       let b = getD piece i 0 in
       let e : i + 1 ≡ suc i = omega arith in
       rw (e, take-suc piece i 0 l)
-      (in-pieces x room p (take i piece) (b ∷ []) ∙ ap (λ (s : Script). afterByte x room s b) (sym (bare-onto q)) ∙ byte-onto (q .out) (bare q) b)
+      (in-pieces x room p (take i piece) (b ∷ []) ∙ ap (λ (s : Script). afterByte x room s b) (sym (carried-onto x room q)) ∙ byte-onto x room (q .out) (carried q) b)
 
   module _ (fine : slicesFault x ≡ 0) (p : Script) (b : ℕ) where
     abbrev q : Script
@@ -106,7 +89,7 @@ pub record Taken (x : Slices) (room : ℕ) (p : Script) (piece out₀ : List ℕ
   pub short : r .at + 5 * r .progress .held ≤ 5 * (length (p .held) + i)
   pub few : r .progress .held ≤ 16
 
-bare-is : (q : Script) (r : Place) (rec line out₀ out : List ℕ) (x : Slices) (room : ℕ) → Buffered q 0 r rec line out₀ out → underWay (r .progress) rec line ≡ bare x room q
+bare-is : (q : Script) (r : Place) (rec line out₀ out : List ℕ) (x : Slices) (room : ℕ) → Buffered q 0 r rec line out₀ out → underWay (r .progress) rec line ≡ carried q
 bare-is q r rec line out₀ out x room h = rw (h .bytes, h .used, h .changed, h .kept)
 
 pub taken-none : (x : Slices) (room : ℕ) (pr : Progress) (piece rec line out : List ℕ) → fleetFault (tableOf x) rec ≡ 0 → pr .held ≤ 16 → length line ≡ 17
