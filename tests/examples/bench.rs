@@ -1,16 +1,21 @@
-//! Times the library's two methods against the Rust ones, built for release in the same run:
-//! `cargo run --release --offline --example bench`. Says nothing about what is fast enough.
+//! Times the library's two methods and its events against the Rust ones, built for release in the
+//! same run: `cargo run --release --offline --example bench`. Says nothing about what is fast
+//! enough.
 
+use planner_tests::air::full_script;
 use planner_tests::face;
+use planner_tests::fleet::{self, BYTES};
 use planner_tests::methods;
 use planner_tests::random::Random;
 use planner_tests::reference::{fill_plan, fill_plan_and_work, Slices, Table};
+use planner_tests::script;
 use planner_tests::sites::{hubs, legal_of_size, set_costs, set_needs, Numbers};
 use std::hint::black_box;
 use std::time::Instant;
 
 const RUNS: usize = 401;
 const CALLS_A_RUN: u32 = 4;
+const EVENT_RUNS: usize = 31;
 
 #[derive(Clone, Copy)]
 enum Method {
@@ -61,26 +66,18 @@ impl Times {
     }
 }
 
-/// The two take turns in going first; a run's ratio is that of its own two times.
-fn measure(method: Method, table: &Table) -> Times {
-    let numbers = Numbers::of(table);
-    let links = table.links.len();
-    // Written beforehand, so that no page is touched for the first time in a run.
-    let (mut plan, mut work) = (vec![9; links], vec![9; 4 * links]);
-    let mut call = |which: usize| {
-        let given = black_box(numbers.slices());
-        let answer = [by_library, by_rust][which](method, given, &mut plan, &mut work);
-        black_box(answer)
-    };
+/// `call` of 0 is the library's, of 1 Rust's. The two take turns in going first; a run's ratio is
+/// that of its own two times.
+fn measure(count: usize, calls: u32, mut call: impl FnMut(usize) -> u64) -> Times {
     assert_eq!(call(0), call(1), "the answers differ");
-    let mut runs = vec![[0.0; 2]; RUNS];
+    let mut runs = vec![[0.0; 2]; count];
     for (run, times) in runs.iter_mut().enumerate() {
         for which in [run % 2, 1 - run % 2] {
             let start = Instant::now();
-            for _ in 0..CALLS_A_RUN {
-                call(which);
+            for _ in 0..calls {
+                black_box(call(which));
             }
-            times[which] = start.elapsed().as_secs_f64() * 1e6 / CALLS_A_RUN as f64;
+            times[which] = start.elapsed().as_secs_f64() * 1e6 / calls as f64;
         }
     }
     Times {
@@ -88,6 +85,44 @@ fn measure(method: Method, table: &Table) -> Times {
         rust: Sorted::of(runs.iter().map(|times| times[1])),
         ratio: Sorted::of(runs.iter().map(|times| times[0] / times[1])),
     }
+}
+
+fn measure_method(method: Method, table: &Table) -> Times {
+    let numbers = Numbers::of(table);
+    let links = table.links.len();
+    // Written beforehand, so that no page is touched for the first time in a run.
+    let (mut plan, mut work) = (vec![9; links], vec![9; 4 * links]);
+    measure(RUNS, CALLS_A_RUN, |which| {
+        let given = black_box(numbers.slices());
+        [by_library, by_rust][which](method, given, &mut plan, &mut work)
+    })
+}
+
+/// The script program's work: the table's text and 1,024 accepted lines.
+fn measure_script(table: &Table, lines: &[u8]) -> Times {
+    let input = [&table.text(), lines].concat();
+    let mut out = vec![9; script::room_for(input.len())];
+    measure(EVENT_RUNS, 1, |which| match which {
+        0 => face::script_text(black_box(&input), &mut out),
+        _ => face::write_answer(&script::text(black_box(&input), &mut out)),
+    })
+}
+
+/// The same lines, each a call of its own with all checks.
+fn measure_events(table: &Table, lines: &[u8]) -> Times {
+    let numbers = Numbers::of(table);
+    let mut record = vec![9; BYTES * table.links.len()];
+    let room = script::LOG;
+    measure(EVENT_RUNS, 1, |which| {
+        let given = black_box(numbers.slices());
+        record.fill(0);
+        let lines = lines.split_inclusive(|&byte| byte == b'\n').enumerate();
+        let answers = lines.map(|(used, line)| match which {
+            0 => face::fleet_event(given, &mut record, line, used, room),
+            _ => face::entry_answer(&fleet::event(given, &mut record, line, used, room)),
+        });
+        answers.fold(0, |sum, answer| sum ^ answer)
+    })
 }
 
 /// Each probe needs half of its links.
@@ -113,12 +148,39 @@ fn print_ratios(random: &mut Random) {
     println!("site          links  method    library us   rust us  ratio  (quartiles)");
     for (site, table) in &sites {
         for (method, name) in METHODS {
-            let times = measure(method, table);
+            let times = measure_method(method, table);
             let [library, rust] = times.medians();
             println!(
                 "{site:<12}  {:>5}  {name:<8}  {library:>10.1}  {rust:>8.1}  {}",
                 table.links.len(),
                 spread(&times.ratio),
+            );
+        }
+    }
+}
+
+fn print_events(random: &mut Random) {
+    let any = legal_of_size(256, 2048, random);
+    let mut joined = hubs(256, 9);
+    joined.links.truncate(2048);
+    let sites = [
+        ("random costs", with_costs(any.clone(), 65_536, random)),
+        ("equal costs", with_costs(any, 1, random)),
+        ("8 hubs", with_costs(joined, 65_536, random)),
+    ];
+    println!("site          links  events    library us   rust us  ratio");
+    for (site, table) in &sites {
+        let lines = full_script(table, random);
+        let times = [
+            ("script", measure_script(table, &lines)),
+            ("calls", measure_events(table, &lines)),
+        ];
+        for (name, times) in times {
+            let [library, rust] = [&times.library, &times.rust].map(|times| times.quarter(0));
+            println!(
+                "{site:<12}  {:>5}  {name:<8}  {library:>10.1}  {rust:>8.1}  {:>5.2}",
+                table.links.len(),
+                library / rust,
             );
         }
     }
@@ -130,7 +192,7 @@ fn print_growth(random: &mut Random) {
         let mut last = None;
         for links in [128, 256, 512, 1024, 2048] {
             let table = with_costs(legal_of_size(256, links, random), 65_536, random);
-            let times = measure(method, &table);
+            let times = measure_method(method, &table);
             let [library, rust] = times.medians();
             let [of_library, of_rust] = last.replace([library, rust]).unwrap_or([library, rust]);
             println!(
@@ -150,4 +212,7 @@ fn main() {
     print_ratios(&mut random);
     println!("Growth with the links, at random costs:");
     print_growth(&mut random);
+    println!("1,024 events on the largest site, as one script and as calls with all checks;");
+    println!("least of {EVENT_RUNS} runs:");
+    print_events(&mut random);
 }

@@ -80,7 +80,7 @@ pub fn check(given: Slices) -> Result<(), u8> {
 
 /// Lends a slice of this length to a call that writes a text; hands back the written text.
 #[track_caller]
-fn written(
+pub fn written(
     call: &str,
     length: usize,
     random: &mut Random,

@@ -185,6 +185,88 @@ extern "C" {
         rec_length: usize,
         link: u16,
     ) -> u64;
+    fn planner_fleet_event(
+        number: u16,
+        probes: u16,
+        links: u16,
+        needs: *const u16,
+        needs_length: usize,
+        lows: *const u16,
+        lows_length: usize,
+        highs: *const u16,
+        highs_length: usize,
+        costs: *const u16,
+        costs_length: usize,
+        rec: *mut u8,
+        rec_length: usize,
+        line: *const u8,
+        line_length: usize,
+        used: usize,
+        room: usize,
+    ) -> u64;
+    fn planner_fleet_finished(
+        number: u16,
+        probes: u16,
+        links: u16,
+        needs: *const u16,
+        needs_length: usize,
+        lows: *const u16,
+        lows_length: usize,
+        highs: *const u16,
+        highs_length: usize,
+        costs: *const u16,
+        costs_length: usize,
+        rec: *const u8,
+        rec_length: usize,
+    ) -> u64;
+    fn planner_script_text(
+        text: *const u8,
+        text_length: usize,
+        out: *mut u8,
+        out_length: usize,
+    ) -> u64;
+    fn planner_script_piece(
+        number: u16,
+        probes: u16,
+        links: u16,
+        needs: *const u16,
+        needs_length: usize,
+        lows: *const u16,
+        lows_length: usize,
+        highs: *const u16,
+        highs_length: usize,
+        costs: *const u16,
+        costs_length: usize,
+        rec: *mut u8,
+        rec_length: usize,
+        line: *mut u8,
+        line_length: usize,
+        progress: *mut u32,
+        progress_length: usize,
+        piece: *const u8,
+        piece_length: usize,
+        out: *mut u8,
+        out_length: usize,
+    ) -> u64;
+    fn planner_script_end(
+        number: u16,
+        probes: u16,
+        links: u16,
+        needs: *const u16,
+        needs_length: usize,
+        lows: *const u16,
+        lows_length: usize,
+        highs: *const u16,
+        highs_length: usize,
+        costs: *const u16,
+        costs_length: usize,
+        rec: *const u8,
+        rec_length: usize,
+        held: u32,
+        changed: u32,
+        out: *mut u8,
+        out_length: usize,
+    ) -> u64;
 }
 
 const ACCEPTED: u64 = 1 << 48;
@@ -232,7 +314,7 @@ pub fn entry_answer(result: &Result<Entry, u8>) -> u64 {
     }
 }
 
-/// The number that stands for whether a line is written, and for whether a link rests.
+/// The number that stands for whether a line is written, a link rests or a fleet is finished.
 pub fn yes_answer(result: &Result<bool, u8>) -> u64 {
     match result {
         Ok(yes) => ACCEPTED + *yes as u64,
@@ -367,5 +449,69 @@ pub fn probe_rests(given: Slices, probe: u16, record: &[u8], link: u16) -> u64 {
         record.as_ptr(),
         record.len(),
         link
+    )
+}
+
+pub fn fleet_event(given: Slices, record: &mut [u8], line: &[u8], used: usize, room: usize) -> u64 {
+    call_with_table!(
+        planner_fleet_event,
+        given,
+        record.as_mut_ptr(),
+        record.len(),
+        line.as_ptr(),
+        line.len(),
+        used,
+        room
+    )
+}
+
+pub fn fleet_finished(given: Slices, record: &[u8]) -> u64 {
+    call_with_table!(planner_fleet_finished, given, record.as_ptr(), record.len())
+}
+
+pub fn script_text(text: &[u8], out: &mut [u8]) -> u64 {
+    unsafe { planner_script_text(text.as_ptr(), text.len(), out.as_mut_ptr(), out.len()) }
+}
+
+/// What a script under way lends to the handling of a piece.
+pub struct UnderWay<'a> {
+    pub record: &'a mut [u8],
+    pub line: &'a mut [u8],
+    /// Entries used, bytes held of a line that is not closed yet, changes.
+    pub progress: &'a mut [u32],
+}
+
+pub fn script_piece(given: Slices, under_way: UnderWay, piece: &[u8], out: &mut [u8]) -> u64 {
+    let UnderWay {
+        record,
+        line,
+        progress,
+    } = under_way;
+    call_with_table!(
+        planner_script_piece,
+        given,
+        record.as_mut_ptr(),
+        record.len(),
+        line.as_mut_ptr(),
+        line.len(),
+        progress.as_mut_ptr(),
+        progress.len(),
+        piece.as_ptr(),
+        piece.len(),
+        out.as_mut_ptr(),
+        out.len()
+    )
+}
+
+pub fn script_end(given: Slices, record: &[u8], held: u32, changed: u32, out: &mut [u8]) -> u64 {
+    call_with_table!(
+        planner_script_end,
+        given,
+        record.as_ptr(),
+        record.len(),
+        held,
+        changed,
+        out.as_mut_ptr(),
+        out.len()
     )
 }

@@ -1,12 +1,17 @@
 //! A second implementation of the planner, and what the tests need to compare the library with it.
 
+pub mod air;
 pub mod buffer;
 pub mod compare;
 pub mod compare_ends;
+pub mod compare_fleet;
+pub mod compare_script;
 pub mod ends;
 pub mod events;
 pub mod face;
+pub mod fleet;
 pub mod methods;
 pub mod random;
 pub mod reference;
+pub mod script;
 pub mod sites;

@@ -280,6 +280,7 @@ pub fn lengths(probes: usize, links: usize, random: &mut Random) -> [usize; 4] {
 }
 
 /// A table in slices that can be damaged where a `Table` cannot.
+#[derive(Clone)]
 pub struct Numbers {
     pub number: u16,
     pub probes: u16,

@@ -3,7 +3,7 @@ use Prim.Native.Nat.{ℕ, _+_, _*_, _%_}
 use mathlib.Core.Path.{_≡_, refl, sym, _∙_, ap}
 use mathlib.Core.Logic.{_⊎_, inl, inr}
 use mathlib.Core.Bool.{true, false, cond, true≢false}
-use mathlib.Core.List.{List, [], _∷_, _++_, append-assoc}
+use mathlib.Core.List.{List, [], _∷_, _++_, append-nil, append-assoc}
 use native.Mathlib.Omega.{arith}
 use lib.Dec.{eqb}
 use lib.ListN.{length, take, length-append}
@@ -18,7 +18,7 @@ use Rattle.frame.specs.Frame.{frameOf, frameFault}
 use Rattle.rules.specs.Rules.{entryOf}
 use Rattle.fleet_theory.specs.Fleet.{Slices, tableOf, slicesFault, fleetFault, outcomeOf, faultOf, State, start, accepted, answerTo, next, run, differs, linkChanges, changes, allChanges, finished}
 use Rattle.fleet_theory.proofs.Run.{Holds, start-holds, fault-is, next-holds}
-use Rattle.script_theory.specs.Script.{answerLine, linesFrom, printed, lastLine, scriptText, Script, afterLine, afterByte, afterPiece, begun, endText}
+use Rattle.script_theory.specs.Script.{answerLine, linesFrom, printed, lastLine, scriptText, Script, afterLine, afterByte, afterPiece, begun, endText, together, carried, printedBy}
 use Rattle.script_theory.proofs.Lines.{same-digits, Unclosed, unclosed-none, unclosed-next, unclosed-refused, take-again, short-or-refused}
 
 no-changes : (r : List ℕ) (n : ℕ) → sum n (linkChanges r r) ≡ 0
@@ -35,6 +35,38 @@ module _ (x : Slices) (room : ℕ) where
   unfolding afterPiece
   in-pieces p [] b = refl
   in-pieces p (c ∷ a) b = in-pieces (afterByte x room p c) a b
+
+  -- with more printed before it
+  abbrev pub onto : List ℕ → Script → Script
+  onto o p = record { bytes = p .bytes; used = p .used; changed = p .changed; held = p .held; out = o ++ p .out }
+
+  pub byte-onto : (o : List ℕ) (p : Script) (b : ℕ) → afterByte x room (onto o p) b ≡ onto o (afterByte x room p b)
+  byte-onto o p b = go (decided (eqb b 10))
+    where
+      go : (eqb b 10 ≡ true) ⊎ (eqb b 10 ≡ false) → afterByte x room (onto o p) b ≡ onto o (afterByte x room p b)
+      go (inl e) = rw (e, append-assoc o (p .out) _)
+      go (inr e) = rw e
+
+  pub carried-onto : (q : Script) → onto (q .out) (carried q) ≡ q
+  carried-onto q = rw (append-nil (q .out))
+
+  piece-onto : (o : List ℕ) (p : Script) (a : List ℕ) → afterPiece x room (onto o p) a ≡ onto o (afterPiece x room p a)
+  unfolding afterPiece
+  piece-onto o p [] = refl
+  piece-onto o p (b ∷ a) = ap (λ (q : Script). afterPiece x room q a) (byte-onto o p b) ∙ piece-onto o (afterByte x room p b) a
+
+  -- pieces one after the other print what they print together
+  together-prints : (p : Script) (rest : List (List ℕ)) → p .out ≡ []
+      → (let q = afterPiece x room p (together rest) in printedBy x room p rest ≡ q .out ++ endText x (q .bytes) (length (q .held)) (q .changed))
+  unfolding together printedBy afterPiece
+  together-prints p [] none = rw none
+  together-prints p (a ∷ rest) none =
+      let r = afterPiece x room p a in
+      let w = afterPiece x room (carried r) (together rest) in
+      let same : afterPiece x room p (a ++ together rest) ≡ onto (r .out) w =
+      in-pieces p a (together rest) ∙ ap (λ (q : Script). afterPiece x room q (together rest)) (sym (carried-onto r)) ∙ piece-onto (r .out) (carried r) (together rest) in
+      rw same
+      (ap (λ (z : List ℕ). r .out ++ z) (together-prints (carried r) rest refl) ∙ sym (append-assoc (r .out) (w .out) (endText x (w .bytes) (length (w .held)) (w .changed))))
 
   -- a script under way beside the state of the list of lines
   abbrev beside : State → ℕ → List ℕ → List ℕ → Script
@@ -133,6 +165,11 @@ module _ (x : Slices) (room : ℕ) where
 
     -- a text handled byte by byte from the start, then ended, prints what it prints whole
     pub whole : (text : List ℕ) → (let q = afterPiece x room (begun x) text in q .out ++ endText x (q .bytes) (length (q .held)) (q .changed) ≡ scriptText x room text)
+    unfolding scriptText
     whole text =
         let z : 0 + allChanges x room (start x) (linesFrom [] text) ≡ allChanges x room (start x) (linesFrom [] text) = omega arith in
         rw (← z) (by-text (start x) (start-holds x fine) 0 [] [] text unclosed-none)
+
+    -- and so does a text given in any pieces, one after the other
+    pub any-pieces : (rest : List (List ℕ)) → printedBy x room (begun x) rest ≡ scriptText x room (together rest)
+    any-pieces rest = together-prints (begun x) rest refl ∙ whole (together rest)

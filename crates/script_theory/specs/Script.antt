@@ -42,7 +42,7 @@ abbrev pub lastLine : Bool → ℕ → List ℕ
 lastLine done changes = digits 2 (cond done 1 0) ++ (digits 8 changes ++ (10 ∷ []))
 
 -- what the lines behind the table print, with a log of some room
-abbrev pub scriptText : Slices → ℕ → List ℕ → List ℕ
+unfoldable pub scriptText : Slices → ℕ → List ℕ → List ℕ
 scriptText x room text =
     let ls = linesFrom [] text in
     printed x room (start x) ls ++ lastLine (finished (tableOf x) (run x room (start x) ls .bytes)) (allChanges x room (start x) ls)
@@ -110,3 +110,17 @@ begun x = record { bytes = start x .bytes; used = 0; changed = 0; held = []; out
 -- what the text's end prints, by the record, the number of bytes of an unfinished line and the changes: a last line without its line feed is refused by 1
 abbrev pub endText : Slices → List ℕ → ℕ → ℕ → List ℕ
 endText x bytes held changed = cond (eqb held 0) [] (refusalLine 1) ++ lastLine (finished (tableOf x) bytes) changed
+
+-- A text given in pieces, to one call after the other.
+unfoldable pub together : List (List ℕ) → List ℕ
+together [] = []
+together (a ∷ rest) = a ++ together rest
+
+-- each call starts where the one before it ended, with nothing printed
+abbrev pub carried : Script → Script
+carried p = record { bytes = p .bytes; used = p .used; changed = p .changed; held = p .held; out = [] }
+
+-- what the calls print, one behind the other, and the end
+unfoldable pub printedBy : Slices → ℕ → Script → List (List ℕ) → List ℕ
+printedBy x room p [] = endText x (p .bytes) (length (p .held)) (p .changed)
+printedBy x room p (a ∷ rest) = afterPiece x room p a .out ++ printedBy x room (carried (afterPiece x room p a)) rest

@@ -1,4 +1,5 @@
 pub mod Tables
+pub mod Long
 pub mod Fits
 pub mod Round
 pub mod Functions

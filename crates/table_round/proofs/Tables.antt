@@ -49,14 +49,14 @@ module _ (t u : Table) (e : Same t u) where
         joined-same (λ i. lineOf (linkRow t i)) (λ i. lineOf (linkRow u i)) (t .links) (λ i l. rw (e .low i l, e .high i l, e .cost i l)),
       )
 
+  pub same-needs : first (needFault t) (t .probes) ≡ first (needFault u) (u .probes)
+  same-needs = rw (← e .probes, ← e .links) (needs-same (t .links) (t .low) (u .low) (t .high) (u .high) (e .low) (e .high) (t .probes) (t .need) (u .need) (e .need))
+
   pub same-fault : (pmax lmax : ℕ) → tableFault pmax lmax t ≡ tableFault pmax lmax u
-  same-fault pmax lmax = or-same size (or-same links needs)
+  same-fault pmax lmax = or-same size (or-same links same-needs)
     where
       size : sizeFault pmax lmax (t .probes) (t .links) ≡ sizeFault pmax lmax (u .probes) (u .links)
       size = rw (e .probes, e .links)
 
       links : first (linkFault (t .probes) (t .low) (t .high)) (t .links) ≡ first (linkFault (u .probes) (u .low) (u .high)) (u .links)
       links = rw (← e .probes, ← e .links) (links-same (t .links) (t .low) (u .low) (t .high) (u .high) (e .low) (e .high) (t .probes))
-
-      needs : first (needFault t) (t .probes) ≡ first (needFault u) (u .probes)
-      needs = rw (← e .probes, ← e .links) (needs-same (t .links) (t .low) (u .low) (t .high) (u .high) (e .low) (e .high) (t .probes) (t .need) (u .need) (e .need))

@@ -1,0 +1,2 @@
+// The lines that the script program prints.
+pub mod core;

@@ -1,0 +1,4 @@
+pub mod Answers
+pub mod Reading
+pub mod Long
+pub mod Calls

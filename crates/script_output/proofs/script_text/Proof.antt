@@ -1,0 +1,134 @@
+-- `script_output::script_text` meets its contract.
+use borrow.Author.Needs.{needs}
+use Rattle.script_output.proofs.script_text.Statement.{statement}
+use Rattle.script_output.proofs.script_text.Tie as tie
+use Prim.Native.Nat.{_+_, _*_}
+use native.Mathlib.Omega.{arith}
+use lib.ListN.{length}
+use borrow.Author.Tests.{lt-ltb, le-ltb}
+use Rattle.script_output.proofs.Answers.{unprinted}
+use Rattle.script_output.proofs.Reading.{refusal-printed, read-fine, rest-within, behind-length, script-printed}
+
+add-if1 : tie.Need-add-if1
+add-if1 c = search needs
+
+returns : tie.Need-returns
+returns c =
+    let a = c .before .before .before .args in
+    unprinted _ 8 _ _ (rw (lt-ltb (length (a .out .now)) (5 * length (a .text .now) + 5) (omega (arith, c .if1 .taken)))) (λ z. omega arith)
+
+slice-aggregate-read-table-prefix : tie.Need-slice-aggregate-read-table-prefix
+slice-aggregate-read-table-prefix c = search needs
+
+slice-aggregate-read-table-prefix-2 : tie.Need-slice-aggregate-read-table-prefix-2
+slice-aggregate-read-table-prefix-2 c = search needs
+
+slice-aggregate-read-table-prefix-3 : tie.Need-slice-aggregate-read-table-prefix-3
+slice-aggregate-read-table-prefix-3 c = search needs
+
+slice-aggregate-read-table-prefix-4 : tie.Need-slice-aggregate-read-table-prefix-4
+slice-aggregate-read-table-prefix-4 c = search needs
+
+read-table-prefix-requires : tie.Need-read-table-prefix-requires
+read-table-prefix-requires c κs = search needs
+
+enum-known-read : tie.Need-enum-known-read
+enum-known-read c = search needs
+
+cast-print-script : tie.Need-cast-print-script
+cast-print-script c = search needs
+
+cast-print-script-2 : tie.Need-cast-print-script-2
+cast-print-script-2 c = search needs
+
+slice-aggregate-print-script : tie.Need-slice-aggregate-print-script
+slice-aggregate-print-script c = search needs
+
+slice-aggregate-print-script-2 : tie.Need-slice-aggregate-print-script-2
+slice-aggregate-print-script-2 c = search needs
+
+slice-aggregate-print-script-3 : tie.Need-slice-aggregate-print-script-3
+slice-aggregate-print-script-3 c = search needs
+
+slice-aggregate-print-script-4 : tie.Need-slice-aggregate-print-script-4
+slice-aggregate-print-script-4 c = search needs
+
+sub-print-script : tie.Need-sub-print-script
+sub-print-script c =
+    let a = c .before .before .before .before .before .before .before .before .before .before .before .before .before .before .before .before .before .before .before .args in
+    let k = c .before .before .before .before .before .before .before .before .before .before .before .read-table-prefix in
+    let w = rest-within (a .text .now) _ _ _ _ _ (k .ensures) _ _ _ _ (c .before .before .before .before .before .read .given .1) in
+    omega (arith, w .1)
+
+part-print-script-start : tie.Need-part-print-script-start
+part-print-script-start c =
+    let a = c .before .before .before .before .before .before .before .before .before .before .before .before .before .before .before .before .before .before .before .args in
+    let k = c .before .before .before .before .before .before .before .before .before .before .before .read-table-prefix in
+    let w = rest-within (a .text .now) _ _ _ _ _ (k .ensures) _ _ _ _ (c .before .before .before .before .before .read .given .1) in
+    w .1
+
+part-print-script-end : tie.Need-part-print-script-end
+part-print-script-end c = search needs
+
+print-script-requires : tie.Need-print-script-requires
+print-script-requires c κs =
+    let a = c .before .before .before .before .before .before .before .before .before .before .before .before .before .before .before .before .before .before .before .before .before .args in
+    let k = c .before .before .before .before .before .before .before .before .before .before .before .before .before .read-table-prefix in
+    let e = c .before .before .before .before .before .before .before .read .given .1 in
+    let w = rest-within (a .text .now) _ _ _ _ _ (k .ensures) _ _ _ _ e in
+    let n = behind-length (a .text .now) _ _ _ _ _ (k .ensures) _ _ _ _ e in
+    (read-fine (a .text .now) _ _ _ _ _ (k .ensures) _ _ _ _ e, omega (arith, c .before .before .before .before .before .before .before .before .before .before .before .before .before .before .before .before .before .before .if1 .left, w .0, w .1))
+
+enum-known-read-2 : tie.Need-enum-known-read-2
+enum-known-read-2 c = search needs
+
+print-refusal-requires : tie.Need-print-refusal-requires
+print-refusal-requires c κs = search needs
+
+same-length : tie.Need-same-length
+same-length c = search needs
+
+returns-2 : tie.Need-returns-2
+returns-2 c =
+    let a = c .before .before .before .before .before .before .before .before .before .before .before .before .before .before .before .before .before .before .before .before .before .before .before .before .args in
+    let k = c .before .before .before .before .before .before .before .before .before .before .before .before .before .before .before .before .read-table-prefix in
+    let p = c .before .before .print-script .ensures in
+    rw (le-ltb (length (a .out .now)) (5 * length (a .text .now) + 5) (omega (arith, c .before .before .before .before .before .before .before .before .before .before .before .before .before .before .before .before .before .before .before .before .before .if1 .left))) (script-printed (a .text .now) _ _ _ _ _ (k .ensures) _ _ _ _ (c .before .before .before .before .before .before .before .before .before .before .read .given .1) _ (a .out .now) _ (p .0) (p .1) (p .2))
+
+same-length-2 : tie.Need-same-length-2
+same-length-2 c = search needs
+
+returns-3 : tie.Need-returns-3
+returns-3 c =
+    let a = c .before .before .before .before .before .before .before .before .before .before .before .before .before .before .before .before .before .before .before .args in
+    let k = c .before .before .before .before .before .before .before .before .before .before .before .read-table-prefix in
+    rw (le-ltb (length (a .out .now)) (5 * length (a .text .now) + 5) (omega (arith, c .before .before .before .before .before .before .before .before .before .before .before .before .before .before .before .before .if1 .left))) (refusal-printed (a .text .now) _ _ _ _ _ (k .ensures) _ _ (a .out .now) _ (c .before .before .before .before .before .read2 .given .1) (omega (arith, c .before .before .before .before .before .before .before .before .before .before .before .before .before .before .before .before .if1 .left)) (c .before .before .print-refusal .ensures))
+
+pub script-text-spec : {M : Type 1} → statement M
+script-text-spec =
+    tie.close
+    (tie.spec
+    add-if1
+    returns
+    slice-aggregate-read-table-prefix
+    slice-aggregate-read-table-prefix-2
+    slice-aggregate-read-table-prefix-3
+    slice-aggregate-read-table-prefix-4
+    read-table-prefix-requires
+    enum-known-read
+    cast-print-script
+    cast-print-script-2
+    slice-aggregate-print-script
+    slice-aggregate-print-script-2
+    slice-aggregate-print-script-3
+    slice-aggregate-print-script-4
+    sub-print-script
+    part-print-script-start
+    part-print-script-end
+    print-script-requires
+    enum-known-read-2
+    print-refusal-requires
+    same-length
+    returns-2
+    same-length-2
+    returns-3)

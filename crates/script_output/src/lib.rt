@@ -1,0 +1,180 @@
+// The script program's whole behaviour: a text handled whole, or in pieces one after the other.
+use output::Output;
+use script_steps::Progress;
+ghost use mathlib.Core.Path.{_≡_};
+ghost use mathlib.Core.Bool.{cond};
+ghost use Prim.Native.Nat.{_+_, _*_};
+ghost use lib.Dec.{ltb};
+ghost use lib.ListN.{length, take};
+ghost use Rattle.fleet.specs.Answers.{slicesOf};
+ghost use Rattle.script_theory.specs.Script.{afterPiece, endText, scriptOutput};
+ghost use Rattle.script_output.specs.Handling.{callFault, pieceFault, before, Handles, PrintsUnless};
+
+// A piece's answer: the length printed and how far the script has come, or the number of the refusal.
+pub enum Handling {
+    Printed { length: usize, progress: Progress },
+    Refused(u8),
+}
+
+// How many bytes of an unfinished line are held: at most 16.
+fn held_bytes(held: u32) -> u32
+    ensures { λ r. ⌜ r ≡ cond (ltb held 16) held 16 ⌝ }
+{
+    if held < 16 {
+        return held;
+    }
+    16
+}
+
+// Handles a piece of the text behind a table. `line` keeps an unfinished line from one piece to the next, in 16 bytes.
+pub fn script_piece(
+    number: u16,
+    probes: u16,
+    links: u16,
+    needs: &[u16],
+    lows: &[u16],
+    highs: &[u16],
+    costs: &[u16],
+    rec: &mut [u8],
+    line: &mut [u8],
+    progress: Progress,
+    piece: &[u8],
+    out: &mut [u8],
+) -> Handling
+    ensures { λ r. ⌜ Handles
+        (callFault (pieceFault (length (now (line .entry))) (length (now (out .entry))) (length (take (progress .held) (take 16 (now (line .entry))))) (length (now (piece .entry))))
+        (slicesOf number probes links (now (needs .entry)) (now (lows .entry)) (now (highs .entry)) (now (costs .entry))) (now (rec .entry)))
+        (afterPiece (slicesOf number probes links (now (needs .entry)) (now (lows .entry)) (now (highs .entry)) (now (costs .entry))) 1024
+        (before progress (now (rec .entry)) (now (line .entry))) (now (piece .entry)))
+        r (now (rec .entry)) (now (rec .exit)) (now (line .entry)) (now (line .exit)) (now (out .entry)) (now (out .exit)) ⌝ }
+{
+    if line.len() < 16 {
+        return Handling::Refused(8);
+    }
+    let held = held_bytes(progress.held);
+    if out.len() / 5 < held as usize + piece.len() {
+        return Handling::Refused(8);
+    }
+    let fault = fleet_checks::core::state_fault(
+        probes as usize,
+        links as usize,
+        needs,
+        lows,
+        highs,
+        costs,
+        rec,
+    );
+    if fault != 0 {
+        return Handling::Refused(fault);
+    }
+    let mut buffer = [0u8; 17];
+    script_steps::core::copy(&mut buffer, line, held as usize);
+    let begun = Progress {
+        used: progress.used,
+        held,
+        changed: progress.changed,
+    };
+    let place = script_steps::core::take_piece(
+        number,
+        probes as usize,
+        links as usize,
+        needs,
+        lows,
+        highs,
+        costs,
+        rec,
+        &mut buffer,
+        begun,
+        1024,
+        piece,
+        out,
+    );
+    let p = place.progress;
+    script_steps::core::copy(line, &buffer, p.held as usize);
+    Handling::Printed {
+        length: place.at,
+        progress: p,
+    }
+}
+
+// Prints what the text's end prints.
+pub fn script_end(
+    number: u16,
+    probes: u16,
+    links: u16,
+    needs: &[u16],
+    lows: &[u16],
+    highs: &[u16],
+    costs: &[u16],
+    rec: &[u8],
+    progress: Progress,
+    out: &mut [u8],
+) -> Output
+    ensures { λ r. ⌜ PrintsUnless
+        (callFault (cond (ltb (length (now (out .entry))) 16) 8 0)
+        (slicesOf number probes links (now (needs .entry)) (now (lows .entry)) (now (highs .entry)) (now (costs .entry))) (now (rec .entry)))
+        (endText (slicesOf number probes links (now (needs .entry)) (now (lows .entry)) (now (highs .entry)) (now (costs .entry))) (now (rec .entry)) (progress .held) (progress .changed))
+        r (now (out .entry)) (now (out .exit)) ⌝ }
+{
+    if out.len() < 16 {
+        return Output::Refused(8);
+    }
+    let fault = fleet_checks::core::state_fault(
+        probes as usize,
+        links as usize,
+        needs,
+        lows,
+        highs,
+        costs,
+        rec,
+    );
+    if fault != 0 {
+        return Output::Refused(fault);
+    }
+    Output::Length(script_steps::core::put_end(
+        probes as usize,
+        links as usize,
+        needs,
+        lows,
+        highs,
+        rec,
+        progress.held,
+        progress.changed,
+        out,
+        0,
+    ))
+}
+
+// Prints what a whole text prints: a table and, behind its closing line, the script.
+pub fn script_text(text: &[u8], out: &mut [u8]) -> Output
+    ensures { λ r. ⌜ PrintsUnless (cond (ltb (length (now (out .entry))) (5 * length (now (text .entry)) + 5)) 8 0) (scriptOutput (now (text .entry)))
+        r (now (out .entry)) (now (out .exit)) ⌝ }
+{
+    if out.len() / 5 < text.len() + 1 {
+        return Output::Refused(8);
+    }
+    let mut needs = [0u16; 256];
+    let mut lows = [0u16; 2048];
+    let mut highs = [0u16; 2048];
+    let mut costs = [0u16; 2048];
+    let read = table_read::read_table_prefix(text, &mut needs, &mut lows, &mut highs, &mut costs);
+    match read {
+        table_read::Reading::Table {
+            number,
+            probes,
+            links,
+            rest,
+        } => Output::Length(script_steps::core::print_script(
+            number,
+            probes as usize,
+            links as usize,
+            &needs,
+            &lows,
+            &highs,
+            &costs,
+            &text[rest..],
+            out,
+        )),
+        table_read::Reading::Refused(fault) => output::core::print_refusal(out, fault),
+    }
+}

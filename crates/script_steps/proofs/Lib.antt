@@ -1,0 +1,4 @@
+pub mod Printing
+pub mod Bytes
+pub mod Pieces
+pub mod Ends

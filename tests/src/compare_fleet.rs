@@ -1,0 +1,99 @@
+//! A fleet, called in the library and in the second implementation on equal records; the answers
+//! and the records are compared whole. What both agree on is handed back.
+
+use crate::buffer::Buffer;
+use crate::compare::assert_same;
+use crate::ends::Entry;
+use crate::face;
+use crate::fleet::{self, Site, BYTES};
+use crate::random::Random;
+use crate::reference::{Slices, Table};
+use crate::sites::Numbers;
+
+/// A fleet and its record, which each accepted event alters.
+pub struct Fleet {
+    pub numbers: Numbers,
+    /// The library's and the second implementation's.
+    records: [Buffer<u8>; 2],
+    random: Random,
+}
+
+impl Fleet {
+    pub fn fresh(table: &Table) -> Fleet {
+        Fleet::with(table, &vec![0; BYTES * table.links.len()])
+    }
+
+    pub fn with(table: &Table, record: &[u8]) -> Fleet {
+        let mut random = Random::new(record.len() as u64);
+        let lent = Buffer::holding(record, || random.byte());
+        Fleet {
+            numbers: Numbers::of(table),
+            records: [lent.clone(), lent],
+            random,
+        }
+    }
+
+    pub fn record(&self) -> &[u8] {
+        self.records[0].entries()
+    }
+
+    /// Also one of another length.
+    pub fn set_record(&mut self, record: &[u8]) {
+        let lent = Buffer::holding(record, || self.random.byte());
+        self.records = [lent.clone(), lent];
+    }
+
+    /// Hears a line, of any bytes; a refusal changes no byte.
+    #[track_caller]
+    pub fn event(&mut self, line: &[u8], used: usize, room: usize) -> Result<Entry, u8> {
+        self.befall(line, used, room, |given, record| {
+            fleet::event(given, record, line, used, room)
+        })
+    }
+
+    /// The same on a record that events led to, with the table checked already: in a large site
+    /// the second implementation then takes less time.
+    #[track_caller]
+    pub fn event_on(&mut self, site: &Site, line: &[u8], used: usize) -> Result<Entry, u8> {
+        let room = used + 1;
+        self.befall(line, used, room, |_, record| {
+            site.event(record, line, used, room)
+        })
+    }
+
+    #[track_caller]
+    fn befall(
+        &mut self,
+        line: &[u8],
+        used: usize,
+        room: usize,
+        reference: impl Fn(Slices, &mut [u8]) -> Result<Entry, u8>,
+    ) -> Result<Entry, u8> {
+        let given = self.numbers.slices();
+        let before = self.records[0].clone();
+        let [by_library, by_reference] = &mut self.records;
+        let answer = face::fleet_event(given, by_library.lend(), line, used, room);
+        let result = reference(given, by_reference.lend());
+        assert_same(
+            "fleet event",
+            [answer, face::entry_answer(&result)],
+            [by_library, by_reference],
+        );
+        let changes = fleet::changes(before.entries(), by_library.entries());
+        assert_eq!(changes, result.map_or(0, |entry| entry.what.changes()));
+        result
+    }
+
+    #[track_caller]
+    pub fn finished(&self) -> Result<bool, u8> {
+        let (given, lent) = (self.numbers.slices(), self.records[0].clone());
+        let answer = face::fleet_finished(given, lent.entries());
+        let result = fleet::finished(given, self.records[1].entries());
+        assert_same(
+            "fleet finished",
+            [answer, face::yes_answer(&result)],
+            [&lent, &self.records[1]],
+        );
+        result
+    }
+}

@@ -1,0 +1,71 @@
+//! The ends beside the fleet: each end alone, on its own bytes of the fleet's record, does what
+//! the fleet does, and writes a frame exactly when it may be sent.
+
+use planner_tests::air::{any_mix, Air};
+use planner_tests::compare_ends::End;
+use planner_tests::compare_fleet::Fleet;
+use planner_tests::ends::{Entry, Frame, Kind, LINE};
+use planner_tests::events::any_table;
+use planner_tests::fleet::own_record;
+use planner_tests::random::Random;
+use planner_tests::reference::Table;
+
+fn end_of(table: &Table, probe: u16, record: &[u8]) -> End {
+    let mut end = End::fresh(table, probe);
+    end.record = own_record(table, probe, record);
+    end
+}
+
+/// The end that opens or hears does the same alone.
+#[track_caller]
+fn same_alone(table: &Table, before: &[u8], line: &[u8], entry: Entry, after: &[u8]) {
+    let mut end = end_of(table, entry.probe, before);
+    let opens = Frame::of_line(line).map(|frame| frame.kind) == Ok(0);
+    let alone = match opens {
+        true => end.open(1),
+        false => end.hear(line, 1),
+    };
+    assert_eq!(alone, Ok(entry.what));
+    assert_eq!(end.record, own_record(table, entry.probe, after));
+}
+
+/// A frame may be sent exactly when its end writes it; the fleet accepts it then.
+#[track_caller]
+fn asked(table: &Table, record: &[u8], random: &mut Random) -> usize {
+    let mut written = 0;
+    let place = random.below(table.links.len());
+    for end in table.links[place].ends() {
+        for kind in [Kind::Offer, Kind::Refusal] {
+            let line = end_of(table, end as u16, record).ask(kind, place as u16, LINE);
+            if let Some(line) = line.expect("an end of the link") {
+                assert!(Fleet::with(table, record).event(&line, 0, 1).is_ok());
+                written += 1;
+            }
+        }
+    }
+    written
+}
+
+#[test]
+fn ends_beside_the_fleet() {
+    let (mut accepted, mut written) = (0, 0);
+    for seed in 0..600 {
+        let random = &mut Random::new(40 << 32 | seed);
+        let table = any_table(random);
+        let mut fleet = Fleet::fresh(&table);
+        let mut air = Air::over(&table, any_mix(random));
+        for _ in 0..40 {
+            for line in air.next(random) {
+                let before = fleet.record().to_vec();
+                if let Ok(entry) = fleet.event(&line, 0, 1) {
+                    same_alone(&table, &before, &line, entry, fleet.record());
+                    accepted += 1;
+                }
+            }
+            if !table.links.is_empty() {
+                written += asked(&table, fleet.record(), random);
+            }
+        }
+    }
+    assert!(accepted > 10_000 && written > 3_000, "{accepted} {written}");
+}

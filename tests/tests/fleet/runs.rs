@@ -1,0 +1,281 @@
+//! Runs to the finish in many orders, with frames lost, repeated and late. Each ends with the
+//! plan, and all of one table with the same record.
+
+use planner_tests::air::{frame_after, opening};
+use planner_tests::compare_fleet::Fleet;
+use planner_tests::ends::{Frame, What};
+use planner_tests::events::any_table;
+use planner_tests::fleet::{changes, Site, BYTES};
+use planner_tests::methods::slse;
+use planner_tests::random::Random;
+use planner_tests::reference::{plan, Table};
+use planner_tests::sites::{banded, hubs, legal_of_size, marked, set_costs, set_needs};
+use std::collections::VecDeque;
+
+/// Which of the frames under way, or of the probes that may open, comes next.
+#[derive(Clone, Copy, Debug)]
+enum Next {
+    Oldest,
+    Newest,
+    Any,
+}
+
+/// When probes open.
+#[derive(Clone, Copy, Debug)]
+enum Openings {
+    BeforeFrames,
+    AfterFrames,
+    Between,
+}
+
+#[derive(Clone, Copy, Debug)]
+struct Order {
+    next: Next,
+    openings: Openings,
+    /// Frames are lost and sent again, repeated, and late.
+    lossy: bool,
+}
+
+const ORDERS: usize = 12;
+
+/// The first nine differ in the first two, the others in the third.
+fn order(place: usize) -> Order {
+    let nexts = [Next::Oldest, Next::Newest, Next::Any];
+    let openings = [
+        Openings::BeforeFrames,
+        Openings::AfterFrames,
+        Openings::Between,
+    ];
+    Order {
+        next: nexts[place % 3],
+        openings: openings[place / 3 % 3],
+        lossy: place % 2 == 1 || place == 8,
+    }
+}
+
+fn take<T>(from: &mut VecDeque<T>, next: Next, random: &mut Random) -> Option<T> {
+    match next {
+        _ if from.is_empty() => None,
+        Next::Oldest => from.pop_front(),
+        Next::Newest => from.pop_back(),
+        Next::Any => from.remove(random.below(from.len())),
+    }
+}
+
+struct Run<'a> {
+    table: &'a Table,
+    site: Site,
+    order: Order,
+    fleet: Fleet,
+    used: usize,
+    /// The probes that may have something to open.
+    openers: VecDeque<u16>,
+    under_way: VecDeque<Frame>,
+    sent: Vec<Frame>,
+    /// How often each link's bytes were altered.
+    changes: Vec<usize>,
+}
+
+impl Run<'_> {
+    fn fresh(table: &Table, order: Order) -> Run<'_> {
+        Run {
+            table,
+            site: Site::of_legal(table.clone()),
+            order,
+            fleet: Fleet::fresh(table),
+            used: 0,
+            openers: (0..table.needs.len() as u16).collect(),
+            under_way: VecDeque::new(),
+            sent: Vec::new(),
+            changes: vec![0; table.links.len()],
+        }
+    }
+
+    /// A truly sent frame or an opening is accepted, with an entry free for it.
+    #[track_caller]
+    fn hear(&mut self, frame: Frame) -> What {
+        let before = self.fleet.record().to_vec();
+        let line = frame.line();
+        let befell = self.fleet.event_on(&self.site, &line, self.used);
+        let entry = befell.expect("an opening or a truly sent frame");
+        self.used += 1;
+        let links = before.chunks_exact(BYTES);
+        let links = links.zip(self.fleet.record().chunks_exact(BYTES));
+        for (place, (before, after)) in links.enumerate() {
+            if before != after {
+                self.changes[place] += changes(before, after);
+            }
+        }
+        if matches!(entry.what, What::Opened(_) | What::Learnt(_)) {
+            self.openers.push_back(entry.probe);
+        }
+        if let Some(frame) = frame_after(entry, self.table) {
+            self.under_way.push_back(frame);
+            self.sent.push(frame);
+        }
+        entry.what
+    }
+
+    /// A frame may be lost, and is then sent again; an old one may come before it.
+    fn next_frame(&mut self, random: &mut Random) -> Option<Frame> {
+        let frame = take(&mut self.under_way, self.order.next, random)?;
+        if self.order.lossy && random.one_in(4) {
+            self.under_way.push_front(frame);
+            return Some(random.pick(&self.sent));
+        }
+        Some(frame)
+    }
+
+    fn next_opening(&mut self, random: &mut Random) -> Option<Frame> {
+        let probe = take(&mut self.openers, self.order.next, random)?;
+        Some(opening(self.table, probe))
+    }
+
+    /// None once nothing is under way and no probe has anything to open.
+    fn next(&mut self, random: &mut Random) -> Option<Frame> {
+        let opening_first = match self.order.openings {
+            Openings::BeforeFrames => true,
+            Openings::AfterFrames => false,
+            Openings::Between => random.one_in(2),
+        };
+        match opening_first {
+            true => self
+                .next_opening(random)
+                .or_else(|| self.next_frame(random)),
+            false => self
+                .next_frame(random)
+                .or_else(|| self.next_opening(random)),
+        }
+    }
+
+    /// Runs to the finish; asks now and then whether it has come.
+    #[track_caller]
+    fn finish(&mut self, random: &mut Random) {
+        while let Some(frame) = self.next(random) {
+            if random.one_in(1 + self.table.links.len() / 16) {
+                assert!(self.fleet.finished().is_ok());
+            }
+            self.hear(frame);
+        }
+        assert_eq!(self.fleet.finished(), Ok(true));
+    }
+
+    /// Old frames and openings change nothing any more.
+    #[track_caller]
+    fn late(&mut self, random: &mut Random) {
+        for _ in 0..self.sent.len().min(20) {
+            let frame = random.pick(&self.sent);
+            assert!(matches!(self.hear(frame), What::NoChange(_)));
+        }
+        let probe = random.below(self.table.needs.len()) as u16;
+        let what = self.hear(opening(self.table, probe));
+        assert_eq!(what, What::NothingToOpen);
+    }
+
+    /// Both ends rest a link exactly when the plan does not keep it, and every need is met.
+    #[track_caller]
+    fn assert_planned(&self) {
+        let kept = slse(self.table).kept;
+        assert_eq!(kept, plan(self.table).kept);
+        let mut awake = vec![0; self.table.needs.len()];
+        for (place, bytes) in self.fleet.record().chunks_exact(BYTES).enumerate() {
+            let at_low = [bytes[0], bytes[3]] == [1, 1];
+            let at_high = [bytes[2], bytes[1]] == [1, 1];
+            assert_eq!([at_low, at_high], [!kept[place]; 2]);
+            if !at_low {
+                let ends = self.table.links[place].ends();
+                ends.into_iter().for_each(|end| awake[end] += 1);
+            }
+        }
+        let met = |(awake, need): (&u16, &u16)| awake >= need;
+        assert!(awake.iter().zip(&self.table.needs).all(met));
+        assert!(self.changes.iter().all(|&changes| changes <= 4));
+    }
+}
+
+/// In each of the first orders; answers how many events there were.
+#[track_caller]
+fn run_all(table: &Table, orders: usize, random: &mut Random) -> usize {
+    let (mut records, mut events) = (Vec::new(), 0);
+    for place in 0..orders {
+        let mut run = Run::fresh(table, order(place));
+        if random.one_in(2) {
+            run.openers.make_contiguous().reverse();
+        }
+        run.finish(random);
+        run.late(random);
+        run.assert_planned();
+        records.push(run.fleet.record().to_vec());
+        events += run.used;
+    }
+    assert!(records.iter().all(|record| *record == records[0]));
+    events
+}
+
+#[test]
+fn marked_sites() {
+    let random = &mut Random::new(46);
+    let events: Vec<usize> = (0..8)
+        .map(|place| run_all(&marked(place), ORDERS, random))
+        .collect();
+    assert!(events.iter().all(|&events| events >= ORDERS));
+}
+
+#[test]
+fn small_sites() {
+    let mut events = 0;
+    for seed in 0..600 {
+        let random = &mut Random::new(47 << 32 | seed);
+        let probes = 1 + random.below(9);
+        let links = random.below(probes * (probes - 1) / 2 + 1);
+        let table = legal_of_size(probes, links, random);
+        events += run_all(&table, ORDERS, random);
+    }
+    assert!(events > 100_000, "{events}");
+}
+
+#[test]
+fn sites_of_many_kinds() {
+    let mut events = 0;
+    for seed in 0..60 {
+        let random = &mut Random::new(48 << 32 | seed);
+        let table = match seed % 4 {
+            0 => banded(random),
+            _ => any_table(random),
+        };
+        if table.links.len() <= 600 {
+            events += run_all(&table, ORDERS, random);
+        }
+    }
+    assert!(events > 100_000, "{events}");
+}
+
+/// Each probe needs half of its links.
+fn half_needed(mut table: Table, costs: usize, random: &mut Random) -> Table {
+    set_costs(&mut table, || random.below(costs) as u16);
+    set_needs(&mut table, |_, degree| degree / 2);
+    table
+}
+
+#[track_caller]
+fn run_largest(table: Table, random: &mut Random) {
+    assert_eq!([table.needs.len(), table.links.len()], [256, 2048]);
+    let events = run_all(&table, 10, random);
+    assert!(events > 10 * 4096, "{events}");
+}
+
+#[test]
+fn largest_site() {
+    let random = &mut Random::new(49);
+    let any = legal_of_size(256, 2048, random);
+    run_largest(half_needed(any, 65_536, random), random);
+}
+
+/// Its first eight probes are joined to all others.
+#[test]
+fn largest_site_with_hubs() {
+    let random = &mut Random::new(50);
+    let mut joined = hubs(256, 9);
+    joined.links.truncate(2048);
+    run_largest(half_needed(joined, 3, random), random);
+}

@@ -1,0 +1,223 @@
+//! The built programs, each fed through a pipe. They stand in PLANNER_BIN_DIR, else in
+//! ../target/bin.
+
+use planner_tests::air::{any_mix, any_script};
+use planner_tests::events::any_table;
+use planner_tests::random::Random;
+use planner_tests::reference::{plan_output, Table};
+use planner_tests::script;
+use planner_tests::sites::{damage_text, legal_of_size, marked, M2, MARKED};
+use std::env;
+use std::fs;
+use std::io::{ErrorKind, Read, Write};
+use std::path::{Path, PathBuf};
+use std::process::{Child, ChildStdin, Command, Stdio};
+use std::thread::{self, JoinHandle};
+use std::time::Duration;
+
+/// What a program may use of memory at the most, in KiB, whatever the length of its input.
+const MOST_MEMORY: usize = 8 * 1024;
+
+fn path_of(name: &str) -> PathBuf {
+    match env::var_os("PLANNER_BIN_DIR") {
+        Some(folder) => Path::new(&folder).join(name),
+        None => Path::new(env!("CARGO_MANIFEST_DIR"))
+            .join("../target/bin")
+            .join(name),
+    }
+}
+
+/// A program under way; a thread reads what it prints.
+struct Program {
+    child: Child,
+    input: ChildStdin,
+    output: JoinHandle<Vec<u8>>,
+}
+
+impl Program {
+    fn start(name: &str) -> Program {
+        let path = path_of(name);
+        let piped = Command::new(&path)
+            .stdin(Stdio::piped())
+            .stdout(Stdio::piped())
+            .spawn();
+        let mut child = piped.unwrap_or_else(|error| panic!("{}: {error}", path.display()));
+        let input = child.stdin.take().expect("its input is piped");
+        let mut printed = child.stdout.take().expect("its output is piped");
+        let output = thread::spawn(move || {
+            let mut all = Vec::new();
+            printed.read_to_end(&mut all).expect("its output is read");
+            all
+        });
+        Program {
+            child,
+            input,
+            output,
+        }
+    }
+
+    /// A program that has ended reads no more.
+    fn feed(&mut self, piece: &[u8]) {
+        match self.input.write_all(piece) {
+            Err(error) if error.kind() != ErrorKind::BrokenPipe => panic!("{error}"),
+            _ => {}
+        }
+    }
+
+    /// The most memory it has used so far, in KiB; its input is still open.
+    fn most_memory(&self) -> usize {
+        let path = format!("/proc/{}/status", self.child.id());
+        let status = fs::read_to_string(path).expect("the program runs");
+        let most = status.lines().find_map(|line| line.strip_prefix("VmHWM:"));
+        let most = most.and_then(|most| most.split_whitespace().next());
+        most.and_then(|most| most.parse().ok())
+            .expect("VmHWM in KiB")
+    }
+
+    fn finish(mut self) -> Vec<u8> {
+        drop(self.input);
+        let status = self.child.wait().expect("the program ends");
+        assert!(status.success(), "{status}");
+        self.output.join().expect("its output is read")
+    }
+}
+
+/// The whole output for an input in pieces of these sizes, again and again.
+fn run(name: &str, input: &[u8], sizes: &[usize]) -> Vec<u8> {
+    let mut program = Program::start(name);
+    let mut rest = input;
+    for &size in sizes.iter().cycle() {
+        if rest.is_empty() {
+            break;
+        }
+        let (piece, behind) = rest.split_at(size.min(rest.len()));
+        program.feed(piece);
+        rest = behind;
+    }
+    program.finish()
+}
+
+const WHOLE: [usize; 1] = [usize::MAX];
+const ODD: [usize; 9] = [1, 3, 15, 7, 14, 16, 31, 4095, 4097];
+
+#[track_caller]
+fn compare_script(input: &[u8], sizes: &[usize]) {
+    assert!(run("script", input, sizes) == script::output(input));
+}
+
+#[track_caller]
+fn compare_plan(input: &[u8], sizes: &[usize]) {
+    assert!(run("plan", input, sizes) == plan_output(input));
+}
+
+const M4: &str = "00000100000000\n01000100000001\n00000100010001\n01000100010000\n";
+
+#[test]
+fn samples() {
+    let input = [MARKED[3], M4].concat();
+    let expected = "0000000000ffff\n0001020000ffff\n0001000000ffff\n0000020000ffff\n0100000004\n";
+    assert_eq!(run("script", input.as_bytes(), &WHOLE), expected.as_bytes());
+    let expected = "000100020000000a\n000000010005\n000200030005\nffff\n";
+    assert_eq!(run("plan", M2.as_bytes(), &WHOLE), expected.as_bytes());
+}
+
+#[test]
+fn empty_input() {
+    for name in ["script", "plan"] {
+        assert_eq!(run(name, b"", &WHOLE), b"e001\n");
+        assert_eq!(run(name, b"\n", &WHOLE), b"e001\n");
+    }
+}
+
+/// Byte by byte, with a pause after each.
+#[test]
+fn slow_input() {
+    let input = [MARKED[3], M4, "\n0000010000000g\n0000010000"].concat();
+    for (name, expected) in [
+        ("script", script::output(input.as_bytes())),
+        ("plan", plan_output(input.as_bytes())),
+    ] {
+        let mut program = Program::start(name);
+        for byte in input.as_bytes() {
+            program.feed(&[*byte]);
+            thread::sleep(Duration::from_micros(100));
+        }
+        assert_eq!(program.finish(), expected);
+    }
+}
+
+fn random_input(table: &Table, lines: usize, random: &mut Random) -> Vec<u8> {
+    let mix = any_mix(random);
+    [table.text(), any_script(table, lines, mix, random)].concat()
+}
+
+#[test]
+fn random_inputs_in_odd_pieces() {
+    for seed in 0..60 {
+        let random = &mut Random::new(80 << 32 | seed);
+        let table = match seed {
+            0 | 1 => legal_of_size(256, 2048, random),
+            _ => any_table(random),
+        };
+        let lines = random.below(2_000);
+        let mut input = random_input(&table, lines, random);
+        compare_plan(&table.text(), &ODD);
+        compare_script(&input, &ODD);
+        damage_text(&mut input, random);
+        compare_plan(&input, &ODD);
+        compare_script(&input, &ODD);
+    }
+}
+
+#[test]
+fn script_of_100_000_lines() {
+    let random = &mut Random::new(81);
+    for (probes, links) in [(6, 12), (256, 2048)] {
+        let table = legal_of_size(probes, links, random);
+        let input = random_input(&table, 100_000, random);
+        let lines = input.iter().filter(|&&byte| byte == b'\n').count();
+        assert!(lines > 100_000);
+        compare_script(&input, &WHOLE);
+    }
+}
+
+/// Feeds the start once and the rest so many times; the memory used stays small.
+#[track_caller]
+fn bounded(name: &str, start: &[u8], rest: &[u8], times: usize) -> Vec<u8> {
+    let mut program = Program::start(name);
+    program.feed(start);
+    for _ in 0..times {
+        program.feed(rest);
+    }
+    let most = program.most_memory();
+    assert!(most < MOST_MEMORY, "{name}: {most} KiB");
+    program.finish()
+}
+
+#[test]
+fn memory_for_a_million_lines() {
+    let random = &mut Random::new(82);
+    let table = legal_of_size(6, 12, random);
+    let rest = any_script(&table, 10_000, any_mix(random), random);
+    let output = bounded("script", &table.text(), &rest, 100);
+    let input = [table.text(), rest.repeat(100)].concat();
+    assert!(output == script::output(&input));
+    assert!(output.len() > 5_000_000);
+}
+
+#[test]
+fn memory_for_a_million_empty_lines() {
+    let output = bounded("script", &marked(3).text(), &[b'\n'; 10_000], 100);
+    let expected = ["e001\n".repeat(1_000_000).as_bytes(), b"0000000000\n"].concat();
+    assert!(output == expected);
+}
+
+/// 20,000,000 bytes without a line feed.
+#[test]
+fn memory_for_a_long_line() {
+    let digits = [b'0'; 100_000];
+    let output = bounded("script", &marked(3).text(), &digits, 200);
+    assert_eq!(output, b"e001\n0000000000\n");
+    let output = bounded("plan", &marked(3).text(), &digits, 200);
+    assert_eq!(output, b"e006\n");
+}

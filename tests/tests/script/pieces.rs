@@ -1,0 +1,235 @@
+//! A script handled in pieces prints what it prints at once.
+
+use crate::{input, M11, M4};
+use planner_tests::air::{any_mix, any_script};
+use planner_tests::buffer::Buffer;
+use planner_tests::compare_script::{in_pieces, state_fault, text, Pieces, END, KEPT};
+use planner_tests::events::any_table;
+use planner_tests::random::Random;
+use planner_tests::reference::Table;
+use planner_tests::script::output;
+use planner_tests::sites::{damage_table, marked, Numbers, MARKED};
+
+/// In pieces of so many bytes, equal to the whole.
+#[track_caller]
+fn compare(table: &Table, script: &[u8], size: usize, random: &mut Random) {
+    let whole = output(&[&table.text(), script].concat());
+    assert!(in_pieces(table, script.chunks(size), random) == whole);
+}
+
+/// M11 with bad lines, a long one among them, and a last line that is not closed.
+fn small_script() -> Vec<u8> {
+    let long = "0".repeat(50);
+    let mut lines = Vec::from(M11);
+    lines.insert(3, "");
+    lines.insert(5, "000001000000000");
+    lines.insert(7, "0000010000000000");
+    lines.insert(9, &long);
+    lines.insert(10, "0000010000000G");
+    lines.push("0000010001000");
+    let text = input(1, &lines);
+    text[MARKED[1].len()..text.len() - 1].to_vec()
+}
+
+#[test]
+fn cut_at_every_byte() {
+    let random = &mut Random::new(70);
+    let (table, script) = (marked(1), small_script());
+    let whole = text(&[&table.text(), &script[..]].concat(), random);
+    for cut in 0..=script.len() {
+        let (one, other) = script.split_at(cut);
+        let printed = in_pieces(&table, [one, other].into_iter(), random);
+        assert!(printed == whole, "cut at {cut}");
+    }
+}
+
+#[test]
+fn pieces_of_every_size() {
+    let random = &mut Random::new(71);
+    let script = small_script();
+    for size in 1..=40 {
+        compare(&marked(1), &script, size, random);
+        compare(&marked(3), &input(3, &M4)[MARKED[3].len()..], size, random);
+    }
+}
+
+#[test]
+fn no_piece_and_empty_pieces() {
+    let random = &mut Random::new(72);
+    for (place, text) in MARKED.iter().enumerate() {
+        let table = marked(place);
+        let whole = output(text.as_bytes());
+        assert_eq!(in_pieces(&table, [].into_iter(), random), whole);
+        assert_eq!(in_pieces(&table, [&b""[..]; 3].into_iter(), random), whole);
+    }
+}
+
+/// 100,000 bytes without a line feed, in pieces of some sizes.
+#[test]
+fn long_line() {
+    let random = &mut Random::new(73);
+    let table = marked(3);
+    for size in [1, 7, 15, 16, 17, 4096, 100_000] {
+        let long = vec![b'0'; 100_000];
+        compare(&table, &long, size, random);
+        let closed = [&long[..], b"\n", M4[0].as_bytes(), b"\n"].concat();
+        compare(&table, &closed, size, random);
+    }
+}
+
+#[test]
+fn random_scripts_in_random_pieces() {
+    let mut pieces = 0;
+    for seed in 0..600 {
+        let random = &mut Random::new(74 << 32 | seed);
+        let table = any_table(random);
+        let lines = random.below(60);
+        let mut script = any_script(&table, lines, any_mix(random), random);
+        if random.one_in(3) {
+            script.pop();
+        }
+        let most = random.pick(&[2, 16, 20, 40, 400]);
+        let mut rest = &script[..];
+        let mut cut = Vec::new();
+        while !rest.is_empty() {
+            let (piece, behind) = rest.split_at(random.below(most).min(rest.len()));
+            cut.push(piece);
+            rest = behind;
+        }
+        pieces += cut.len();
+        let whole = output(&[&table.text(), &script[..]].concat());
+        assert!(in_pieces(&table, cut.into_iter(), random) == whole);
+    }
+    assert!(pieces > 10_000, "{pieces}");
+}
+
+/// The log is full once 1,024 entries are used, whatever came before.
+#[test]
+fn used_goes_on() {
+    let random = &mut Random::new(75);
+    let line = b"00000100000000\n";
+    for (used, expected) in [
+        (0, &b"0000000000ffff\n"[..]),
+        (1023, b"0000000000ffff\n"),
+        (1024, b"e026\n"),
+        (1025, b"e026\n"),
+    ] {
+        let mut pieces = Pieces::fresh(&marked(3), random);
+        pieces.progress.lend()[0] = used;
+        let length = pieces.enough(line);
+        assert_eq!(pieces.piece(line, length, random), Ok(expected.to_vec()));
+        let more = u32::from(expected.len() == 15);
+        assert_eq!(pieces.used(), used + more);
+        assert_eq!(pieces.changed(), more);
+    }
+}
+
+#[test]
+fn end_prints_what_it_is_told() {
+    let random = &mut Random::new(76);
+    let mut pieces = Pieces::fresh(&marked(3), random);
+    pieces.progress.lend()[2] = 0x1234_abcd;
+    assert_eq!(pieces.end(END, random), Ok(b"001234abcd\n".to_vec()));
+    pieces.record.lend().fill(1);
+    assert_eq!(pieces.end(END, random), Ok(b"011234abcd\n".to_vec()));
+    for held in [1, 14, 15, 16] {
+        pieces.progress.lend()[1] = held;
+        let expected = b"e001\n011234abcd\n".to_vec();
+        assert_eq!(pieces.end(END + 1, random), Ok(expected));
+    }
+}
+
+/// A change that puts a fault in, and the fault's refusal.
+type Fault = (fn(&mut Pieces), u8);
+
+fn set_link(pieces: &mut Pieces, place: usize, low: u16, high: u16) {
+    pieces.numbers.entries[1][place] = low;
+    pieces.numbers.entries[2][place] = high;
+}
+
+fn set_record(pieces: &mut Pieces, record: &[u8]) {
+    pieces.record = Buffer::holding(record, || 7);
+}
+
+/// In the order of the refusals; 5 stands before 4, for it is at an earlier link.
+const FAULTS: [Fault; 10] = [
+    (|pieces| pieces.line = Buffer::filled(KEPT - 1, || 7), 8),
+    (|pieces| pieces.progress = Buffer::holding(&[0, 0], || 7), 8),
+    (|pieces| pieces.numbers.lent[3] = 2, 8),
+    (|pieces| pieces.numbers.probes = 0, 3),
+    (|pieces| set_link(pieces, 1, 0, 1), 5),
+    (|pieces| set_link(pieces, 2, 2, 2), 4),
+    (|pieces| pieces.numbers.entries[0][0] = 9, 7),
+    (|pieces| set_record(pieces, &[0; 13]), 20),
+    (|pieces| set_record(pieces, &[3; 12]), 21),
+    (|pieces| set_record(pieces, &[1; 12]), 22),
+];
+
+/// Each fault alone and any two together; the first in the list decides.
+#[test]
+fn refused_pieces_and_ends() {
+    let random = &mut Random::new(77);
+    let piece = b"00000100000000\n";
+    for one in 0..FAULTS.len() {
+        for other in 0..FAULTS.len() {
+            // The later fault of a record would take the earlier one's place.
+            let [first, second] = [one.min(other), one.max(other)];
+            let mut pieces = Pieces::fresh(&marked(1), random);
+            FAULTS[second].0(&mut pieces);
+            FAULTS[first].0(&mut pieces);
+            let expected = Err(FAULTS[first].1);
+            let enough = 5 * piece.len();
+            assert_eq!(pieces.piece(piece, enough, random), expected);
+            assert_eq!(pieces.piece(piece, enough - 1, random), Err(8));
+            if first > 2 {
+                assert_eq!(pieces.end(END, random), expected);
+                assert_eq!(pieces.end(END - 1, random), Err(8));
+            }
+        }
+    }
+}
+
+/// A slice of five bytes for each byte held and for each of the piece is long enough, a shorter
+/// one is refused.
+#[test]
+fn slice_for_the_output() {
+    let random = &mut Random::new(78);
+    for held in 0..16 {
+        let mut pieces = Pieces::fresh(&marked(3), random);
+        let start = &b"00000100000000\n"[..held.min(14)];
+        let printed = pieces.piece(start, pieces.enough(start), random);
+        assert_eq!(printed, Ok(Vec::new()));
+        let piece = b"\n\n00000100000000\n";
+        let enough = pieces.enough(piece);
+        assert_eq!(pieces.held() as usize, start.len());
+        for length in [0, 1, enough / 2, enough - 1] {
+            assert_eq!(pieces.piece(piece, length, random), Err(8));
+        }
+        assert!(pieces.piece(piece, enough, random).is_ok());
+    }
+    let pieces = Pieces::fresh(&marked(3), random);
+    for length in 0..END {
+        assert_eq!(pieces.end(length, random), Err(8));
+    }
+}
+
+/// Random tables in slices, damaged or not, are refused as the fleet refuses them.
+#[test]
+fn damaged_tables() {
+    let mut refused = 0;
+    for seed in 0..4_000 {
+        let random = &mut Random::new(79 << 32 | seed);
+        let table = any_table(random);
+        let mut damaged = table.clone();
+        damage_table(&mut damaged, random);
+        let mut pieces = Pieces::fresh(&table, random);
+        pieces.numbers = Numbers::of(&damaged);
+        let expected = state_fault(pieces.numbers.slices(), pieces.record.entries(), false);
+        refused += usize::from(expected.is_some());
+        let piece = b"00000100000000\n";
+        let printed = pieces.piece(piece, pieces.enough(piece), random);
+        assert_eq!(printed.err(), expected);
+        assert_eq!(pieces.end(END, random).err(), expected);
+    }
+    assert!(refused > 2_000, "{refused}");
+}
