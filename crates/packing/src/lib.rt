@@ -64,7 +64,7 @@ pub fn packed_planning(r: Planning) -> u64
 }
 
 pub fn packed_output(r: Output) -> u64
-    requires { ⌜ ((length : ℕ) → r ≡ Printed length → length < 2 ^ 48) ⌝ }
+    requires { ⌜ ((length : ℕ) → r ≡ Printed length → length < 2 ^ 63) ⌝ }
     ensures { λ n. ⌜ n ≡ packedOutput r ⌝ }
 {
     match r {
