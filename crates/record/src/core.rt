@@ -12,10 +12,9 @@ pub fn touches(lows: &[u16], highs: &[u16], probe: usize, i: usize) -> bool
     requires { ⌜ (i < length (now lows)) × (i < length (now highs)) ⌝ }
     ensures { λ r. ⌜ r ≡ touches (ofSlices 0 0 0 [] (now (lows .entry)) (now (highs .entry)) []) probe i ⌝ }
 {
-    if probe == table::core::wide(lows[i]) {
-        return true;
-    }
-    probe == table::core::wide(highs[i])
+    let low = probe == table::core::wide(lows[i]);
+    let high = probe == table::core::wide(highs[i]);
+    low | high
 }
 
 // The probe's number of links.

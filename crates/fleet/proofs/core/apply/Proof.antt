@@ -7,6 +7,7 @@ use mathlib.Core.Path.{_≡_, sym, _∙_, ap}
 use native.Mathlib.Omega.{arith}
 use lib.ListN.{length, take}
 use lib.Seq.{length-take-le}
+use Rattle.range.proofs.Lists.{zeros-at}
 use Rattle.table.specs.Table.{Table, ofSlices}
 use Rattle.rules.specs.declared.Outcome.{Outcome}
 use Rattle.rules.specs.Rules.{befalls, entryOf}
@@ -24,7 +25,7 @@ own-bytes-requires c κs =
     let a = c .before .before .before .before .before .before .before .args in
     let p = c .before .before .before .before .before .before .before .pre .0 in
     let s = legal-size (ofSlices 0 (a .probes) (a .links) (a .needs .now) (a .lows .now) (a .highs .now) (a .costs .now)) (p .legal) in
-    (omega (arith, s .within), omega (arith, p .long), p .in-lows, p .in-highs, omega (arith, s .within))
+    (omega (arith, s .within), omega (arith, p .long), p .in-lows, p .in-highs, omega (arith, s .within), λ j. zeros-at 4096 j)
 
 mul-bytes : tie.Need-mul-bytes
 mul-bytes c = search needs

@@ -2,49 +2,35 @@
 use borrow.Author.Needs.{needs}
 use Rattle.fleet_record.proofs.core.own_bytes.Statement.{statement}
 use Rattle.fleet_record.proofs.core.own_bytes.Tie as tie
-use Prim.Native.Nat.{ℕ, _*_, _-_, _≤_}
-use mathlib.Core.Path.{_≡_, refl}
+use Prim.Native.Nat.{ℕ, _+_, _*_, _-_, _≤_}
+use mathlib.Core.Path.{_≡_, refl, _∙_}
 use mathlib.Core.List.{List, []}
 use native.Mathlib.Omega.{arith}
-use lib.ListN.{length, take, length-set}
+use lib.ListN.{length, take, getD}
 use Rattle.range.specs.Lists.{joined}
 use Rattle.table.specs.Table.{Table, ofSlices}
 use Rattle.fleet_theory.specs.Fleet.{own}
-use Rattle.fleet_record.proofs.Own.{ownFirst, own-next}
+use Rattle.fleet_record.proofs.Own.{ownFirst, own-next, zeros-beyond}
 
 abbrev table : ℕ → List ℕ → List ℕ → Table
 table links lows highs = ofSlices 0 0 links [] lows highs []
 
 abbrev Inv-loop : tie.InvT-loop
-Inv-loop bytes₀ rec links lows highs probe i₀ bytes i = (i ≤ links) × (take (2 * i) bytes ≡ ownFirst (table links lows highs) probe rec i) × (length bytes ≡ length bytes₀)
+Inv-loop bytes₀ rec links lows highs probe i₀ bytes i = (i ≤ links) × (take (2 * i) bytes ≡ ownFirst (table links lows highs) probe rec i) × (length bytes ≡ length bytes₀) × ((j : ℕ) → 2 * i ≤ j → getD bytes j 0 ≡ 0)
 
 abbrev μ-loop : tie.MeasureT-loop
 μ-loop bytes₀ rec links lows highs probe i₀ bytes i = links - i
 
 loop-holds : tie.Need-loop-holds Inv-loop μ-loop
 unfolding joined
-loop-holds c = (search needs, refl, refl)
+loop-holds c = (search needs, refl, refl, λ j l. c .before .before .before .before .pre .5 j)
 
-out-byte-requires : tie.Need-out-byte-requires Inv-loop μ-loop
-out-byte-requires c κs = search needs
-
-mul-bytes : tie.Need-mul-bytes Inv-loop μ-loop
-mul-bytes c = search needs
-
-slice-write-bytes : tie.Need-slice-write-bytes Inv-loop μ-loop
-slice-write-bytes c = search needs
-
-in-byte-requires : tie.Need-in-byte-requires Inv-loop μ-loop
-in-byte-requires c κs = search needs
-
-mul-bytes-2 : tie.Need-mul-bytes-2 Inv-loop μ-loop
-mul-bytes-2 c = search needs
-
-add-bytes : tie.Need-add-bytes Inv-loop μ-loop
-add-bytes c = search needs
-
-slice-write-bytes-2 : tie.Need-slice-write-bytes-2 Inv-loop μ-loop
-slice-write-bytes-2 c = simp length-set (search needs)
+put-own-requires : tie.Need-put-own-requires Inv-loop μ-loop
+put-own-requires c κs =
+    let s = c .before .before .before .before .before .before .before in
+    let v = c .before .before .loop .inv in
+    let w = c .before .loop-test .taken in
+    (omega (arith, s .pre .2), omega (arith, s .pre .3), omega (arith, s .pre .4), omega (arith, s .pre .1), omega (arith, s .pre .0, v .2), v .3 (2 * c .before .before .loop .i) (omega arith), v .3 (2 * c .before .before .loop .i + 1) (omega arith))
 
 add-i : tie.Need-add-i Inv-loop μ-loop
 add-i c = search needs
@@ -54,12 +40,13 @@ loop-less c = search needs
 
 loop-again : tie.Need-loop-again Inv-loop μ-loop
 loop-again c =
-    let l = c .before .before .before .loop in
-    let a = c .before .before .before .before .before .before .before .before .args in
-    let p = c .before .before .before .before .before .before .before .before .pre in
-    let n = l .inv .2 in
-    let w = c .before .before .loop-test .taken in
-    (search needs, own-next (table (a .links) (a .lows .now) (a .highs .now)) (a .probe) (a .rec .now) (l .i) _ _ (l .bytes) (l .inv .1) (omega (arith, p .0)) (c .before .out-byte .ensures) (c .in-byte .ensures), simp length-set n)
+    let s = c .before .before .before .before .before .before .before .before .before .before in
+    let a = s .args in
+    let l = c .before .before .before .before .before .loop in
+    let v = l .inv in
+    let k = c .before .before .put-own in
+    let w = c .before .before .before .before .loop-test .taken in
+    (omega arith, rw (k .ensures) (own-next (table (a .links) (a .lows .now) (a .highs .now)) (a .probe) (a .rec .now) (l .i) _ _ (l .bytes) (v .1) (omega (arith, s .pre .0, v .2)) refl refl), k .kept .0 ∙ v .2, λ j m. rw (k .ensures) (zeros-beyond (l .bytes) (l .i) _ _ j m (v .3 j (omega arith))))
 
 same-length : tie.Need-same-length Inv-loop μ-loop
 same-length c = c .before .loop .inv .2
@@ -67,7 +54,7 @@ same-length c = c .before .loop .inv .2
 returns : tie.Need-returns Inv-loop μ-loop
 unfolding own
 returns c =
-    let e : c .before .loop .i ≡ c .before .before .before .before .before .before .args .links = omega arith in
+    let e : c .before .loop .i ≡ c .before .before .before .before .before .before .args .links = omega (arith, c .before .loop .inv .0, c .loop-test .left) in
     rw (← e) (c .before .loop .inv .1)
 
 pub own-bytes-spec : {M : Type 1} → statement M
@@ -77,13 +64,7 @@ own-bytes-spec =
     Inv-loop
     μ-loop
     loop-holds
-    out-byte-requires
-    mul-bytes
-    slice-write-bytes
-    in-byte-requires
-    mul-bytes-2
-    add-bytes
-    slice-write-bytes-2
+    put-own-requires
     add-i
     loop-less
     loop-again
