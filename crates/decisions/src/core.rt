@@ -11,7 +11,7 @@ use rules::Event;
 use rules::Outcome;
 
 // Whether the link i is dearer than the link j.
-fn dearer(costs: &[u16], i: usize, j: usize) -> bool
+pub fn dearer(costs: &[u16], i: usize, j: usize) -> bool
     requires { ⌜ (i < length (now costs)) × (j < length (now costs)) ⌝ }
     ensures { λ r. ⌜ r ≡ (ltb (item (now (costs .entry)) j) (item (now (costs .entry)) i) || (eqb (item (now (costs .entry)) i) (item (now (costs .entry)) j) && ltb j i)) ⌝ }
 {

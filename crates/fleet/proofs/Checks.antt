@@ -1,7 +1,7 @@
 -- What the checks of table, record and line give.
 use Prim.Native.Nat.{ℕ, _<_}
-use mathlib.Core.Path.{_≡_, _∙_}
-use mathlib.Core.List.{List, []}
+use mathlib.Core.Path.{_≡_}
+use mathlib.Core.List.{List}
 use native.Mathlib.Omega.{arith}
 use lib.ListN.{length}
 use Rattle.range.specs.First.{orElse}
@@ -13,13 +13,11 @@ use Rattle.cover_theory.proofs.Order.{sound}
 use Rattle.cover_theory.proofs.Settled.{Across, up, down}
 use Rattle.frame.specs.Frame.{Frame, frameOf, frameFault}
 use Rattle.rules.specs.Frames.{numberFault}
-use Rattle.rules.specs.Within.{EventWithin, Ready}
-use Rattle.fleet_theory.specs.Fleet.{own, fleetFault, kindFault, endsFault, lineFault, eventOf}
-use Rattle.fleet_theory.proofs.Own.{length-own}
+use Rattle.rules.specs.Within.{EventWithin}
+use Rattle.fleet_theory.specs.Fleet.{fleetFault, kindFault, endsFault, lineFault, eventOf}
 use Rattle.fleet_theory.proofs.Events.{Says, an-opening, an-offer, a-refusal, says}
 use Rattle.fleet.specs.Within.{Checked}
-use Rattle.fleet_checks.proofs.Checks.{fleet-good, own-passes}
-use Rattle.fleet_theory.proofs.Own.{own-same}
+use Rattle.fleet_checks.proofs.Checks.{fleet-good}
 
 module _ (number probes links : ℕ) (needs lows highs costs : List ℕ) where
   abbrev table : Table
@@ -36,21 +34,6 @@ module _ (number probes links : ℕ) (needs lows highs costs : List ℕ) where
         in-costs = g .in-costs;
         long = f .0;
         bytes = f .1;
-      }
-
-  -- an end's own bytes are ready for its rules
-  pub own-ready : (p : ℕ) (r e : List ℕ) → Checked table r (length lows) (length highs) (length costs) → e ≡ own (ofSlices 0 0 links [] lows highs []) p r
-      → Ready table p e (length lows) (length highs) (length costs)
-  own-ready p r e g is =
-      let same = is ∙ own-same number probes links needs lows highs costs p r in
-      let long = length-own table p r in
-      record {
-        legal = g .legal;
-        in-lows = g .in-lows;
-        in-highs = g .in-highs;
-        in-costs = g .in-costs;
-        room = rw same (omega arith);
-        bytes = rw same (own-passes table p r (g .bytes));
       }
 
 -- a line past the checks before 27

@@ -1,6 +1,5 @@
 // The steps of a fleet. Its public functions and the script program call these, within the bounds that they ask.
 ghost use mathlib.Core.Path.{_≡_};
-ghost use Prim.Native.Nat.{_*_};
 ghost use lib.ListN.{length};
 ghost use Rattle.table.specs.Table.{ofSlices};
 ghost use Rattle.rules.specs.Rules.{befalls, entryOf};
@@ -27,11 +26,9 @@ fn apply(
         × (now (rec .exit) ≡ alterFleet (ofSlices 0 probes links (now (needs .entry)) (now (lows .entry)) (now (highs .entry)) (now (costs .entry))) probe
         (befalls (ofSlices 0 probes links (now (needs .entry)) (now (lows .entry)) (now (highs .entry)) (now (costs .entry))) probe event (own (ofSlices 0 probes links (now (needs .entry)) (now (lows .entry)) (now (highs .entry)) (now (costs .entry))) probe (now (rec .entry)))) (now (rec .entry))) ⌝ }
 {
-    let mut bytes = [0u8; 4096];
-    fleet_record::core::own_bytes(&mut bytes, rec, links, lows, highs, probe as usize);
-    let outcome = decisions::core::decide(
+    let outcome = fleet_decisions::core::decide(
         event,
-        &bytes[..2 * links],
+        rec,
         probes,
         links,
         needs,

@@ -2,11 +2,11 @@
 ghost use mathlib.Core.Path.{_≡_};
 ghost use mathlib.Core.Bool.{cond};
 ghost use mathlib.Core.List.{[]};
-ghost use Prim.Native.Nat.{ℕ, _+_, _*_, _/_, _<_, _≤_};
-ghost use lib.ListN.{length, take, set, getD};
+ghost use Prim.Native.Nat.{_+_, _*_, _/_, _<_};
+ghost use lib.ListN.{length};
 ghost use Rattle.table.specs.Table.{item, ofSlices, touches};
 ghost use Rattle.rules.specs.Within.{Within};
-ghost use Rattle.fleet_theory.specs.Fleet.{outAt, inAt, own, alterFleet};
+ghost use Rattle.fleet_theory.specs.Fleet.{outAt, inAt, alterFleet};
 
 // Where the probe's outbound byte on a link stands.
 fn out_at(lows: &[u16], probe: usize, i: usize) -> usize
@@ -52,42 +52,6 @@ pub fn in_byte(rec: &[u8], lows: &[u16], highs: &[u16], probe: usize, i: usize) 
     }
     let at = in_at(lows, probe, i);
     rec[at]
-}
-
-// Stores the two bytes of a link that is the probe's own, where zeros stand.
-fn put_own(bytes: &mut [u8], rec: &[u8], lows: &[u16], highs: &[u16], probe: usize, i: usize)
-    requires { ⌜ (i < length (now lows)) × (i < length (now highs)) × (i < 65536) × (4 * i + 3 < length (now rec)) × (2 * i + 1 < length (now bytes))
-        × (getD (now bytes) (2 * i) 0 ≡ 0) × (getD (now bytes) (2 * i + 1) 0 ≡ 0) ⌝ }
-    ensures { λ _. ⌜ now (bytes .exit) ≡ set (set (now (bytes .entry)) (2 * i) (cond (touches (ofSlices 0 0 0 [] (now (lows .entry)) (now (highs .entry)) []) probe i) (item (now (rec .entry)) (outAt (ofSlices 0 0 0 [] (now (lows .entry)) [] []) probe i)) 0))
-        (2 * i + 1) (cond (touches (ofSlices 0 0 0 [] (now (lows .entry)) (now (highs .entry)) []) probe i) (item (now (rec .entry)) (inAt (ofSlices 0 0 0 [] (now (lows .entry)) [] []) probe i)) 0) ⌝ }
-{
-    if !record::core::touches(lows, highs, probe, i) {
-        return;
-    }
-    let from = out_at(lows, probe, i);
-    let into = in_at(lows, probe, i);
-    bytes[2 * i] = rec[from];
-    bytes[2 * i + 1] = rec[into];
-}
-
-// Fills the start of zeros with the probe's own bytes.
-pub fn own_bytes(
-    bytes: &mut [u8],
-    rec: &[u8],
-    links: usize,
-    lows: &[u16],
-    highs: &[u16],
-    probe: usize,
-)
-    requires { ⌜ (2 * links ≤ length (now bytes)) × (4 * links ≤ length (now rec)) × (links ≤ length (now lows)) × (links ≤ length (now highs)) × (links ≤ 65536)
-        × ((j : ℕ) → getD (now bytes) j 0 ≡ 0) ⌝ }
-    ensures { λ _. ⌜ take (2 * links) (now (bytes .exit)) ≡ own (ofSlices 0 0 links [] (now (lows .entry)) (now (highs .entry)) []) probe (now (rec .entry)) ⌝ }
-{
-    let mut i = 0;
-    while i < links {
-        put_own(bytes, rec, lows, highs, probe, i);
-        i += 1;
-    }
 }
 
 // Alters the fleet's record by what befell the probe.

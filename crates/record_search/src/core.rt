@@ -9,7 +9,7 @@ ghost use Rattle.table.specs.Legal.{Legal};
 ghost use Rattle.record.specs.Record.{dearestUntried, cheapestHeld};
 
 // Whether the link k goes before the best so far, among links in rising order; `best` is `links` where there is none yet.
-fn dearer_later(costs: &[u16], links: usize, k: usize, best: usize) -> bool
+pub fn dearer_later(costs: &[u16], links: usize, k: usize, best: usize) -> bool
     requires { ⌜ (links ≤ length (now costs)) × (k < links) ⌝ }
     ensures { λ r. ⌜ r ≡ (leb links best || leb (item (now (costs .entry)) best) (item (now (costs .entry)) k)) ⌝ }
 {
@@ -19,7 +19,7 @@ fn dearer_later(costs: &[u16], links: usize, k: usize, best: usize) -> bool
     costs[best] <= costs[k]
 }
 
-fn cheaper_later(costs: &[u16], links: usize, k: usize, best: usize) -> bool
+pub fn cheaper_later(costs: &[u16], links: usize, k: usize, best: usize) -> bool
     requires { ⌜ (links ≤ length (now costs)) × (k < links) ⌝ }
     ensures { λ r. ⌜ r ≡ (leb links best || ltb (item (now (costs .entry)) k) (item (now (costs .entry)) best)) ⌝ }
 {
