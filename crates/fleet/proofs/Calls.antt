@@ -16,7 +16,11 @@ use Rattle.entry.specs.declared.Entry.{Entry}
 use Rattle.entry.specs.declared.Answer.{Answer}
 use Rattle.entry.specs.declared.Answer.the-variants.{Logged, Refused}
 use Rattle.entry.specs.Entry.{answerOf}
+use mathlib.Core.Logic.{_⊎_, inl, inr}
+use Rattle.range.proofs.Bools.{decided}
 use Rattle.rules.specs.declared.Event.{Event}
+use Rattle.rules.specs.declared.Event.the-variants.{Opening, Offer, Refusal}
+use Rattle.rules.specs.Frames.{between}
 use Rattle.rules.specs.declared.Outcome.{Outcome}
 use Rattle.rules.specs.Rules.{befalls, entryOf}
 use Rattle.rules.proofs.Outcomes.{entry-same, befalls-same}
@@ -136,3 +140,15 @@ handled-next x room s l r after h = (h .answer, h .record-after ∙ go (eqb (fau
     go : (b : Bool) → cond b (alteredBy (tableOf x) (s .bytes) (frameOf l)) (s .bytes) ≡ (cond b (accepted x s l) s) .bytes
     go true = refl
     go false = refl
+
+-- what a line says, by the link that was found
+pub event-of : (number probes links : ℕ) (needs lows highs costs l : List ℕ) (link : ℕ) (v : Event)
+    → v ≡ cond (eqb (frameOf l .kind) 0) Opening (cond (eqb (frameOf l .kind) 1) (Offer link) (Refusal link))
+    → (eqb (frameOf l .kind) 0 ≡ false → link ≡ between (ofSlices 0 probes links [] lows highs []) (frameOf l .from) (frameOf l .to))
+    → v ≡ eventOf (ofSlices number probes links needs lows highs costs) (frameOf l)
+event-of number probes links needs lows highs costs l link v e f = e ∙ go (decided (eqb (frameOf l .kind) 0))
+  where
+    go : (eqb (frameOf l .kind) 0 ≡ true) ⊎ (eqb (frameOf l .kind) 0 ≡ false)
+        → cond (eqb (frameOf l .kind) 0) Opening (cond (eqb (frameOf l .kind) 1) (Offer link) (Refusal link)) ≡ eventOf (ofSlices number probes links needs lows highs costs) (frameOf l)
+    go (inl k) = rw k
+    go (inr k) = rw (k, f k)

@@ -60,11 +60,11 @@ pub fn handle_line(
     ensures { λ r. ⌜ Handled (slicesOf number probes links (now (needs .entry)) (now (lows .entry)) (now (highs .entry)) (now (costs .entry)))
         used room (now (line .entry)) r (now (rec .entry)) (now (rec .exit)) ⌝ }
 {
-    let fault = fleet_lines::core::line_fault(number, probes, links, lows, highs, line);
-    if fault != 0 {
-        return entry::Answer::Refused(fault);
+    let ends = fleet_lines::core::check_line(number, probes, links, lows, highs, line);
+    if ends.fault != 0 {
+        return entry::Answer::Refused(ends.fault);
     }
-    let event = fleet_lines::core::line_event(links, lows, highs, line);
+    let event = fleet_lines::core::line_event(line, ends.link);
     let from = frame::core::field(line, 6, 4);
     let unsent = fleet_lines::core::unsent_fault(event, links, lows, highs, rec, from);
     if unsent != 0 {

@@ -1,15 +1,26 @@
 // A line to a fleet: its checks, and what it says.
+use super::Ends;
 ghost use mathlib.Core.Path.{_≡_};
+ghost use mathlib.Core.Bool.{false, cond};
 ghost use mathlib.Core.List.{[]};
 ghost use Prim.Native.Nat.{_*_, _<_, _≤_};
+ghost use lib.Dec.{eqb};
 ghost use lib.ListN.{length};
 ghost use Rattle.table.specs.Table.{ofSlices};
 ghost use Rattle.frame.specs.Frame.{frameOf, frameFault};
+ghost use Rattle.rules.specs.declared.Event.the-variants.{Opening, Offer, Refusal};
+ghost use Rattle.rules.specs.Frames.{between};
 ghost use Rattle.rules.specs.Within.{EventWithin};
-ghost use Rattle.fleet_theory.specs.Fleet.{own, endsFault, lineFault, eventOf, unsentFault};
+ghost use Rattle.fleet_theory.specs.Fleet.{own, endsFault, lineFault, unsentFault};
+
+fn refused(fault: u8) -> Ends
+    ensures { λ r. ⌜ r ≡ record { fault = fault; link = 0 } ⌝ }
+{
+    Ends { fault, link: 0 }
+}
 
 // 24, of a line's kind and ends.
-fn ends_fault(
+fn find_ends(
     probes: usize,
     links: usize,
     lows: &[u16],
@@ -17,69 +28,69 @@ fn ends_fault(
     kind: usize,
     from: usize,
     to: usize,
-) -> u8
+) -> Ends
     requires { ⌜ (links ≤ length (now lows)) × (links ≤ length (now highs)) ⌝ }
-    ensures { λ r. ⌜ r ≡ endsFault (ofSlices 0 probes links [] (now (lows .entry)) (now (highs .entry)) []) (record { kind = kind; number = 0; from = from; to = to }) ⌝ }
+    ensures { λ r. ⌜ (r .fault ≡ endsFault (ofSlices 0 probes links [] (now (lows .entry)) (now (highs .entry)) []) (record { kind = kind; number = 0; from = from; to = to }))
+        × (r .fault ≡ 0 → eqb kind 0 ≡ false → r .link ≡ between (ofSlices 0 probes links [] (now (lows .entry)) (now (highs .entry)) []) from to) ⌝ }
 {
     if kind == 0 {
         if from != to {
-            return 24;
+            return refused(24);
         }
         if probes <= to {
-            return 24;
+            return refused(24);
         }
-        return 0;
+        return refused(0);
     }
-    if links <= link_between::core::between(links, lows, highs, from, to) {
-        return 24;
+    let link = link_between::core::between(links, lows, highs, from, to);
+    if links <= link {
+        return refused(24);
     }
-    0
+    Ends { fault: 0, link }
 }
 
 // 1, 2, 9, 23, 24 of a line.
-pub fn line_fault(
+pub fn check_line(
     number: u16,
     probes: usize,
     links: usize,
     lows: &[u16],
     highs: &[u16],
     line: &[u8],
-) -> u8
+) -> Ends
     requires { ⌜ (links ≤ length (now lows)) × (links ≤ length (now highs)) ⌝ }
-    ensures { λ r. ⌜ r ≡ lineFault (ofSlices number probes links [] (now (lows .entry)) (now (highs .entry)) []) (now (line .entry)) ⌝ }
+    ensures { λ r. ⌜ (r .fault ≡ lineFault (ofSlices number probes links [] (now (lows .entry)) (now (highs .entry)) []) (now (line .entry)))
+        × (r .fault ≡ 0 → eqb (frameOf (now (line .entry)) .kind) 0 ≡ false → r .link ≡ between (ofSlices 0 probes links [] (now (lows .entry)) (now (highs .entry)) []) (frameOf (now (line .entry)) .from) (frameOf (now (line .entry)) .to)) ⌝ }
 {
     let fault = frame::core::frame_fault(line);
     if fault != 0 {
-        return fault;
+        return refused(fault);
     }
     let kind = frame::core::field(line, 0, 2);
     if 2 < kind {
-        return 9;
+        return refused(9);
     }
     if frame::core::field(line, 2, 4) != table::core::wide(number) {
-        return 23;
+        return refused(23);
     }
     let from = frame::core::field(line, 6, 4);
     let to = frame::core::field(line, 10, 4);
-    ends_fault(probes, links, lows, highs, kind, from, to)
+    find_ends(probes, links, lows, highs, kind, from, to)
 }
 
-// What a line that was not turned down says.
-pub fn line_event(links: usize, lows: &[u16], highs: &[u16], line: &[u8]) -> rules::Event
-    requires { ⌜ (links ≤ length (now lows)) × (links ≤ length (now highs)) × (frameFault (now line) ≡ 0) ⌝ }
-    ensures { λ r. ⌜ r ≡ eventOf (ofSlices 0 0 links [] (now (lows .entry)) (now (highs .entry)) []) (frameOf (now (line .entry))) ⌝ }
+// What a line that was not turned down says, by the link between a frame's ends.
+pub fn line_event(line: &[u8], link: usize) -> rules::Event
+    requires { ⌜ frameFault (now line) ≡ 0 ⌝ }
+    ensures { λ r. ⌜ r ≡ cond (eqb (frameOf (now (line .entry)) .kind) 0) Opening (cond (eqb (frameOf (now (line .entry)) .kind) 1) (Offer link) (Refusal link)) ⌝ }
 {
     let kind = frame::core::field(line, 0, 2);
     if kind == 0 {
         return rules::Event::Opening;
     }
-    let from = frame::core::field(line, 6, 4);
-    let to = frame::core::field(line, 10, 4);
-    let i = link_between::core::between(links, lows, highs, from, to);
     if kind == 1 {
-        return rules::Event::Offer(i);
+        return rules::Event::Offer(link);
     }
-    rules::Event::Refusal(i)
+    rules::Event::Refusal(link)
 }
 
 // 27.
