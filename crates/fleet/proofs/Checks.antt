@@ -16,7 +16,7 @@ use Rattle.rules.specs.Frames.{numberFault}
 use Rattle.rules.specs.Within.{EventWithin}
 use Rattle.fleet_theory.specs.Fleet.{fleetFault, kindFault, endsFault, lineFault, eventOf}
 use Rattle.fleet_theory.proofs.Events.{Says, an-opening, an-offer, a-refusal, says}
-use Rattle.fleet.specs.Within.{Checked}
+use Rattle.fleet_decisions.specs.Survey.{Ready}
 use Rattle.fleet_checks.proofs.Checks.{fleet-good}
 
 module _ (number probes links : ℕ) (needs lows highs costs : List ℕ) where
@@ -24,7 +24,7 @@ module _ (number probes links : ℕ) (needs lows highs costs : List ℕ) where
   table = ofSlices number probes links needs lows highs costs
 
   pub checked : (r : List ℕ) → Given 256 2048 number probes links needs lows highs costs → fleetFault table r ≡ 0
-      → Checked (ofSlices 0 probes links needs lows highs costs) r (length lows) (length highs) (length costs)
+      → Ready (ofSlices 0 probes links needs lows highs costs) r (length lows) (length highs) (length costs)
   checked r g e =
       let f = fleet-good table r e in
       record {
@@ -33,7 +33,6 @@ module _ (number probes links : ℕ) (needs lows highs costs : List ℕ) where
         in-highs = g .in-highs;
         in-costs = g .in-costs;
         long = f .0;
-        bytes = f .1;
       }
 
 -- a line past the checks before 27

@@ -5,7 +5,7 @@ ghost use Rattle.table.specs.Table.{ofSlices};
 ghost use Rattle.rules.specs.Rules.{befalls, entryOf};
 ghost use Rattle.rules.specs.Within.{EventWithin};
 ghost use Rattle.fleet_theory.specs.Fleet.{own, fleetFault, slicesFault, tableOf, alterFleet};
-ghost use Rattle.fleet.specs.Within.{Checked};
+ghost use Rattle.fleet_decisions.specs.Survey.{Ready};
 ghost use Rattle.fleet.specs.Answers.{slicesOf, Handled, changesOf};
 
 // Lets the event befall the probe: the fleet's record altered, and the entry.
@@ -20,7 +20,7 @@ fn apply(
     probe: u16,
     rec: &mut [u8],
 ) -> entry::Entry
-    requires { ⌜ Checked (ofSlices 0 probes links (now needs) (now lows) (now highs) (now costs)) (now rec) (length (now lows)) (length (now highs)) (length (now costs)) × EventWithin links event ⌝ }
+    requires { ⌜ Ready (ofSlices 0 probes links (now needs) (now lows) (now highs) (now costs)) (now rec) (length (now lows)) (length (now highs)) (length (now costs)) × EventWithin links event ⌝ }
     ensures { λ r. ⌜ (r ≡ entryOf (ofSlices 0 probes links (now (needs .entry)) (now (lows .entry)) (now (highs .entry)) (now (costs .entry))) probe
         (befalls (ofSlices 0 probes links (now (needs .entry)) (now (lows .entry)) (now (highs .entry)) (now (costs .entry))) probe event (own (ofSlices 0 probes links (now (needs .entry)) (now (lows .entry)) (now (highs .entry)) (now (costs .entry))) probe (now (rec .entry)))))
         × (now (rec .exit) ≡ alterFleet (ofSlices 0 probes links (now (needs .entry)) (now (lows .entry)) (now (highs .entry)) (now (costs .entry))) probe
