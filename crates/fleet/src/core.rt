@@ -6,7 +6,7 @@ ghost use Rattle.rules.specs.Rules.{befalls, entryOf};
 ghost use Rattle.rules.specs.Within.{EventWithin};
 ghost use Rattle.fleet_theory.specs.Fleet.{own, fleetFault, slicesFault, tableOf, alterFleet};
 ghost use Rattle.fleet_decisions.specs.Survey.{Ready};
-ghost use Rattle.fleet.specs.Answers.{slicesOf, Handled, changesOf};
+ghost use Rattle.fleet.specs.Answers.{slicesOf, Handled};
 
 // Lets the event befall the probe: the fleet's record altered, and the entry.
 fn apply(
@@ -86,22 +86,4 @@ pub fn handle_line(
         rec,
     );
     entry::Answer::Logged(e)
-}
-
-// How many record bytes the event altered.
-pub fn changes_of(what: entry::What) -> u8
-    ensures { λ r. ⌜ r ≡ changesOf what ⌝ }
-{
-    match what {
-        entry::What::Opened(_) => 1,
-        entry::What::NothingToOpen => 0,
-        entry::What::Taken(_) => 1,
-        entry::What::TakenDisplacing {
-            link: _,
-            displaced: _,
-        } => 2,
-        entry::What::Refused(_) => 1,
-        entry::What::RefusalLearnt(_) => 1,
-        entry::What::NoChange(_) => 0,
-    }
 }

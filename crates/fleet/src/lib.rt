@@ -2,7 +2,7 @@
 ghost use mathlib.Core.Path.{_≡_};
 ghost use Rattle.range.specs.First.{orElse};
 ghost use Rattle.fleet_theory.specs.Fleet.{tableOf, slicesFault, fleetFault, finished};
-ghost use Rattle.fleet.specs.Answers.{slicesOf, Handled, finishingOf};
+ghost use Rattle.fleet.specs.Answers.{slicesOf, Handled, finishingOf, changesOf};
 
 pub mod core;
 
@@ -92,4 +92,22 @@ pub fn finished(
         highs,
         rec,
     ))
+}
+
+// How many record bytes an event altered, by its entry.
+pub fn changes_of(what: entry::What) -> u8
+    ensures { λ r. ⌜ r ≡ changesOf what ⌝ }
+{
+    match what {
+        entry::What::Opened(_) => 1,
+        entry::What::NothingToOpen => 0,
+        entry::What::Taken(_) => 1,
+        entry::What::TakenDisplacing {
+            link: _,
+            displaced: _,
+        } => 2,
+        entry::What::Refused(_) => 1,
+        entry::What::RefusalLearnt(_) => 1,
+        entry::What::NoChange(_) => 0,
+    }
 }

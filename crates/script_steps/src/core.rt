@@ -37,7 +37,7 @@ fn add_changes(changed: u32, answer: entry::Answer) -> u32
     match answer {
         entry::Answer::Logged(e) => {
             let what = e.what;
-            let n = fleet::core::changes_of(what);
+            let n = fleet::changes_of(what);
             ((changed as u64 + n as u64) % 4294967296) as u32
         }
         entry::Answer::Refused(_) => changed,
