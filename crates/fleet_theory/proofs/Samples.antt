@@ -4,6 +4,7 @@ use Rattle.range.specs.Sum.{sum}
 use Rattle.range.specs.First.{first}
 use Rattle.range.specs.Lists.{joined}
 use Rattle.range.specs.Choice.{lowest, best}
+use Rattle.cover_theory.proofs.Sites.{sites}
 use Rattle.hex.specs.Digits.{valueOf, digitOf, numberAt, digits}
 use Rattle.lines.specs.Line.{untilFeed, lineAt}
 use Rattle.lines.specs.Digits.{lineFault}
@@ -17,6 +18,7 @@ pub samples : Samples
 unfolding sum first joined lowest best valueOf digitOf numberAt digits untilFeed lineAt lineFault dearer linkFault frameLine frameFault own next run changes finished
 samples =
     record {
+      m1-to-m10 = sites;
       m2-table = refl;
       m11 = record { table-legal = refl; entries-logged = refl; says-finished = refl; changes-made = refl };
       refusals = record {

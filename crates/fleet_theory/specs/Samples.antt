@@ -1,10 +1,10 @@
--- The marked site M11, the script of M4 and lines that are turned down: document 01, "Sites to compare", "Programs" and "Turned down for the state".
+-- The marked sites M1 to M11, the script of M4 and lines that are turned down: document 01, "Sites to compare", "Programs" and "Turned down for the state".
 use Prim.Native.Nat.{ℕ}
 use mathlib.Core.Path.{_≡_}
 use mathlib.Core.Bool.{true}
 use mathlib.Core.List.{List, [], _∷_, _++_}
 use lib.ListN.{length, take}
-use Rattle.cover_theory.specs.Sites.{site, row}
+use Rattle.cover_theory.specs.Sites.{site, row, Sites}
 use Rattle.frame.specs.Frame.{frameLine}
 use Rattle.entry.specs.declared.Entry.{Entry}
 use Rattle.entry.specs.declared.What.{What}
@@ -90,6 +90,7 @@ pub record Refusals : Type 0 where
 
 -- `m2-table`, `m4-table`: the tables are those of M2 and M4
 pub record Samples : Type 0 where
+  pub m1-to-m10 : Sites
   pub m2-table : tableOf m2 ≡ row (5 ∷ 6 ∷ 5 ∷ [])
   pub m11 : Script m2 m11-lines m11-entries 11
   pub refusals : Refusals
