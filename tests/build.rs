@@ -1,4 +1,4 @@
-//! Links the planner's static library: from PLANNER_LIB_DIR, else from ../target/staticlib.
+//! Links the planner's static libraries: from PLANNER_LIB_DIR, else from ../target/staticlib.
 
 use std::env;
 use std::path::{Path, PathBuf};
@@ -12,9 +12,11 @@ fn main() {
         (None, Some(here)) => Path::new(&here).join("../target/staticlib"),
         (None, None) => panic!("cargo sets CARGO_MANIFEST_DIR"),
     };
-    let archive = folder.join("libexports.a");
     println!("cargo:rustc-link-search=native={}", folder.display());
-    println!("cargo:rustc-link-lib=static=exports");
+    for subject in ["table", "plan", "probe", "fleet", "script"] {
+        println!("cargo:rustc-link-lib=static={subject}_exports");
+        let archive = folder.join(format!("lib{subject}_exports.a"));
+        println!("cargo:rerun-if-changed={}", archive.display());
+    }
     println!("cargo:rerun-if-env-changed=PLANNER_LIB_DIR");
-    println!("cargo:rerun-if-changed={}", archive.display());
 }

@@ -1,0 +1,14 @@
+-- How the code comes to a packed answer.
+use Prim.Native.Nat.{ℕ}
+use mathlib.Core.Path.{_≡_, refl, _∙_, ap}
+use mathlib.Core.List.{List}
+use Rattle.entry.specs.declared.Answer.{Answer}
+use Rattle.fleet_theory.specs.Fleet.{Slices}
+use Rattle.fleet.specs.Answers.{Handled}
+use Rattle.packing.specs.Packed.{packedAnswer}
+use Rattle.fleet_exports.specs.Packed.{HandledPacked}
+
+pub handled-packed : (x : Slices) (used room : ℕ) (line : List ℕ) (a : Answer) (r : ℕ) (before after : List ℕ) → Handled x used room line a before after → r ≡ packedAnswer a
+    → HandledPacked x used room line r before after
+handled-packed x used room line a r before after g e =
+    record { answer = e ∙ ap packedAnswer (g .answer); lent = record { answer = refl; record-after = g .record-after } }

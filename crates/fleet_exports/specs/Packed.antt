@@ -1,0 +1,23 @@
+-- What the functions of a fleet for C and Rust promise: the answer as one number, and the lent record as the functions that are called leave it.
+-- A refusal is its number; any other answer is 2 ^ 48 or more.
+use Prim.Native.Nat.{ℕ, _+_, _^_}
+use mathlib.Core.Path.{_≡_}
+use mathlib.Core.Bool.{cond}
+use mathlib.Core.List.{List}
+use Rattle.entry.specs.Entry.{answerOf}
+use Rattle.rules.specs.Rules.{entryOf}
+use Rattle.frame.specs.Frame.{frameOf}
+use Rattle.fleet_theory.specs.Fleet.{Slices, tableOf, eventFault, outcomeOf}
+use Rattle.fleet.specs.Answers.{Handled}
+use Rattle.packing.specs.Packed.{packedAnswer}
+use Rattle.fleet.specs.declared.Finishing.{Finishing}
+use Rattle.fleet.specs.declared.Finishing.the-variants.{Says, Refused as Unsaid}
+
+-- 1 where the fleet is finished
+abbrev pub packedFinishing : Finishing → ℕ
+packedFinishing (Says finished) = 2 ^ 48 + cond finished 1 0
+packedFinishing (Unsaid refusal) = refusal
+
+pub record HandledPacked (x : Slices) (used room : ℕ) (line : List ℕ) (r : ℕ) (before after : List ℕ) : Type 0 where
+  pub answer : r ≡ packedAnswer (answerOf (eventFault x before used room line) (entryOf (tableOf x) (frameOf line .to) (outcomeOf (tableOf x) before (frameOf line))))
+  pub lent : Handled x used room line (answerOf (eventFault x before used room line) (entryOf (tableOf x) (frameOf line .to) (outcomeOf (tableOf x) before (frameOf line)))) before after

@@ -1,0 +1,76 @@
+// The library of a fleet for C and Rust: one line, finished.
+ghost use mathlib.Core.Path.{_≡_};
+ghost use Rattle.range.specs.First.{orElse};
+ghost use Rattle.fleet_theory.specs.Fleet.{tableOf, slicesFault, fleetFault, finished};
+ghost use Rattle.fleet.specs.Answers.{slicesOf, finishingOf};
+ghost use Rattle.fleet_exports.specs.Packed.{packedFinishing, HandledPacked};
+use fleet::Finishing;
+use packing::packed_answer;
+
+fn packed_finishing(r: Finishing) -> u64
+    ensures { λ n. ⌜ n ≡ packedFinishing r ⌝ }
+{
+    match r {
+        Finishing::Says(finished) => {
+            if finished {
+                281474976710657
+            } else {
+                281474976710656
+            }
+        }
+        Finishing::Refused(refusal) => refusal as u64,
+    }
+}
+
+// `fleet::event`, its answer packed.
+#[no_mangle]
+pub extern "C" fn planner_fleet_event(
+    number: u16,
+    probes: u16,
+    links: u16,
+    needs: &[u16],
+    lows: &[u16],
+    highs: &[u16],
+    costs: &[u16],
+    rec: &mut [u8],
+    line: &[u8],
+    used: usize,
+    room: usize,
+) -> u64
+    ensures { λ r. ⌜ HandledPacked (slicesOf number probes links (now (needs .entry)) (now (lows .entry)) (now (highs .entry)) (now (costs .entry)))
+        used room (now (line .entry)) r (now (rec .entry)) (now (rec .exit)) ⌝ }
+{
+    packed_answer(fleet::event(
+        number,
+        probes,
+        links,
+        needs,
+        lows,
+        highs,
+        costs,
+        rec,
+        line,
+        used,
+        room,
+    ))
+}
+
+// `fleet::finished`, its answer packed.
+#[no_mangle]
+pub extern "C" fn planner_fleet_finished(
+    number: u16,
+    probes: u16,
+    links: u16,
+    needs: &[u16],
+    lows: &[u16],
+    highs: &[u16],
+    costs: &[u16],
+    rec: &[u8],
+) -> u64
+    ensures { λ r. ⌜ r ≡ packedFinishing (finishingOf
+        (orElse (slicesFault (slicesOf number probes links (now (needs .entry)) (now (lows .entry)) (now (highs .entry)) (now (costs .entry))))
+        (fleetFault (tableOf (slicesOf number probes links (now (needs .entry)) (now (lows .entry)) (now (highs .entry)) (now (costs .entry)))) (now (rec .entry))))
+        (finished (tableOf (slicesOf number probes links (now (needs .entry)) (now (lows .entry)) (now (highs .entry)) (now (costs .entry)))) (now (rec .entry)))) ⌝ }
+{
+    packed_finishing(fleet::finished(number, probes, links, needs, lows, highs, costs, rec))
+}

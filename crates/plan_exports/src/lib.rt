@@ -1,0 +1,79 @@
+// The library of plans for C and Rust: both methods, and the plan program's output.
+ghost use mathlib.Core.Path.{_≡_};
+ghost use Prim.Native.Nat.{_+_, _*_};
+ghost use lib.ListN.{length};
+ghost use Rattle.table.specs.Table.{ofSlices};
+ghost use Rattle.cover.specs.Planning.{planFault, turnsFault};
+ghost use Rattle.plan_exports.specs.Packed.{PlansPacked, TurnsPacked, OutputsPacked, packedPlanning};
+use cover::Planning;
+use packing::packed_output;
+
+fn packed_planning(r: Planning) -> u64
+    ensures { λ n. ⌜ n ≡ packedPlanning r ⌝ }
+{
+    match r {
+        Planning::Plan { kept, cost } => 281474976710656
+            + (kept as u64) * 4294967296
+            + (cost as u64),
+        Planning::Refused(refusal) => refusal as u64,
+    }
+}
+
+// `cover::plan_by_slse`, its answer packed.
+#[no_mangle]
+pub extern "C" fn planner_plan_slse(
+    number: u16,
+    probes: u16,
+    links: u16,
+    needs: &[u16],
+    lows: &[u16],
+    highs: &[u16],
+    costs: &[u16],
+    plan: &mut [u8],
+) -> u64
+    ensures { λ r. ⌜ PlansPacked
+        (planFault 256 2048 number probes links (now (needs .entry)) (now (lows .entry)) (now (highs .entry)) (now (costs .entry)) (length (now (plan .entry))))
+        (ofSlices number probes links (now (needs .entry)) (now (lows .entry)) (now (highs .entry)) (now (costs .entry)))
+        r (now (plan .entry)) (now (plan .exit)) ⌝ }
+{
+    packed_planning(cover::plan_by_slse(number, probes, links, needs, lows, highs, costs, plan))
+}
+
+// `cover::plan_by_turns`, its answer packed.
+#[no_mangle]
+pub extern "C" fn planner_plan_turns(
+    number: u16,
+    probes: u16,
+    links: u16,
+    needs: &[u16],
+    lows: &[u16],
+    highs: &[u16],
+    costs: &[u16],
+    plan: &mut [u8],
+    work: &mut [u8],
+) -> u64
+    ensures { λ r. ⌜ TurnsPacked
+        (turnsFault 256 2048 number probes links (now (needs .entry)) (now (lows .entry)) (now (highs .entry)) (now (costs .entry)) (length (now (plan .entry))) (length (now (work .entry))))
+        (ofSlices number probes links (now (needs .entry)) (now (lows .entry)) (now (highs .entry)) (now (costs .entry)))
+        r (now (plan .entry)) (now (plan .exit)) (now (work .entry)) (now (work .exit)) ⌝ }
+{
+    packed_planning(cover::plan_by_turns(
+        number,
+        probes,
+        links,
+        needs,
+        lows,
+        highs,
+        costs,
+        plan,
+        work,
+    ))
+}
+
+// `plan_output::plan_text`, its answer packed.
+#[no_mangle]
+pub extern "C" fn planner_plan_text(text: &[u8], out: &mut [u8]) -> u64
+    ensures { λ r. ⌜ OutputsPacked (now (text .entry)) r (now (out .entry)) (now (out .exit)) ⌝ }
+{
+    packed_output(plan_output::plan_text(text, out))
+}

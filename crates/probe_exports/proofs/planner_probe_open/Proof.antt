@@ -1,0 +1,25 @@
+-- `probe_exports::planner_probe_open` meets its contract.
+use borrow.Author.Needs.{needs}
+use Rattle.probe_exports.proofs.planner_probe_open.Statement.{statement}
+use Rattle.probe_exports.proofs.planner_probe_open.Tie as tie
+use Rattle.table.specs.Table.{ofSlices}
+use Rattle.rules.specs.declared.Event.the-variants.{Opening}
+use Rattle.probe_exports.proofs.Answers.{befallen-packed}
+
+open-requires : tie.Need-open-requires
+open-requires c κs = search needs
+
+packed-answer-requires : tie.Need-packed-answer-requires
+packed-answer-requires c κs = search needs
+
+same-length : tie.Need-same-length
+same-length c = search needs
+
+returns : tie.Need-returns
+returns c =
+    let a = c .before .before .before .before .before .before .before .before .before .before .args in
+    befallen-packed _ (ofSlices (a .number) (a .probes) (a .links) (a .needs .now) (a .lows .now) (a .highs .now) (a .costs .now)) (a .probe) Opening _ _ (a .rec .now) _ (c .before .before .before .«open» .ensures) (c .packed-answer .ensures)
+
+pub planner-probe-open-spec : {M : Type 1} → statement M
+planner-probe-open-spec =
+    tie.close (tie.spec open-requires packed-answer-requires same-length returns)

@@ -1,0 +1,41 @@
+-- What the functions of one end for C and Rust promise: the answer as one number, and the lent slices as the functions that are called leave them.
+-- A refusal is its number; any other answer is 2 ^ 48 or more.
+use Prim.Native.Nat.{ℕ, _+_, _^_}
+use mathlib.Core.Path.{_≡_}
+use mathlib.Core.Bool.{Bool, cond}
+use mathlib.Core.List.{List}
+use lib.Dec.{eqb}
+use Rattle.table.specs.Table.{Table as Site}
+use Rattle.entry.specs.Entry.{answerOf}
+use Rattle.rules.specs.declared.Event.{Event}
+use Rattle.rules.specs.Rules.{befalls, entryOf, sendable}
+use Rattle.probe.specs.Answers.{Befallen, Asks, askedEvent}
+use Rattle.probe.specs.declared.Kind.{Kind}
+use Rattle.probe.specs.declared.Asked.{Asked}
+use Rattle.probe.specs.declared.Asked.the-variants.{Written, NotNow, Refused as Unasked}
+use Rattle.packing.specs.Packed.{packedAnswer}
+use Rattle.probe.specs.declared.Resting.{Resting}
+use Rattle.probe.specs.declared.Resting.the-variants.{Rests, Refused as Untold}
+
+-- 1 where the line is written, 0 where it may not be sent now
+abbrev pub packedAsked : Asked → ℕ
+packedAsked Written = 2 ^ 48 + 1
+packedAsked NotNow = 2 ^ 48
+packedAsked (Unasked refusal) = refusal
+
+-- 1 where the link rests
+abbrev pub packedResting : Resting → ℕ
+packedResting (Rests rests) = 2 ^ 48 + cond rests 1 0
+packedResting (Untold refusal) = refusal
+
+-- the answer to asking by the fault found and whether the frame may be sent
+abbrev pub askedOf : ℕ → Bool → Asked
+askedOf fault sendable = cond (eqb fault 0) (cond sendable Written NotNow) (Unasked fault)
+
+pub record BefallenPacked (fault : ℕ) (t : Site) (p : ℕ) (event : Event) (r : ℕ) (before after : List ℕ) : Type 0 where
+  pub answer : r ≡ packedAnswer (answerOf fault (entryOf t p (befalls t p event before)))
+  pub lent : Befallen fault t p event (answerOf fault (entryOf t p (befalls t p event before))) before after
+
+pub record AsksPacked (fault : ℕ) (t : Site) (p : ℕ) (k : Kind) (i : ℕ) (e : List ℕ) (r : ℕ) (before after : List ℕ) : Type 0 where
+  pub answer : r ≡ packedAsked (askedOf fault (sendable (askedEvent k i) e))
+  pub lent : Asks fault t p k i e (askedOf fault (sendable (askedEvent k i) e)) before after

@@ -1,0 +1,27 @@
+-- `script_exports::planner_script_text` meets its contract.
+use borrow.Author.Needs.{needs}
+use Rattle.script_exports.proofs.planner_script_text.Statement.{statement}
+use Rattle.script_exports.proofs.planner_script_text.Tie as tie
+use native.Mathlib.Omega.{arith}
+use Rattle.script_output.proofs.Answers.{printed-within}
+use Rattle.script_exports.proofs.Answers.{prints-packed}
+
+script-text-requires : tie.Need-script-text-requires
+script-text-requires c κs = search needs
+
+packed-output-requires : tie.Need-packed-output-requires
+packed-output-requires c κs =
+    λ n is.
+    let k = c .before .before .script-text in
+    let l = printed-within _ n _ _ _ _ (k .ensures) is (k .kept .1 .0) in
+    omega (arith, c .before .before .before .before .before .before .good .1 .0)
+
+same-length : tie.Need-same-length
+same-length c = search needs
+
+returns : tie.Need-returns
+returns c = prints-packed _ _ _ _ _ _ (c .before .before .before .script-text .ensures) (c .packed-output .ensures)
+
+pub planner-script-text-spec : {M : Type 1} → statement M
+planner-script-text-spec =
+    tie.close (tie.spec script-text-requires packed-output-requires same-length returns)

@@ -1,0 +1,36 @@
+-- What the functions of a script for C and Rust promise: the answer as one number, and the lent slices as the functions that are called leave them.
+-- A refusal is its number; any other answer is 2 ^ 48 or more.
+use Prim.Native.Nat.{ℕ}
+use mathlib.Core.Path.{_≡_}
+use mathlib.Core.Bool.{cond}
+use mathlib.Core.List.{List, _∷_, _++_}
+use lib.Dec.{eqb}
+use lib.ListN.{length, drop}
+use Rattle.table.specs.Table.{item}
+use Rattle.output.specs.declared.Output.{Output}
+use Rattle.output.specs.declared.Output.the-variants.{Length, Refused}
+use Rattle.script_theory.specs.Script.{Script}
+use Rattle.script_steps.specs.declared.Progress.{Progress}
+use Rattle.script_output.specs.Handling.{PrintsUnless}
+use Rattle.packing.specs.Packed.{packedOutput}
+use Rattle.table_write.specs.declared.Writing.the-variants.{Length}
+
+-- what is printed, or the refusal
+abbrev pub printedOf : ℕ → List ℕ → Output
+printedOf fault printed = cond (eqb fault 0) (Length (length printed)) (Refused fault)
+
+pub record PrintsPacked (fault : ℕ) (printed : List ℕ) (r : ℕ) (before after : List ℕ) : Type 0 where
+  pub answer : r ≡ packedOutput (printedOf fault printed)
+  pub lent : PrintsUnless fault printed (printedOf fault printed) before after
+
+-- the three numbers of a script's progress: entries used, bytes held, changes
+abbrev pub progressOf : List ℕ → Progress
+progressOf n = record { used = item n 0; held = item n 1; changed = item n 2 }
+
+-- a piece handled: 8 for fewer than three numbers comes first; the numbers beyond them stay
+pub record PiecePacked (fault : ℕ) (q : Script) (r : ℕ) (rec rec′ line line′ numbers numbers′ out out′ : List ℕ) : Type 0 where
+  pub answer : r ≡ packedOutput (printedOf fault (q .out))
+  pub numbers-after : numbers′ ≡ cond (eqb fault 0) (q .used ∷ length (q .held) ∷ q .changed ∷ drop 3 numbers) numbers
+  pub record-after : rec′ ≡ cond (eqb fault 0) (q .bytes) rec
+  pub line-after : line′ ≡ cond (eqb fault 0) (q .held ++ drop (length (q .held)) line) line
+  pub out-after : out′ ≡ cond (eqb fault 0) (q .out ++ drop (length (q .out)) out) out

@@ -1,0 +1,122 @@
+// The library of scripts for C and Rust: whole, in pieces, and the end.
+ghost use mathlib.Core.Bool.{cond};
+ghost use Prim.Native.Nat.{_+_, _*_, _<_};
+ghost use lib.Dec.{ltb};
+ghost use lib.ListN.{length, take};
+ghost use Rattle.range.specs.First.{orElse};
+ghost use Rattle.table.specs.Table.{item};
+ghost use Rattle.fleet.specs.Answers.{slicesOf};
+ghost use Rattle.script_theory.specs.Script.{afterPiece, endText, scriptOutput};
+ghost use Rattle.script_output.specs.Handling.{callFault, pieceFault, before};
+ghost use Rattle.script_exports.specs.Packed.{PrintsPacked, PiecePacked, progressOf};
+use packing::packed_output;
+use script_output::Handling;
+use script_steps::Progress;
+
+// `script_output::script_text`, its answer packed.
+#[no_mangle]
+pub extern "C" fn planner_script_text(text: &[u8], out: &mut [u8]) -> u64
+    ensures { λ r. ⌜ PrintsPacked (cond (ltb (length (now (out .entry))) (5 * length (now (text .entry)) + 5)) 8 0) (scriptOutput (now (text .entry)))
+        r (now (out .entry)) (now (out .exit)) ⌝ }
+{
+    packed_output(script_output::script_text(text, out))
+}
+
+// `script_output::script_piece`, its answer packed; `numbers` has the script's progress: entries used, bytes held, changes.
+#[no_mangle]
+pub extern "C" fn planner_script_piece(
+    number: u16,
+    probes: u16,
+    links: u16,
+    needs: &[u16],
+    lows: &[u16],
+    highs: &[u16],
+    costs: &[u16],
+    rec: &mut [u8],
+    line: &mut [u8],
+    numbers: &mut [u32],
+    piece: &[u8],
+    out: &mut [u8],
+) -> u64
+    ensures { λ r. ⌜ PiecePacked
+        (orElse (cond (ltb (length (now (numbers .entry))) 3) 8 0)
+        (callFault (pieceFault (length (now (line .entry))) (length (now (out .entry))) (length (take (item (now (numbers .entry)) 1) (take 16 (now (line .entry))))) (length (now (piece .entry))))
+        (slicesOf number probes links (now (needs .entry)) (now (lows .entry)) (now (highs .entry)) (now (costs .entry))) (now (rec .entry))))
+        (afterPiece (slicesOf number probes links (now (needs .entry)) (now (lows .entry)) (now (highs .entry)) (now (costs .entry))) 1024
+        (before (progressOf (now (numbers .entry))) (now (rec .entry)) (now (line .entry))) (now (piece .entry)))
+        r (now (rec .entry)) (now (rec .exit)) (now (line .entry)) (now (line .exit)) (now (numbers .entry)) (now (numbers .exit)) (now (out .entry)) (now (out .exit)) ⌝ }
+{
+    if numbers.len() < 3 {
+        return 8;
+    }
+    let progress = Progress {
+        used: numbers[0],
+        held: numbers[1],
+        changed: numbers[2],
+    };
+    let handled = script_output::script_piece(
+        number,
+        probes,
+        links,
+        needs,
+        lows,
+        highs,
+        costs,
+        rec,
+        line,
+        progress,
+        piece,
+        out,
+    );
+    match handled {
+        Handling::Printed {
+            length,
+            progress: next,
+        } => {
+            numbers[0] = next.used;
+            numbers[1] = next.held;
+            numbers[2] = next.changed;
+            length as u64 + 281474976710656
+        }
+        Handling::Refused(refusal) => refusal as u64,
+    }
+}
+
+// `script_output::script_end`, its answer packed.
+#[no_mangle]
+pub extern "C" fn planner_script_end(
+    number: u16,
+    probes: u16,
+    links: u16,
+    needs: &[u16],
+    lows: &[u16],
+    highs: &[u16],
+    costs: &[u16],
+    rec: &[u8],
+    held: u32,
+    changed: u32,
+    out: &mut [u8],
+) -> u64
+    ensures { λ r. ⌜ PrintsPacked
+        (callFault (cond (ltb (length (now (out .entry))) 16) 8 0) (slicesOf number probes links (now (needs .entry)) (now (lows .entry)) (now (highs .entry)) (now (costs .entry))) (now (rec .entry)))
+        (endText (slicesOf number probes links (now (needs .entry)) (now (lows .entry)) (now (highs .entry)) (now (costs .entry))) (now (rec .entry)) held changed)
+        r (now (out .entry)) (now (out .exit)) ⌝ }
+{
+    let progress = Progress {
+        used: 0,
+        held,
+        changed,
+    };
+    packed_output(script_output::script_end(
+        number,
+        probes,
+        links,
+        needs,
+        lows,
+        highs,
+        costs,
+        rec,
+        progress,
+        out,
+    ))
+}

@@ -1,0 +1,124 @@
+// The library of tables for C and Rust: check, read, write.
+ghost use mathlib.Core.Path.{_≡_};
+ghost use mathlib.Core.Bool.{true, false};
+ghost use Prim.Native.Nat.{_+_, _*_, ℕ, _^_, _<_};
+ghost use lib.ListN.{length};
+ghost use Rattle.table.specs.Table.{ofSlices};
+ghost use Rattle.table.specs.Legal.{sliceFault};
+ghost use Rattle.table.specs.Checking.{checkingOf, refusalOf};
+ghost use Rattle.table.specs.Text.{ofText, readFault};
+ghost use Rattle.table_write.specs.Writing.{writeFault};
+ghost use Rattle.table_exports.specs.Packed.{ReadsPacked, WritesPacked, packedReading, packedWriting};
+ghost use Rattle.table_write.specs.declared.Writing.the-variants.{Length};
+use table::Checking;
+use table_read::Reading;
+use table_write::Writing;
+
+// `table::Checking` as its refusal, 0 where the table is fine.
+fn refusal_of(r: Checking) -> u8
+    ensures { λ n. ⌜ n ≡ refusalOf r ⌝ }
+{
+    match r {
+        Checking::Fine => 0,
+        Checking::Refused(refusal) => refusal,
+    }
+}
+
+fn packed_reading(r: Reading) -> u64
+    ensures { λ n. ⌜ n ≡ packedReading r ⌝ }
+{
+    match r {
+        Reading::Table {
+            number,
+            probes,
+            links,
+            rest: _,
+        } => 281474976710656
+            + (number as u64) * 4294967296
+            + (probes as u64) * 65536
+            + (links as u64),
+        Reading::Refused(refusal) => refusal as u64,
+    }
+}
+
+fn packed_writing(r: Writing) -> u64
+    requires { ⌜ ((length : ℕ) → r ≡ Length length → length < 2 ^ 48) ⌝ }
+    ensures { λ n. ⌜ n ≡ packedWriting r ⌝ }
+{
+    match r {
+        Writing::Length(length) => length as u64 + 281474976710656,
+        Writing::Refused(refusal) => refusal as u64,
+    }
+}
+
+// `table::check_table`: 0 where the table is fine.
+#[no_mangle]
+pub extern "C" fn planner_check_table(
+    number: u16,
+    probes: u16,
+    links: u16,
+    needs: &[u16],
+    lows: &[u16],
+    highs: &[u16],
+    costs: &[u16],
+) -> u8
+    ensures { λ r. ⌜ r ≡ refusalOf (checkingOf (sliceFault 256 2048 number probes links (now (needs .entry)) (now (lows .entry)) (now (highs .entry)) (now (costs .entry)))) ⌝ }
+{
+    refusal_of(table::check_table(number, probes, links, needs, lows, highs, costs))
+}
+
+// `table_read::read_table`, its answer packed.
+#[no_mangle]
+pub extern "C" fn planner_read_table(
+    text: &[u8],
+    needs: &mut [u16],
+    lows: &mut [u16],
+    highs: &mut [u16],
+    costs: &mut [u16],
+) -> u64
+    ensures { λ r. ⌜ ReadsPacked
+        (readFault 256 2048 false (now (text .entry)) (length (now (needs .entry))) (length (now (lows .entry))) (length (now (highs .entry))) (length (now (costs .entry))))
+        (ofText (now (text .entry))) r
+        (now (needs .entry)) (now (needs .exit)) (now (lows .entry)) (now (lows .exit))
+        (now (highs .entry)) (now (highs .exit)) (now (costs .entry)) (now (costs .exit)) ⌝ }
+{
+    packed_reading(table_read::read_table(text, needs, lows, highs, costs))
+}
+
+// `table_read::read_table_prefix`, its answer packed.
+#[no_mangle]
+pub extern "C" fn planner_read_table_prefix(
+    text: &[u8],
+    needs: &mut [u16],
+    lows: &mut [u16],
+    highs: &mut [u16],
+    costs: &mut [u16],
+) -> u64
+    ensures { λ r. ⌜ ReadsPacked
+        (readFault 256 2048 true (now (text .entry)) (length (now (needs .entry))) (length (now (lows .entry))) (length (now (highs .entry))) (length (now (costs .entry))))
+        (ofText (now (text .entry))) r
+        (now (needs .entry)) (now (needs .exit)) (now (lows .entry)) (now (lows .exit))
+        (now (highs .entry)) (now (highs .exit)) (now (costs .entry)) (now (costs .exit)) ⌝ }
+{
+    packed_reading(table_read::read_table_prefix(text, needs, lows, highs, costs))
+}
+
+// `table_write::write_table`, its answer packed.
+#[no_mangle]
+pub extern "C" fn planner_write_table(
+    number: u16,
+    probes: u16,
+    links: u16,
+    needs: &[u16],
+    lows: &[u16],
+    highs: &[u16],
+    costs: &[u16],
+    out: &mut [u8],
+) -> u64
+    ensures { λ r. ⌜ WritesPacked
+        (writeFault 256 2048 number probes links (now (needs .entry)) (now (lows .entry)) (now (highs .entry)) (now (costs .entry)) (length (now (out .entry))))
+        (ofSlices number probes links (now (needs .entry)) (now (lows .entry)) (now (highs .entry)) (now (costs .entry)))
+        r (now (out .entry)) (now (out .exit)) ⌝ }
+{
+    packed_writing(table_write::write_table(number, probes, links, needs, lows, highs, costs, out))
+}
