@@ -54,7 +54,7 @@ pub fn read(
 ) -> Result<Table, u8> {
     let before = lengths.map(|length| Buffer::filled(length, || random.short()));
     let (mut by_library, mut by_reference) = (before.clone(), before.clone());
-    let answer = face::read_table(text, behind, lend(&mut by_library));
+    let answer = face::read(text, behind, lend(&mut by_library));
     let result = reference::read_table(text, behind, lend(&mut by_reference));
     let call = match behind {
         Behind::Nothing => "read",

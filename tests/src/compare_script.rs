@@ -3,7 +3,7 @@
 
 use crate::buffer::Buffer;
 use crate::compare::written;
-use crate::face::{self, UnderWay};
+use crate::face;
 use crate::fleet::{Site, BYTES};
 use crate::random::Random;
 use crate::reference::{Slices, Table};
@@ -91,12 +91,14 @@ impl Pieces {
         let before = self.clone();
         let untouched = Buffer::filled(length, || random.byte());
         let mut out = untouched.clone();
-        let under_way = UnderWay {
-            record: self.record.lend(),
-            line: self.line.lend(),
-            progress: self.progress.lend(),
-        };
-        let answer = face::script_piece(self.numbers.slices(), under_way, piece, out.lend());
+        let answer = face::script_piece(
+            self.numbers.slices(),
+            self.record.lend(),
+            self.line.lend(),
+            self.progress.lend(),
+            piece,
+            out.lend(),
+        );
         let printed = printed(answer, &out, &untouched);
         if printed.is_err() {
             assert!(self.record == before.record && self.line == before.line);

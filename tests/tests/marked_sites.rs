@@ -112,7 +112,7 @@ fn answers_about_m2_as_numbers() {
             highs: &mut [9; 3],
             costs: &mut [9; 3],
         };
-        face::read_table(text, Behind::Nothing, lent)
+        face::read(text, Behind::Nothing, lent)
     };
     assert_eq!(read(&out), 0x0001_0001_0004_0003);
     assert_eq!(read(&out[..76]), 6);
