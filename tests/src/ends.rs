@@ -55,6 +55,10 @@ pub enum Kind {
     Refusal = 2,
 }
 
+impl Kind {
+    pub const BOTH: [Kind; 2] = [Kind::Offer, Kind::Refusal];
+}
+
 /// The numbers of a frame's line, with a meaning or without.
 #[derive(Clone, Copy, Debug, PartialEq)]
 pub struct Frame {

@@ -102,7 +102,7 @@ fn sendable(table: &Table, record: &[u8]) -> Vec<Vec<u8>> {
         lines.push(opening(table, probe).line());
         let own = own_record(table, probe, record);
         for link in 0..numbers.links {
-            for kind in [Kind::Offer, Kind::Refusal] {
+            for kind in Kind::BOTH {
                 let mut line = vec![0; LINE];
                 let asked = ends::ask(numbers.slices(), probe, &own, kind, link, &mut line);
                 lines.extend((asked == Ok(true)).then_some(line));

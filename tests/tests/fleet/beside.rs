@@ -35,7 +35,7 @@ fn asked(table: &Table, record: &[u8], random: &mut Random) -> usize {
     let mut written = 0;
     let place = random.below(table.links.len());
     for end in table.links[place].ends() {
-        for kind in [Kind::Offer, Kind::Refusal] {
+        for kind in Kind::BOTH {
             let line = end_of(table, end as u16, record).ask(kind, place as u16, LINE);
             if let Some(line) = line.expect("an end of the link") {
                 assert!(Fleet::with(table, record).event(&line, 0, 1).is_ok());
