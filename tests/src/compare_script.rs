@@ -49,6 +49,12 @@ pub struct Pieces {
     pub progress: Buffer<u32>,
 }
 
+impl AsMut<Numbers> for Pieces {
+    fn as_mut(&mut self) -> &mut Numbers {
+        &mut self.numbers
+    }
+}
+
 impl Pieces {
     pub fn fresh(table: &Table, random: &mut Random) -> Pieces {
         let (kept, longer) = (KEPT + random.below(3), random.below(3));

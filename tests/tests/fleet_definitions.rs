@@ -3,9 +3,8 @@
 
 use planner_tests::air::{any_mix, opening, Air};
 use planner_tests::ends::{self, Entry, Frame, Kind, LINE};
-use planner_tests::events::any_table;
+use planner_tests::events::each_table;
 use planner_tests::fleet::{changes, own_record, Site, BYTES};
-use planner_tests::random::Random;
 use planner_tests::reference::Table;
 use planner_tests::script::{output, Script};
 use planner_tests::sites::{Numbers, M2, MARKED};
@@ -52,12 +51,10 @@ fn alone(table: &Table, line: &[u8], record: &[u8]) -> (Result<Entry, u8>, Vec<u
 #[test]
 fn fleet_beside_its_ends() {
     let mut accepted = 0;
-    for seed in 0..1_000 {
-        let random = &mut Random::new(90 << 32 | seed);
-        let table = any_table(random);
+    each_table(90, 1_000, |table, random| {
         let site = Site::of_legal(table.clone());
         let mut record = vec![0; BYTES * table.links.len()];
-        let mut air = Air::over(&table, any_mix(random));
+        let mut air = Air::over(table, any_mix(random));
         for line in (0..60).flat_map(|_| air.next(random)) {
             let before = record.clone();
             let answer = site.event(&mut record, &line, 0, 1);
@@ -66,22 +63,20 @@ fn fleet_beside_its_ends() {
                 continue;
             };
             assert_eq!(changes(&before, &record), entry.what.changes());
-            let own = own_record(&table, entry.probe, &record);
-            assert_eq!(alone(&table, &line, &before), (answer, own));
+            let own = own_record(table, entry.probe, &record);
+            assert_eq!(alone(table, &line, &before), (answer, own));
             accepted += 1;
         }
-    }
+    });
     assert!(accepted > 30_000, "{accepted}");
 }
 
 #[test]
 fn script_counts_the_bytes_that_differ() {
     let mut changed = 0;
-    for seed in 0..300 {
-        let random = &mut Random::new(92 << 32 | seed);
-        let table = any_table(random);
+    each_table(92, 300, |table, random| {
         let mut script = Script::fresh(table.clone());
-        let mut air = Air::over(&table, any_mix(random));
+        let mut air = Air::over(table, any_mix(random));
         let mut differ = 0;
         for line in (0..300).flat_map(|_| air.next(random)) {
             let before = script.record.clone();
@@ -90,7 +85,7 @@ fn script_counts_the_bytes_that_differ() {
         }
         assert_eq!(script.changed, differ);
         changed += differ;
-    }
+    });
     assert!(changed > 5_000, "{changed}");
 }
 
@@ -116,26 +111,24 @@ fn sendable(table: &Table, record: &[u8]) -> Vec<Vec<u8>> {
 #[test]
 fn finished_as_defined() {
     let mut times = [0, 0];
-    for seed in 0..600 {
-        let random = &mut Random::new(91 << 32 | seed);
-        let table = any_table(random);
+    each_table(91, 600, |table, random| {
         if table.links.len() > 40 {
-            continue;
+            return;
         }
         let site = Site::of_legal(table.clone());
         let mut record = vec![0; BYTES * table.links.len()];
-        let mut air = Air::over(&table, any_mix(random));
+        let mut air = Air::over(table, any_mix(random));
         let events = random.below(300);
         for line in (0..events).flat_map(|_| air.next(random)) {
             site.event(&mut record, &line, 0, 1).ok();
         }
-        let alters = sendable(&table, &record).iter().any(|line| {
+        let alters = sendable(table, &record).iter().any(|line| {
             let mut after = record.clone();
             site.event(&mut after, line, 0, 1).expect("may be sent");
             after != record
         });
         assert_eq!(site.finished(&record), !alters);
         times[usize::from(alters)] += 1;
-    }
+    });
     assert!(times.iter().all(|&times| times > 50), "{times:?}");
 }

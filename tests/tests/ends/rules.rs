@@ -6,7 +6,7 @@ use planner_tests::ends::{other_end, Frame, Kind, What, LINE};
 use planner_tests::events::own_links;
 use planner_tests::face;
 use planner_tests::lines::{offer, refusal};
-use planner_tests::random::Random;
+use planner_tests::random::{each_seed, Random};
 use planner_tests::reference::{falling, plan, Table};
 use planner_tests::sites::{hubs, legal_of_size, marked, set_costs, set_needs, site, Numbers};
 
@@ -286,8 +286,7 @@ fn bargain(table: &Table, random: &mut Random) -> Vec<End> {
 
 #[test]
 fn ends_finish_with_the_plan() {
-    for seed in 0..600 {
-        let random = &mut Random::new(6 << 32 | seed);
+    each_seed(6, 600, |random| {
         let probes = 2 + random.below(6);
         let links = random.below(probes * (probes - 1) / 2 + 1);
         let table = legal_of_size(probes, links, random);
@@ -298,7 +297,7 @@ fn ends_finish_with_the_plan() {
                 assert_eq!(ends[end].rests(place as u16), Ok(!kept[place]));
             }
         }
-    }
+    });
 }
 
 /// Offered all its links, an end holds the dearest in the end.

@@ -5,7 +5,7 @@ use planner_tests::air::{any_mix, Air};
 use planner_tests::compare_ends::End;
 use planner_tests::compare_fleet::Fleet;
 use planner_tests::ends::{Entry, Frame, Kind, LINE};
-use planner_tests::events::any_table;
+use planner_tests::events::each_table;
 use planner_tests::fleet::own_record;
 use planner_tests::random::Random;
 use planner_tests::reference::Table;
@@ -49,23 +49,21 @@ fn asked(table: &Table, record: &[u8], random: &mut Random) -> usize {
 #[test]
 fn ends_beside_the_fleet() {
     let (mut accepted, mut written) = (0, 0);
-    for seed in 0..600 {
-        let random = &mut Random::new(40 << 32 | seed);
-        let table = any_table(random);
-        let mut fleet = Fleet::fresh(&table);
-        let mut air = Air::over(&table, any_mix(random));
+    each_table(40, 600, |table, random| {
+        let mut fleet = Fleet::fresh(table);
+        let mut air = Air::over(table, any_mix(random));
         for _ in 0..40 {
             for line in air.next(random) {
                 let before = fleet.record().to_vec();
                 if let Ok(entry) = fleet.event(&line, 0, 1) {
-                    same_alone(&table, &before, &line, entry, fleet.record());
+                    same_alone(table, &before, &line, entry, fleet.record());
                     accepted += 1;
                 }
             }
             if !table.links.is_empty() {
-                written += asked(&table, fleet.record(), random);
+                written += asked(table, fleet.record(), random);
             }
         }
-    }
+    });
     assert!(accepted > 10_000 && written > 3_000, "{accepted} {written}");
 }

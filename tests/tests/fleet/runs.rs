@@ -7,7 +7,7 @@ use planner_tests::ends::{Frame, What};
 use planner_tests::events::any_table;
 use planner_tests::fleet::{changes, Site, BYTES};
 use planner_tests::methods::slse;
-use planner_tests::random::Random;
+use planner_tests::random::{each_seed, Random};
 use planner_tests::reference::{plan, Table};
 use planner_tests::sites::{banded, hubs, legal_of_size, marked, set_costs, set_needs};
 use std::collections::VecDeque;
@@ -224,13 +224,12 @@ fn marked_sites() {
 #[test]
 fn small_sites() {
     let mut events = 0;
-    for seed in 0..600 {
-        let random = &mut Random::new(47 << 32 | seed);
+    each_seed(47, 600, |random| {
         let probes = 1 + random.below(9);
         let links = random.below(probes * (probes - 1) / 2 + 1);
         let table = legal_of_size(probes, links, random);
         events += run_all(&table, ORDERS, random);
-    }
+    });
     assert!(events > 100_000, "{events}");
 }
 
