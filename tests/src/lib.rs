@@ -15,6 +15,7 @@ pub mod lines;
 pub mod methods;
 pub mod random;
 pub mod reference;
+pub mod samples;
 pub mod script;
 pub mod sites;
 pub mod tally;

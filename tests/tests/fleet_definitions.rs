@@ -6,34 +6,18 @@ use planner_tests::ends::{self, Entry, Frame, Kind, LINE};
 use planner_tests::events::each_table;
 use planner_tests::fleet::{changes, own_record, Site, BYTES};
 use planner_tests::reference::Table;
+use planner_tests::samples::{self, input, M11, M11_PRINTED, M4, M4_PRINTED};
 use planner_tests::script::{output, Script};
-use planner_tests::sites::{Numbers, M2, MARKED};
+use planner_tests::sites::Numbers;
 
 #[test]
 fn m4() {
-    let script = "00000100000000\n01000100000001\n00000100010001\n01000100010000\n";
-    let printed = "0000000000ffff\n0001020000ffff\n0001000000ffff\n0000020000ffff\n0100000004\n";
-    let input = [MARKED[3], script].concat();
-    assert_eq!(output(input.as_bytes()), printed.as_bytes());
+    assert_eq!(output(&input(3, &M4)), samples::text(&M4_PRINTED));
 }
 
 #[test]
 fn m11() {
-    let script = [
-        "00000100000000\n01000100000001\n",
-        "00000100010001\n01000100010002\n",
-        "00000100020002\n01000100020001\n02000100010000\n",
-        "00000100030003\n01000100030002\n02000100020003\n",
-    ];
-    let printed = [
-        "0000000000ffff\n0001020000ffff\n",
-        "0001000001ffff\n0002020001ffff\n",
-        "0002000001ffff\n00010300010000\n0000050000ffff\n",
-        "0003000002ffff\n0002040002ffff\n0003050002ffff\n",
-        "010000000b\n",
-    ];
-    let input = [M2, &script.concat()].concat();
-    assert_eq!(output(input.as_bytes()), printed.concat().as_bytes());
+    assert_eq!(output(&input(1, &M11)), samples::text(&M11_PRINTED));
 }
 
 /// What the end that opens or hears does alone, and its record after.

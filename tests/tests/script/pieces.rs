@@ -1,6 +1,5 @@
 //! A script handled in pieces prints what it prints at once.
 
-use crate::{input, M11, M4};
 use planner_tests::air::{any_mix, any_script};
 use planner_tests::buffer::Buffer;
 use planner_tests::compare_script::{in_pieces, state_fault, text, Pieces, END, KEPT};
@@ -8,6 +7,7 @@ use planner_tests::events::each_table;
 use planner_tests::faults::{each_choice, of_table, Fault};
 use planner_tests::random::Random;
 use planner_tests::reference::Table;
+use planner_tests::samples::{self, M11, M4};
 use planner_tests::script::output;
 use planner_tests::sites::{damage_table, marked, Numbers, MARKED};
 
@@ -28,8 +28,9 @@ fn small_script() -> Vec<u8> {
     lines.insert(9, &long);
     lines.insert(10, "0000010000000G");
     lines.push("0000010001000");
-    let text = input(1, &lines);
-    text[MARKED[1].len()..text.len() - 1].to_vec()
+    let mut text = samples::text(&lines);
+    text.pop();
+    text
 }
 
 #[test]
@@ -50,7 +51,7 @@ fn pieces_of_every_size() {
     let script = small_script();
     for size in 1..=40 {
         compare(&marked(1), &script, size, random);
-        compare(&marked(3), &input(3, &M4)[MARKED[3].len()..], size, random);
+        compare(&marked(3), &samples::text(&M4), size, random);
     }
 }
 
