@@ -5,6 +5,7 @@ use crate::buffer::Buffer;
 use crate::compare::assert_same;
 use crate::ends::{self, Entry, Kind, What, LINE};
 use crate::face;
+use crate::fleet::changes;
 use crate::random::Random;
 use crate::reference::Table;
 use crate::sites::Numbers;
@@ -49,13 +50,9 @@ impl End {
             [answer, face::entry_answer(&result)],
             [&by_library, &by_reference],
         );
-        let changed = before.entries().iter().zip(by_library.entries());
-        let changes = changed.filter(|(before, after)| before != after).count();
-        assert_eq!(
-            changes,
-            result.map_or(0, |entry| entry.what.changes()),
-            "{call}"
-        );
+        let changes = changes(before.entries(), by_library.entries());
+        let expected = result.map_or(0, |entry| entry.what.changes());
+        assert_eq!(changes, expected, "{call}");
         self.record.copy_from_slice(by_library.entries());
         result.map(|entry| {
             assert_eq!(entry.probe, self.probe);

@@ -298,6 +298,11 @@ pub fn finished(given: Slices, record: &[u8]) -> Result<bool, u8> {
     Ok(site.finished(record))
 }
 
+/// Whether the low end and whether the high end rest the link with these bytes.
+pub fn rested(bytes: &[u8]) -> [bool; 2] {
+    [Side::Low, Side::High].map(|side| bytes[side.outbound()] == 1 && bytes[side.inbound()] == 1)
+}
+
 /// How many bytes differ.
 pub fn changes(before: &[u8], after: &[u8]) -> usize {
     before

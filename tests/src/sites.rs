@@ -130,6 +130,20 @@ pub fn hubs(probes: u16, hubs: u16) -> Table {
     site(&links, &vec![0; probes.into()])
 }
 
+/// The largest site whose first eight probes are joined to all others; costs and needs are 0.
+pub fn largest_hubs() -> Table {
+    let mut table = hubs(MOST_PROBES as u16, 9);
+    table.links.truncate(MOST_LINKS);
+    table
+}
+
+/// Gives the table costs below this, and each probe a need of half its links.
+pub fn half_needed(mut table: Table, costs: usize, random: &mut Random) -> Table {
+    set_costs(&mut table, || random.below(costs) as u16);
+    set_needs(&mut table, |_, degree| degree / 2);
+    table
+}
+
 /// So many of all pairs of probes, in rising order, at cost 0.
 fn pairs(probes: usize, links: usize, random: &mut Random) -> Vec<Link> {
     let mut left = probes * (probes - 1) / 2;

@@ -37,7 +37,7 @@ fn marked_texts_are_read() {
         let expected = site(place);
         let fit = Numbers::of(&expected).lent;
         for lengths in [fit, fit.map(|length| length + 3)] {
-            for behind in [Behind::Nothing, Behind::Anything] {
+            for behind in Behind::BOTH {
                 let read = compare::read(text.as_bytes(), behind, lengths, &mut random);
                 assert_eq!(read.as_ref(), Ok(&expected));
             }

@@ -22,7 +22,7 @@ fn print(text: &[u8], random: &mut Random) {
 /// Prints the text's plan, reads the text both ways and writes what was read back.
 fn print_and_read(text: &[u8], lengths: [usize; 4], random: &mut Random, tally: &mut Tally) {
     print(text, random);
-    for behind in [Behind::Nothing, Behind::Anything] {
+    for behind in Behind::BOTH {
         let read = compare::read(text, behind, lengths, random);
         tally[read.as_ref().err().copied().unwrap_or(0) as usize] += 1;
         let Ok(table) = read else {

@@ -8,7 +8,7 @@ use planner_tests::face;
 use planner_tests::lines::{offer, refusal};
 use planner_tests::random::{each_seed, Random};
 use planner_tests::reference::{falling, plan, Table};
-use planner_tests::sites::{hubs, legal_of_size, marked, set_costs, set_needs, site, Numbers};
+use planner_tests::sites::{half_needed, largest_hubs, legal_of_size, marked, site, Numbers};
 
 #[test]
 fn spare_0_refuses_every_offer() {
@@ -323,14 +323,9 @@ fn hold_the_dearest(table: &Table, probe: u16) {
     }
 }
 
-/// Its first eight probes are joined to all others.
 #[test]
 fn largest_site() {
-    let mut random = Random::new(26);
-    let mut table = hubs(256, 9);
-    table.links.truncate(2048);
-    set_costs(&mut table, || random.below(3) as u16);
-    set_needs(&mut table, |_, degree| degree / 2);
+    let table = half_needed(largest_hubs(), 3, &mut Random::new(26));
     for probe in [0, 1, 7, 8, 44, 45, 255] {
         hold_the_dearest(&table, probe);
     }
