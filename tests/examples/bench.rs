@@ -1,8 +1,6 @@
-//! Times the library's two methods and its events against the Rust ones, built for release in the
-//! same run: `cargo run --release --offline --example bench`. Says nothing about what is fast
-//! enough.
+//! Times the library against Rust: `cargo run --release --offline --example bench`.
 
-use planner_tests::air::full_script;
+use planner_tests::channel::full_script;
 use planner_tests::face;
 use planner_tests::fleet::{self, BYTES};
 use planner_tests::methods;

@@ -1,5 +1,4 @@
-//! Calls the library and the second implementation on equal buffers, and compares the answers and
-//! every buffer whole. What both agree on is handed back.
+//! Table and plan in the library and the second implementation, compared with every buffer.
 
 use crate::buffer::Buffer;
 use crate::face;

@@ -1,5 +1,4 @@
-//! One end, called in the library and in the second implementation on equal buffers; the answers
-//! and every buffer are compared whole. What both agree on is handed back.
+//! One end in the library and the second implementation, compared with every buffer.
 
 use crate::buffer::Buffer;
 use crate::compare::assert_same;
@@ -10,7 +9,7 @@ use crate::random::Random;
 use crate::reference::Table;
 use crate::sites::Numbers;
 
-/// An end and its record, which each accepted event alters.
+/// An end and its record, which each accepted event alters. A call hands back what both agree on.
 pub struct End {
     pub numbers: Numbers,
     pub probe: u16,

@@ -1,5 +1,4 @@
-//! The script program in the library and in the second implementation; what is printed and every
-//! buffer are compared whole.
+//! The script program in the library and the second implementation, compared with every buffer.
 
 use crate::buffer::Buffer;
 use crate::compare::written;

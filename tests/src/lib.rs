@@ -1,7 +1,7 @@
 //! A second implementation of the planner, and what the tests need to compare the library with it.
 
-pub mod air;
 pub mod buffer;
+pub mod channel;
 pub mod compare;
 pub mod compare_ends;
 pub mod compare_fleet;

@@ -1,5 +1,4 @@
-//! The second implementation of the script program, written from document 01 alone: bytes in,
-//! bytes out.
+//! The second implementation of the script program, from document 01 alone: bytes in, bytes out.
 
 use crate::ends::Entry;
 use crate::fleet::{Site, BYTES};

@@ -1,7 +1,6 @@
-//! The second implementations of a fleet and of the script program, by 01's samples and beside
-//! that of one end. The library is not called.
+//! Without the library: the second implementations of fleet and script, by 01's samples.
 
-use planner_tests::air::{any_mix, opening, Air};
+use planner_tests::channel::{any_mix, opening, Channel};
 use planner_tests::ends::{self, Entry, Frame, Kind, LINE};
 use planner_tests::events::each_table;
 use planner_tests::fleet::{changes, own_record, Site, BYTES};
@@ -38,8 +37,8 @@ fn fleet_beside_its_ends() {
     each_table(90, 1_000, |table, random| {
         let site = Site::of_legal(table.clone());
         let mut record = vec![0; BYTES * table.links.len()];
-        let mut air = Air::over(table, any_mix(random));
-        for line in (0..60).flat_map(|_| air.next(random)) {
+        let mut channel = Channel::over(table, any_mix(random));
+        for line in (0..60).flat_map(|_| channel.next(random)) {
             let before = record.clone();
             let answer = site.event(&mut record, &line, 0, 1);
             let Ok(entry) = answer else {
@@ -60,9 +59,9 @@ fn script_counts_the_bytes_that_differ() {
     let mut changed = 0;
     each_table(92, 300, |table, random| {
         let mut script = Script::fresh(table.clone());
-        let mut air = Air::over(table, any_mix(random));
+        let mut channel = Channel::over(table, any_mix(random));
         let mut differ = 0;
-        for line in (0..300).flat_map(|_| air.next(random)) {
+        for line in (0..300).flat_map(|_| channel.next(random)) {
             let before = script.record.clone();
             script.line(&line).ok();
             differ += changes(&before, &script.record);
@@ -101,9 +100,9 @@ fn finished_as_defined() {
         }
         let site = Site::of_legal(table.clone());
         let mut record = vec![0; BYTES * table.links.len()];
-        let mut air = Air::over(table, any_mix(random));
+        let mut channel = Channel::over(table, any_mix(random));
         let events = random.below(300);
-        for line in (0..events).flat_map(|_| air.next(random)) {
+        for line in (0..events).flat_map(|_| channel.next(random)) {
             site.event(&mut record, &line, 0, 1).ok();
         }
         let alters = sendable(table, &record).iter().any(|line| {

@@ -1,7 +1,6 @@
-//! The built programs, each fed through a pipe. They stand in PLANNER_BIN_DIR, else in
-//! ../target/bin.
+//! The built programs, fed through a pipe; they stand in PLANNER_BIN_DIR, else in ../target/bin.
 
-use planner_tests::air::{any_mix, any_script};
+use planner_tests::channel::{any_mix, any_script};
 use planner_tests::events::any_table;
 use planner_tests::random::Random;
 use planner_tests::reference::{plan_output, Table};

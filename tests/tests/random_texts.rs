@@ -1,5 +1,4 @@
-//! Random and damaged texts, read both ways and planned by the library and by the second
-//! implementation.
+//! Random and damaged texts, read both ways and planned, beside the second implementation.
 
 use planner_tests::compare;
 use planner_tests::random::{each_seed, Random};

@@ -1,7 +1,6 @@
-//! The ends beside the fleet: each end alone, on its own bytes of the fleet's record, does what
-//! the fleet does, and writes a frame exactly when it may be sent.
+//! Each end alone, on its own bytes of the fleet's record, does what the fleet does.
 
-use planner_tests::air::{any_mix, Air};
+use planner_tests::channel::{any_mix, Channel};
 use planner_tests::compare_ends::End;
 use planner_tests::compare_fleet::Fleet;
 use planner_tests::ends::{Entry, Frame, Kind, LINE};
@@ -51,9 +50,9 @@ fn ends_beside_the_fleet() {
     let (mut accepted, mut written) = (0, 0);
     each_table(40, 600, |table, random| {
         let mut fleet = Fleet::fresh(table);
-        let mut air = Air::over(table, any_mix(random));
+        let mut channel = Channel::over(table, any_mix(random));
         for _ in 0..40 {
-            for line in air.next(random) {
+            for line in channel.next(random) {
                 let before = fleet.record().to_vec();
                 if let Ok(entry) = fleet.event(&line, 0, 1) {
                     same_alone(table, &before, &line, entry, fleet.record());

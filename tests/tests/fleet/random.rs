@@ -1,6 +1,6 @@
 //! Random tables, records and lines, legal and damaged.
 
-use planner_tests::air::{any_bytes, any_frame, any_mix, any_opening, Air};
+use planner_tests::channel::{any_bytes, any_frame, any_mix, any_opening, Channel};
 use planner_tests::compare_fleet::Fleet;
 use planner_tests::events::{any_room, damaged_line, each_table, of_state};
 use planner_tests::fleet::BYTES;
@@ -20,10 +20,10 @@ fn fresh(table: &Table, random: &mut Random) -> Fleet {
     fleet
 }
 
-/// Hears what the air brings next; answers the last line of it.
-fn hear_next(fleet: &mut Fleet, air: &mut Air, random: &mut Random) -> Vec<u8> {
+/// Hears what the channel brings next; answers the last line of it.
+fn hear_next(fleet: &mut Fleet, channel: &mut Channel, random: &mut Random) -> Vec<u8> {
     let mut last = Vec::new();
-    for line in air.next(random) {
+    for line in channel.next(random) {
         fleet.event(&line, 0, 1).ok();
         last = line;
     }
@@ -65,13 +65,13 @@ fn records_reached() {
     let (mut tally, mut finished) = (Tally::default(), 0);
     each_table(42, TABLES, |table, random| {
         let mut fleet = fresh(table, random);
-        let mut air = Air::over(table, any_mix(random));
+        let mut channel = Channel::over(table, any_mix(random));
         for _ in 0..LINES {
             for _ in 0..random.below(table.links.len().min(20) + 1) {
-                hear_next(&mut fleet, &mut air, random);
+                hear_next(&mut fleet, &mut channel, random);
             }
             let before = fleet.record().to_vec();
-            let next = hear_next(&mut fleet, &mut air, random);
+            let next = hear_next(&mut fleet, &mut channel, random);
             let damaged = random.one_in(2);
             let any = any_line(table, damaged, random);
             let line = random.pick(&[&next, &next, &next, &any]);

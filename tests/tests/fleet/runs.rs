@@ -1,7 +1,6 @@
-//! Runs to the finish in many orders, with frames lost, repeated and late. Each ends with the
-//! plan, and all of one table with the same record.
+//! Runs to the finish in many orders, frames lost, repeated and late: each ends with the plan.
 
-use planner_tests::air::{frame_after, opening};
+use planner_tests::channel::{frame_after, opening};
 use planner_tests::compare_fleet::Fleet;
 use planner_tests::ends::{Frame, What};
 use planner_tests::events::any_table;

@@ -1,6 +1,6 @@
 //! Every record that any list of lines leads to, on small tables: each line from each record.
 
-use planner_tests::air::opening;
+use planner_tests::channel::opening;
 use planner_tests::compare_fleet::Fleet;
 use planner_tests::ends::Frame;
 use planner_tests::fleet::{changes, rested, BYTES};

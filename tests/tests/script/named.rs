@@ -1,7 +1,7 @@
 //! Named scripts and what they print.
 
 use crate::printed;
-use planner_tests::air::full_script;
+use planner_tests::channel::full_script;
 use planner_tests::compare_script::{text, text_in};
 use planner_tests::random::Random;
 use planner_tests::reference::CLOSING;

@@ -1,7 +1,7 @@
 //! A script handled in pieces prints what it prints at once.
 
-use planner_tests::air::{any_mix, any_script};
 use planner_tests::buffer::Buffer;
+use planner_tests::channel::{any_mix, any_script};
 use planner_tests::compare_script::{in_pieces, state_fault, text, Pieces, END, KEPT};
 use planner_tests::events::each_table;
 use planner_tests::faults::{each_choice, of_table, Fault};

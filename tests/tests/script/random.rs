@@ -1,6 +1,6 @@
 //! Random scripts on tables of all sizes; whole outputs are compared.
 
-use planner_tests::air::{all_accepted, any_mix, any_script};
+use planner_tests::channel::{all_accepted, any_mix, any_script};
 use planner_tests::compare_script::text;
 use planner_tests::events::each_table;
 use planner_tests::random::{each_seed, Random};
