@@ -1,15 +1,13 @@
-//! Times the library's two methods and its events against the Rust ones, built for release in the
-//! same run: `cargo run --release --offline --example bench`. Says nothing about what is fast
-//! enough.
+//! Times the library against Rust: `cargo run --release --offline --example bench`.
 
-use planner_tests::air::full_script;
+use planner_tests::channel::full_script;
 use planner_tests::face;
 use planner_tests::fleet::{self, BYTES};
 use planner_tests::methods;
 use planner_tests::random::Random;
 use planner_tests::reference::{fill_plan, fill_plan_and_work, Slices, Table};
 use planner_tests::script;
-use planner_tests::sites::{hubs, legal_of_size, set_costs, set_needs, Numbers};
+use planner_tests::sites::{half_needed, hubs, largest_hubs, legal_of_size, Numbers};
 use std::hint::black_box;
 use std::time::Instant;
 
@@ -125,28 +123,25 @@ fn measure_events(table: &Table, lines: &[u8]) -> Times {
     })
 }
 
-/// Each probe needs half of its links.
-fn with_costs(mut table: Table, range: usize, random: &mut Random) -> Table {
-    set_costs(&mut table, || random.below(range) as u16);
-    set_needs(&mut table, |_, degree| degree / 2);
-    table
-}
-
 /// The median of the ratios, and their quartiles.
 fn spread(ratio: &Sorted) -> String {
     let [low, median, high] = [1, 2, 3].map(|quarter| ratio.quarter(quarter));
     format!("{median:>5.2}  ({low:.2} to {high:.2})")
 }
 
-fn print_ratios(random: &mut Random) {
+/// Sites of 256 probes, the last with these hubs.
+fn sites(hubs: Table, random: &mut Random) -> [(&'static str, Table); 3] {
     let any = legal_of_size(256, 2048, random);
-    let sites = [
-        ("random costs", with_costs(any.clone(), 65_536, random)),
-        ("equal costs", with_costs(any, 1, random)),
-        ("8 hubs", with_costs(hubs(256, 8), 65_536, random)),
-    ];
+    [
+        ("random costs", half_needed(any.clone(), 65_536, random)),
+        ("equal costs", half_needed(any, 1, random)),
+        ("8 hubs", half_needed(hubs, 65_536, random)),
+    ]
+}
+
+fn print_ratios(random: &mut Random) {
     println!("site          links  method    library us   rust us  ratio  (quartiles)");
-    for (site, table) in &sites {
+    for (site, table) in &sites(hubs(256, 8), random) {
         for (method, name) in METHODS {
             let times = measure_method(method, table);
             let [library, rust] = times.medians();
@@ -160,16 +155,8 @@ fn print_ratios(random: &mut Random) {
 }
 
 fn print_events(random: &mut Random) {
-    let any = legal_of_size(256, 2048, random);
-    let mut joined = hubs(256, 9);
-    joined.links.truncate(2048);
-    let sites = [
-        ("random costs", with_costs(any.clone(), 65_536, random)),
-        ("equal costs", with_costs(any, 1, random)),
-        ("8 hubs", with_costs(joined, 65_536, random)),
-    ];
     println!("site          links  events    library us   rust us  ratio");
-    for (site, table) in &sites {
+    for (site, table) in &sites(largest_hubs(), random) {
         let lines = full_script(table, random);
         let times = [
             ("script", measure_script(table, &lines)),
@@ -191,7 +178,7 @@ fn print_growth(random: &mut Random) {
     for (method, name) in METHODS {
         let mut last = None;
         for links in [128, 256, 512, 1024, 2048] {
-            let table = with_costs(legal_of_size(256, links, random), 65_536, random);
+            let table = half_needed(legal_of_size(256, links, random), 65_536, random);
             let times = measure_method(method, &table);
             let [library, rust] = times.medians();
             let [of_library, of_rust] = last.replace([library, rust]).unwrap_or([library, rust]);

@@ -1,5 +1,4 @@
-//! Calls the library and the second implementation on equal buffers, and compares the answers and
-//! every buffer whole. What both agree on is handed back.
+//! Table and plan in the library and the second implementation, compared with every buffer.
 
 use crate::buffer::Buffer;
 use crate::face;
@@ -54,7 +53,7 @@ pub fn read(
 ) -> Result<Table, u8> {
     let before = lengths.map(|length| Buffer::filled(length, || random.short()));
     let (mut by_library, mut by_reference) = (before.clone(), before.clone());
-    let answer = face::read_table(text, behind, lend(&mut by_library));
+    let answer = face::read(text, behind, lend(&mut by_library));
     let result = reference::read_table(text, behind, lend(&mut by_reference));
     let call = match behind {
         Behind::Nothing => "read",

@@ -1,15 +1,15 @@
-//! One end, called in the library and in the second implementation on equal buffers; the answers
-//! and every buffer are compared whole. What both agree on is handed back.
+//! One end in the library and the second implementation, compared with every buffer.
 
 use crate::buffer::Buffer;
 use crate::compare::assert_same;
 use crate::ends::{self, Entry, Kind, What, LINE};
 use crate::face;
+use crate::fleet::changes;
 use crate::random::Random;
 use crate::reference::Table;
 use crate::sites::Numbers;
 
-/// An end and its record, which each accepted event alters.
+/// An end and its record, which each accepted event alters. A call hands back what both agree on.
 pub struct End {
     pub numbers: Numbers,
     pub probe: u16,
@@ -49,13 +49,9 @@ impl End {
             [answer, face::entry_answer(&result)],
             [&by_library, &by_reference],
         );
-        let changed = before.entries().iter().zip(by_library.entries());
-        let changes = changed.filter(|(before, after)| before != after).count();
-        assert_eq!(
-            changes,
-            result.map_or(0, |entry| entry.what.changes()),
-            "{call}"
-        );
+        let changes = changes(before.entries(), by_library.entries());
+        let expected = result.map_or(0, |entry| entry.what.changes());
+        assert_eq!(changes, expected, "{call}");
         self.record.copy_from_slice(by_library.entries());
         result.map(|entry| {
             assert_eq!(entry.probe, self.probe);

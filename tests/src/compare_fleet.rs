@@ -1,5 +1,4 @@
-//! A fleet, called in the library and in the second implementation on equal records; the answers
-//! and the records are compared whole. What both agree on is handed back.
+//! A fleet in the library and the second implementation, compared with its record.
 
 use crate::buffer::Buffer;
 use crate::compare::assert_same;
@@ -10,7 +9,7 @@ use crate::random::Random;
 use crate::reference::{Slices, Table};
 use crate::sites::Numbers;
 
-/// A fleet and its record, which each accepted event alters.
+/// A fleet and its record, which each accepted event alters. A call hands back what both agree on.
 pub struct Fleet {
     pub numbers: Numbers,
     /// The library's and the second implementation's.

@@ -1,9 +1,8 @@
-//! The script program in the library and in the second implementation; what is printed and every
-//! buffer are compared whole.
+//! The script program in the library and the second implementation, compared with every buffer.
 
 use crate::buffer::Buffer;
 use crate::compare::written;
-use crate::face::{self, UnderWay};
+use crate::face;
 use crate::fleet::{Site, BYTES};
 use crate::random::Random;
 use crate::reference::{Slices, Table};
@@ -49,6 +48,12 @@ pub struct Pieces {
     pub progress: Buffer<u32>,
 }
 
+impl AsMut<Numbers> for Pieces {
+    fn as_mut(&mut self) -> &mut Numbers {
+        &mut self.numbers
+    }
+}
+
 impl Pieces {
     pub fn fresh(table: &Table, random: &mut Random) -> Pieces {
         let (kept, longer) = (KEPT + random.below(3), random.below(3));
@@ -91,12 +96,14 @@ impl Pieces {
         let before = self.clone();
         let untouched = Buffer::filled(length, || random.byte());
         let mut out = untouched.clone();
-        let under_way = UnderWay {
-            record: self.record.lend(),
-            line: self.line.lend(),
-            progress: self.progress.lend(),
-        };
-        let answer = face::script_piece(self.numbers.slices(), under_way, piece, out.lend());
+        let answer = face::script_piece(
+            self.numbers.slices(),
+            self.record.lend(),
+            self.line.lend(),
+            self.progress.lend(),
+            piece,
+            out.lend(),
+        );
         let printed = printed(answer, &out, &untouched);
         if printed.is_err() {
             assert!(self.record == before.record && self.line == before.line);

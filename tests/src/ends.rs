@@ -1,5 +1,4 @@
-//! The second implementation of one end, written from document 01 alone. A refusal is its number
-//! there; links go by their place in the table.
+//! The second implementation of one end, from document 01 alone; a refusal is its number there.
 
 use crate::reference::{dearer, table_of_slices, Link, Slices};
 
@@ -53,6 +52,10 @@ pub struct Entry {
 pub enum Kind {
     Offer = 1,
     Refusal = 2,
+}
+
+impl Kind {
+    pub const BOTH: [Kind; 2] = [Kind::Offer, Kind::Refusal];
 }
 
 /// The numbers of a frame's line, with a meaning or without.

@@ -2,7 +2,7 @@
 
 use crate::compare_ends::End;
 use crate::ends::{other_end, Frame, What};
-use crate::random::Random;
+use crate::random::{each_seed, Random};
 use crate::reference::Table;
 use crate::sites::{crowded, legal, legal_of_size, set_costs, set_needs};
 
@@ -23,6 +23,19 @@ pub fn any_table(random: &mut Random) -> Table {
         degree.saturating_sub(random.below(4))
     });
     table
+}
+
+/// Runs with so many random tables, each from a seed of its own in this series.
+pub fn each_table(series: u64, count: u64, mut run: impl FnMut(&Table, &mut Random)) {
+    each_seed(series, count, |random| {
+        let table = any_table(random);
+        run(&table, random);
+    });
+}
+
+/// A refusal for the table or the record, which every call makes.
+pub fn of_state(refusal: Option<u8>) -> Option<u8> {
+    refusal.filter(|number| matches!(number, 3..=8 | 20..=22))
 }
 
 /// The places of the probe's links.
@@ -73,11 +86,7 @@ pub fn befall(end: &mut End, table: &Table, random: &mut Random) -> Result<What,
 /// A fresh end; often its slices have random entries beyond the table's own.
 pub fn fresh(table: &Table, probe: u16, random: &mut Random) -> End {
     let mut end = End::fresh(table, probe);
-    let [needs, links, ..] = end.numbers.lent;
-    let (more_needs, more) = (random.below(3), random.below(3));
-    let links = links + more;
-    let lengths = [needs + more_needs, links, links, links];
-    end.numbers.lend(lengths, random);
+    end.numbers.lend_longer(random);
     end
 }
 
@@ -120,6 +129,23 @@ pub fn damage_line(line: &mut Vec<u8>, random: &mut Random) {
         _ if line.is_empty() => line.push(any),
         _ => line[place] = random.pick(&[likely, likely, any]),
     }
+}
+
+/// The frame's line after so many damages to its numbers, then to its bytes.
+pub fn damaged_line(
+    mut frame: Frame,
+    [in_frame, in_line]: [usize; 2],
+    table: &Table,
+    random: &mut Random,
+) -> Vec<u8> {
+    for _ in 0..in_frame {
+        damage_frame(&mut frame, table, random);
+    }
+    let mut line = frame.line();
+    for _ in 0..in_line {
+        damage_line(&mut line, random);
+    }
+    line
 }
 
 /// Makes the record one that 20, 21 or 22 may refuse.

@@ -1,5 +1,4 @@
-//! The second implementation of a fleet, written from document 01 alone. A refusal is its number
-//! there; links go by their place in the table.
+//! The second implementation of a fleet, from document 01 alone; a refusal is its number there.
 
 use crate::ends::{Entry, Frame, What};
 use crate::reference::{dearer, table_of_slices, Link, Slices, Table};
@@ -296,6 +295,11 @@ pub fn finished(given: Slices, record: &[u8]) -> Result<bool, u8> {
     let site = Site::of(given)?;
     site.check_record(record)?;
     Ok(site.finished(record))
+}
+
+/// Whether the low end and whether the high end rest the link with these bytes.
+pub fn rested(bytes: &[u8]) -> [bool; 2] {
+    [Side::Low, Side::High].map(|side| bytes[side.outbound()] == 1 && bytes[side.inbound()] == 1)
 }
 
 /// How many bytes differ.

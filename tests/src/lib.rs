@@ -1,7 +1,7 @@
 //! A second implementation of the planner, and what the tests need to compare the library with it.
 
-pub mod air;
 pub mod buffer;
+pub mod channel;
 pub mod compare;
 pub mod compare_ends;
 pub mod compare_fleet;
@@ -9,9 +9,13 @@ pub mod compare_script;
 pub mod ends;
 pub mod events;
 pub mod face;
+pub mod faults;
 pub mod fleet;
+pub mod lines;
 pub mod methods;
 pub mod random;
 pub mod reference;
+pub mod samples;
 pub mod script;
 pub mod sites;
+pub mod tally;

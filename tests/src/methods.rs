@@ -1,5 +1,4 @@
-//! 01's two methods for a legal table, each apart from the definition's pass and from the other,
-//! and fast enough to time the library against.
+//! 01's two methods for a legal table, apart from the definition, to time the library against.
 
 use crate::reference::{Link, Plan, Table};
 use std::cmp::Reverse;

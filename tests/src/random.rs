@@ -4,6 +4,13 @@ pub struct Random {
     state: u64,
 }
 
+/// Runs with so many generators, each from a seed of its own in this series.
+pub fn each_seed(series: u64, count: u64, mut run: impl FnMut(&mut Random)) {
+    for seed in 0..count {
+        run(&mut Random::new(series << 32 | seed));
+    }
+}
+
 impl Random {
     pub fn new(seed: u64) -> Random {
         Random { state: seed }

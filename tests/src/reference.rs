@@ -52,6 +52,10 @@ pub enum Behind {
     Anything,
 }
 
+impl Behind {
+    pub const BOTH: [Behind; 2] = [Behind::Nothing, Behind::Anything];
+}
+
 pub const MOST_PROBES: usize = 256;
 pub const MOST_LINKS: usize = 2048;
 pub const CLOSING: &[u8] = b"ffff\n";
@@ -240,7 +244,8 @@ pub fn write_table(given: Slices, out: &mut [u8]) -> Result<usize, u8> {
     put_text(&table_of_slices(given)?.text(), out)
 }
 
-fn put_text(text: &[u8], out: &mut [u8]) -> Result<usize, u8> {
+/// Fills `out` from its start and answers the length; 8 where it is too short.
+pub fn put_text(text: &[u8], out: &mut [u8]) -> Result<usize, u8> {
     out.get_mut(..text.len()).ok_or(8)?.copy_from_slice(text);
     Ok(text.len())
 }
@@ -338,11 +343,16 @@ pub fn fill_plan_and_work(
     Ok(plan)
 }
 
+/// What a program prints for a refusal.
+pub fn refusal_line(refusal: u8) -> Vec<u8> {
+    format!("e{refusal:03}\n").into_bytes()
+}
+
 /// The plan program's whole output for an input.
 pub fn plan_output(text: &[u8]) -> Vec<u8> {
     match table_of_text(text, Behind::Nothing) {
         Ok(table) => plan(&table).text(&table),
-        Err(refusal) => format!("e{refusal:03}\n").into_bytes(),
+        Err(refusal) => refusal_line(refusal),
     }
 }
 

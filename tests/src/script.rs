@@ -1,9 +1,8 @@
-//! The second implementation of the script program, written from document 01 alone: bytes in,
-//! bytes out.
+//! The second implementation of the script program, from document 01 alone: bytes in, bytes out.
 
 use crate::ends::Entry;
 use crate::fleet::{Site, BYTES};
-use crate::reference::{table_of_text, text_length, Behind, Table};
+use crate::reference::{put_text, refusal_line, table_of_text, text_length, Behind, Table};
 
 /// The entries of its log.
 pub const LOG: usize = 1024;
@@ -18,10 +17,6 @@ pub struct Script {
     /// The bytes of a line that is not closed yet.
     pub held: Vec<u8>,
     pub printed: Vec<u8>,
-}
-
-fn refusal_line(refusal: u8) -> Vec<u8> {
-    format!("e{refusal:03}\n").into_bytes()
 }
 
 fn entry_line(entry: Entry) -> Vec<u8> {
@@ -105,7 +100,5 @@ pub fn text(input: &[u8], out: &mut [u8]) -> Result<usize, u8> {
     if out.len() < room_for(input.len()) {
         return Err(8);
     }
-    let printed = output(input);
-    out[..printed.len()].copy_from_slice(&printed);
-    Ok(printed.len())
+    put_text(&output(input), out)
 }

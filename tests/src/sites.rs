@@ -130,6 +130,20 @@ pub fn hubs(probes: u16, hubs: u16) -> Table {
     site(&links, &vec![0; probes.into()])
 }
 
+/// The largest site whose first eight probes are joined to all others; costs and needs are 0.
+pub fn largest_hubs() -> Table {
+    let mut table = hubs(MOST_PROBES as u16, 9);
+    table.links.truncate(MOST_LINKS);
+    table
+}
+
+/// Gives the table costs below this, and each probe a need of half its links.
+pub fn half_needed(mut table: Table, costs: usize, random: &mut Random) -> Table {
+    set_costs(&mut table, || random.below(costs) as u16);
+    set_needs(&mut table, |_, degree| degree / 2);
+    table
+}
+
 /// So many of all pairs of probes, in rising order, at cost 0.
 fn pairs(probes: usize, links: usize, random: &mut Random) -> Vec<Link> {
     let mut left = probes * (probes - 1) / 2;
@@ -291,6 +305,12 @@ pub struct Numbers {
     pub lent: [usize; 4],
 }
 
+impl AsMut<Numbers> for Numbers {
+    fn as_mut(&mut self) -> &mut Numbers {
+        self
+    }
+}
+
 impl Numbers {
     pub fn of(table: &Table) -> Numbers {
         let of_links = |number: fn(&Link) -> u16| table.links.iter().map(number).collect();
@@ -309,6 +329,23 @@ impl Numbers {
         }
     }
 
+    /// The table damaged so many times, and often its counts or the lengths of its slices too.
+    pub fn damaged(table: &Table, times: usize, random: &mut Random) -> Numbers {
+        let mut damaged = table.clone();
+        for _ in 0..times {
+            damage_table(&mut damaged, random);
+        }
+        let mut numbers = Numbers::of(&damaged);
+        if random.one_in(3) {
+            numbers.damage_counts(random);
+        }
+        let right = [table.needs.len(), table.links.len()];
+        let told = [numbers.probes.into(), numbers.links.into()];
+        let [probes, links] = random.pick(&[right, told]);
+        numbers.lend(lengths(probes, links, random), random);
+        numbers
+    }
+
     /// Lends so many entries of each; those beyond the table's own are random.
     pub fn lend(&mut self, lengths: [usize; 4], random: &mut Random) {
         for (entries, length) in self.entries.iter_mut().zip(lengths) {
@@ -319,8 +356,20 @@ impl Numbers {
         self.lent = lengths;
     }
 
+    /// Lends up to two entries more than the table's own.
+    pub fn lend_longer(&mut self, random: &mut Random) {
+        let [needs, links, ..] = self.lent;
+        let (links, needs) = (links + random.below(3), needs + random.below(3));
+        self.lend([needs, links, links, links], random);
+    }
+
+    pub fn set_link(&mut self, place: usize, low: u16, high: u16) {
+        self.entries[1][place] = low;
+        self.entries[2][place] = high;
+    }
+
     /// Changes one of the counts.
-    pub fn damage_counts(&mut self, random: &mut Random) {
+    fn damage_counts(&mut self, random: &mut Random) {
         let count = match random.one_in(2) {
             true => &mut self.probes,
             false => &mut self.links,

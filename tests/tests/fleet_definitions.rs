@@ -1,40 +1,22 @@
-//! The second implementations of a fleet and of the script program, by 01's samples and beside
-//! that of one end. The library is not called.
+//! Without the library: the second implementations of fleet and script, by 01's samples.
 
-use planner_tests::air::{any_mix, opening, Air};
+use planner_tests::channel::{any_mix, opening, Channel};
 use planner_tests::ends::{self, Entry, Frame, Kind, LINE};
-use planner_tests::events::any_table;
+use planner_tests::events::each_table;
 use planner_tests::fleet::{changes, own_record, Site, BYTES};
-use planner_tests::random::Random;
 use planner_tests::reference::Table;
+use planner_tests::samples::{self, input, M11, M11_PRINTED, M4, M4_PRINTED};
 use planner_tests::script::{output, Script};
-use planner_tests::sites::{Numbers, M2, MARKED};
+use planner_tests::sites::Numbers;
 
 #[test]
 fn m4() {
-    let script = "00000100000000\n01000100000001\n00000100010001\n01000100010000\n";
-    let printed = "0000000000ffff\n0001020000ffff\n0001000000ffff\n0000020000ffff\n0100000004\n";
-    let input = [MARKED[3], script].concat();
-    assert_eq!(output(input.as_bytes()), printed.as_bytes());
+    assert_eq!(output(&input(3, &M4)), samples::text(&M4_PRINTED));
 }
 
 #[test]
 fn m11() {
-    let script = [
-        "00000100000000\n01000100000001\n",
-        "00000100010001\n01000100010002\n",
-        "00000100020002\n01000100020001\n02000100010000\n",
-        "00000100030003\n01000100030002\n02000100020003\n",
-    ];
-    let printed = [
-        "0000000000ffff\n0001020000ffff\n",
-        "0001000001ffff\n0002020001ffff\n",
-        "0002000001ffff\n00010300010000\n0000050000ffff\n",
-        "0003000002ffff\n0002040002ffff\n0003050002ffff\n",
-        "010000000b\n",
-    ];
-    let input = [M2, &script.concat()].concat();
-    assert_eq!(output(input.as_bytes()), printed.concat().as_bytes());
+    assert_eq!(output(&input(1, &M11)), samples::text(&M11_PRINTED));
 }
 
 /// What the end that opens or hears does alone, and its record after.
@@ -52,13 +34,11 @@ fn alone(table: &Table, line: &[u8], record: &[u8]) -> (Result<Entry, u8>, Vec<u
 #[test]
 fn fleet_beside_its_ends() {
     let mut accepted = 0;
-    for seed in 0..1_000 {
-        let random = &mut Random::new(90 << 32 | seed);
-        let table = any_table(random);
+    each_table(90, 1_000, |table, random| {
         let site = Site::of_legal(table.clone());
         let mut record = vec![0; BYTES * table.links.len()];
-        let mut air = Air::over(&table, any_mix(random));
-        for line in (0..60).flat_map(|_| air.next(random)) {
+        let mut channel = Channel::over(table, any_mix(random));
+        for line in (0..60).flat_map(|_| channel.next(random)) {
             let before = record.clone();
             let answer = site.event(&mut record, &line, 0, 1);
             let Ok(entry) = answer else {
@@ -66,31 +46,29 @@ fn fleet_beside_its_ends() {
                 continue;
             };
             assert_eq!(changes(&before, &record), entry.what.changes());
-            let own = own_record(&table, entry.probe, &record);
-            assert_eq!(alone(&table, &line, &before), (answer, own));
+            let own = own_record(table, entry.probe, &record);
+            assert_eq!(alone(table, &line, &before), (answer, own));
             accepted += 1;
         }
-    }
+    });
     assert!(accepted > 30_000, "{accepted}");
 }
 
 #[test]
 fn script_counts_the_bytes_that_differ() {
     let mut changed = 0;
-    for seed in 0..300 {
-        let random = &mut Random::new(92 << 32 | seed);
-        let table = any_table(random);
+    each_table(92, 300, |table, random| {
         let mut script = Script::fresh(table.clone());
-        let mut air = Air::over(&table, any_mix(random));
+        let mut channel = Channel::over(table, any_mix(random));
         let mut differ = 0;
-        for line in (0..300).flat_map(|_| air.next(random)) {
+        for line in (0..300).flat_map(|_| channel.next(random)) {
             let before = script.record.clone();
             script.line(&line).ok();
             differ += changes(&before, &script.record);
         }
         assert_eq!(script.changed, differ);
         changed += differ;
-    }
+    });
     assert!(changed > 5_000, "{changed}");
 }
 
@@ -102,7 +80,7 @@ fn sendable(table: &Table, record: &[u8]) -> Vec<Vec<u8>> {
         lines.push(opening(table, probe).line());
         let own = own_record(table, probe, record);
         for link in 0..numbers.links {
-            for kind in [Kind::Offer, Kind::Refusal] {
+            for kind in Kind::BOTH {
                 let mut line = vec![0; LINE];
                 let asked = ends::ask(numbers.slices(), probe, &own, kind, link, &mut line);
                 lines.extend((asked == Ok(true)).then_some(line));
@@ -116,26 +94,24 @@ fn sendable(table: &Table, record: &[u8]) -> Vec<Vec<u8>> {
 #[test]
 fn finished_as_defined() {
     let mut times = [0, 0];
-    for seed in 0..600 {
-        let random = &mut Random::new(91 << 32 | seed);
-        let table = any_table(random);
+    each_table(91, 600, |table, random| {
         if table.links.len() > 40 {
-            continue;
+            return;
         }
         let site = Site::of_legal(table.clone());
         let mut record = vec![0; BYTES * table.links.len()];
-        let mut air = Air::over(&table, any_mix(random));
+        let mut channel = Channel::over(table, any_mix(random));
         let events = random.below(300);
-        for line in (0..events).flat_map(|_| air.next(random)) {
+        for line in (0..events).flat_map(|_| channel.next(random)) {
             site.event(&mut record, &line, 0, 1).ok();
         }
-        let alters = sendable(&table, &record).iter().any(|line| {
+        let alters = sendable(table, &record).iter().any(|line| {
             let mut after = record.clone();
             site.event(&mut after, line, 0, 1).expect("may be sent");
             after != record
         });
         assert_eq!(site.finished(&record), !alters);
         times[usize::from(alters)] += 1;
-    }
+    });
     assert!(times.iter().all(|&times| times > 50), "{times:?}");
 }

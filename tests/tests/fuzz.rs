@@ -1,6 +1,6 @@
-//! Both programs' functions on random bytes, mutated inputs and truncations, by a fixed number of cases: none differs from the second implementation.
+//! Both programs' functions on millions of random, mutated and cut inputs.
 
-use planner_tests::air::{any_mix, any_script};
+use planner_tests::channel::{any_mix, any_script};
 use planner_tests::compare;
 use planner_tests::compare_script;
 use planner_tests::random::Random;

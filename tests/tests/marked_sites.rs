@@ -37,7 +37,7 @@ fn marked_texts_are_read() {
         let expected = site(place);
         let fit = Numbers::of(&expected).lent;
         for lengths in [fit, fit.map(|length| length + 3)] {
-            for behind in [Behind::Nothing, Behind::Anything] {
+            for behind in Behind::BOTH {
                 let read = compare::read(text.as_bytes(), behind, lengths, &mut random);
                 assert_eq!(read.as_ref(), Ok(&expected));
             }
@@ -112,7 +112,7 @@ fn answers_about_m2_as_numbers() {
             highs: &mut [9; 3],
             costs: &mut [9; 3],
         };
-        face::read_table(text, Behind::Nothing, lent)
+        face::read(text, Behind::Nothing, lent)
     };
     assert_eq!(read(&out), 0x0001_0001_0004_0003);
     assert_eq!(read(&out[..76]), 6);

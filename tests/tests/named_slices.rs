@@ -1,6 +1,7 @@
 //! The named bad tables in slices, each with its refusal, for checking, writing and planning.
 
 use planner_tests::compare;
+use planner_tests::faults::{each_choice, of_table};
 use planner_tests::random::Random;
 use planner_tests::reference::{text_length, Plan};
 use planner_tests::sites::{marked, Numbers, M2};
@@ -67,11 +68,6 @@ fn accepted(numbers: Numbers) {
         assert!(planned(&numbers, longer).is_ok());
     }
     refused_for_short_bytes(&numbers);
-}
-
-fn set_link(numbers: &mut Numbers, place: usize, low: u16, high: u16) {
-    numbers.entries[1][place] = low;
-    numbers.entries[2][place] = high;
 }
 
 /// Lends slices of other lengths; entries beyond the table's own are random.
@@ -142,19 +138,19 @@ fn ends_of_a_link() {
         (65_534, 65_535),
         (65_535, 0),
     ] {
-        refused(m2_with(|m2| set_link(m2, 2, low, high)), 4);
-        refused(m2_with(|m2| set_link(m2, 0, low, high)), 4);
+        refused(m2_with(|m2| m2.set_link(2, low, high)), 4);
+        refused(m2_with(|m2| m2.set_link(0, low, high)), 4);
     }
 }
 
 #[test]
 fn links_equal_or_falling() {
     for (low, high) in [(1, 2), (0, 1), (0, 2), (0, 3)] {
-        refused(m2_with(|m2| set_link(m2, 2, low, high)), 5);
+        refused(m2_with(|m2| m2.set_link(2, low, high)), 5);
     }
-    refused(m2_with(|m2| set_link(m2, 0, 1, 2)), 5);
-    refused(m2_with(|m2| set_link(m2, 0, 1, 3)), 5);
-    accepted(m2_with(|m2| set_link(m2, 2, 1, 3)));
+    refused(m2_with(|m2| m2.set_link(0, 1, 2)), 5);
+    refused(m2_with(|m2| m2.set_link(0, 1, 3)), 5);
+    accepted(m2_with(|m2| m2.set_link(2, 1, 3)));
     // More links than there are pairs is no fault of the counts.
     let many = m2_with(|m2| {
         m2.lent = [4, 7, 7, 7];
@@ -179,43 +175,30 @@ fn need_equal_to_the_links_and_one_above() {
 fn entries_beyond_the_table_count_for_nothing() {
     // The third link falls and the fourth need is above, but both are beyond the counts.
     let fewer = m2_with(|m2| {
-        set_link(m2, 2, 0, 0);
+        m2.set_link(2, 0, 0);
         m2.entries[0][3] = 9;
         (m2.probes, m2.links) = (3, 2);
     });
     accepted(fewer);
 }
 
-/// A change that puts a fault in, and the fault's refusal.
-type Fault = (fn(&mut Numbers), u8);
-
 #[test]
 fn order_8_3_4_5_7() {
-    // 5 stands before 4 here, for it is at an earlier link.
-    let faults: [Fault; 5] = [
-        (|m2| m2.lent[3] = 2, 8),
-        (|m2| m2.probes = 0, 3),
-        (|m2| set_link(m2, 1, 0, 1), 5),
-        (|m2| set_link(m2, 2, 2, 2), 4),
-        (|m2| m2.entries[0][0] = 9, 7),
-    ];
-    // Of any faults together the first in the list decides.
-    for chosen in 1_u32..32 {
-        let held = (0..5).filter(|fault| chosen >> fault & 1 == 1);
-        let damaged = m2_with(|m2| held.clone().for_each(|fault| faults[fault].0(m2)));
-        refused(damaged, faults[chosen.trailing_zeros() as usize].1);
-    }
+    each_choice(&of_table(), m2, |damaged, refusals| match refusals {
+        [] => accepted(damaged),
+        [first, ..] => refused(damaged, *first),
+    });
 }
 
 #[test]
 fn order_of_4_and_5_link_by_link() {
-    let both_in_one = m2_with(|m2| set_link(m2, 2, 0, 0));
+    let both_in_one = m2_with(|m2| m2.set_link(2, 0, 0));
     refused(both_in_one, 4);
-    let high_and_falling = m2_with(|m2| set_link(m2, 2, 0, 4));
+    let high_and_falling = m2_with(|m2| m2.set_link(2, 0, 4));
     refused(high_and_falling, 4);
     let ends_first = m2_with(|m2| {
-        set_link(m2, 0, 0, 0);
-        set_link(m2, 2, 1, 2);
+        m2.set_link(0, 0, 0);
+        m2.set_link(2, 1, 2);
     });
     refused(ends_first, 4);
 }

@@ -28,7 +28,7 @@ fn refusal_printed(text: &[u8], refusal: u8) {
 /// Both readings refuse the text, whether or not the slices are long enough.
 #[track_caller]
 fn refused(text: impl AsRef<[u8]>, refusal: u8) {
-    for behind in [Behind::Nothing, Behind::Anything] {
+    for behind in Behind::BOTH {
         for lengths in [[0, 0, 0, 0], FIT, [300, 2100, 2100, 2100], [9, 1, 2, 3]] {
             assert_eq!(read(text.as_ref(), behind, lengths), Err(refusal));
         }
@@ -229,7 +229,7 @@ fn need_one_above_the_links() {
 #[test]
 fn slices_too_short_or_unequal() {
     let text = M2.as_bytes();
-    for behind in [Behind::Nothing, Behind::Anything] {
+    for behind in Behind::BOTH {
         for (which, lengths) in [[3, 3, 3, 3], [4, 2, 3, 3], [4, 3, 2, 3], [4, 3, 3, 2]]
             .into_iter()
             .enumerate()
@@ -330,7 +330,7 @@ fn every_digit_at_every_place() {
         for digit in *b"0123456789abcdef" {
             let mut text = M2.as_bytes().to_vec();
             text[place] = digit;
-            for behind in [Behind::Nothing, Behind::Anything] {
+            for behind in Behind::BOTH {
                 let read = read(&text, behind, FIT);
                 assert!(old != digit || read == Ok(m2()));
                 accepted += read.is_ok() as usize;

@@ -1,5 +1,4 @@
-//! Sites at the ends of what a table can be: no links, no spare, nothing but spare, long chains of
-//! displaced offers, and probes with very many links.
+//! Sites at the limits of a table: no links, no spare, all spare, long chains, very many links.
 
 use planner_tests::compare;
 use planner_tests::random::Random;

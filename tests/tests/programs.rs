@@ -1,12 +1,12 @@
-//! The built programs, each fed through a pipe. They stand in PLANNER_BIN_DIR, else in
-//! ../target/bin.
+//! The built programs, fed through a pipe; they stand in PLANNER_BIN_DIR, else in ../target/bin.
 
-use planner_tests::air::{any_mix, any_script};
+use planner_tests::channel::{any_mix, any_script};
 use planner_tests::events::any_table;
 use planner_tests::random::Random;
 use planner_tests::reference::{plan_output, Table};
+use planner_tests::samples::{self, input, M4, M4_PRINTED};
 use planner_tests::script;
-use planner_tests::sites::{damage_text, legal_of_size, marked, M2, MARKED};
+use planner_tests::sites::{damage_text, legal_of_size, marked, M2};
 use std::env;
 use std::fs;
 use std::io::{ErrorKind, Read, Write};
@@ -110,13 +110,10 @@ fn compare_plan(input: &[u8], sizes: &[usize]) {
     assert!(run("plan", input, sizes) == plan_output(input));
 }
 
-const M4: &str = "00000100000000\n01000100000001\n00000100010001\n01000100010000\n";
-
 #[test]
 fn samples() {
-    let input = [MARKED[3], M4].concat();
-    let expected = "0000000000ffff\n0001020000ffff\n0001000000ffff\n0000020000ffff\n0100000004\n";
-    assert_eq!(run("script", input.as_bytes(), &WHOLE), expected.as_bytes());
+    let expected = samples::text(&M4_PRINTED);
+    assert_eq!(run("script", &input(3, &M4), &WHOLE), expected);
     let expected = "000100020000000a\n000000010005\n000200030005\nffff\n";
     assert_eq!(run("plan", M2.as_bytes(), &WHOLE), expected.as_bytes());
 }
@@ -132,13 +129,13 @@ fn empty_input() {
 /// Byte by byte, with a pause after each.
 #[test]
 fn slow_input() {
-    let input = [MARKED[3], M4, "\n0000010000000g\n0000010000"].concat();
+    let input = [&input(3, &M4), &b"\n0000010000000g\n0000010000"[..]].concat();
     for (name, expected) in [
-        ("script", script::output(input.as_bytes())),
-        ("plan", plan_output(input.as_bytes())),
+        ("script", script::output(&input)),
+        ("plan", plan_output(&input)),
     ] {
         let mut program = Program::start(name);
-        for byte in input.as_bytes() {
+        for byte in &input {
             program.feed(&[*byte]);
             thread::sleep(Duration::from_micros(100));
         }

@@ -1,7 +1,7 @@
 //! Random and damaged tables in slices, checked, planned and written by both.
 
 use planner_tests::compare;
-use planner_tests::random::Random;
+use planner_tests::random::{each_seed, Random};
 use planner_tests::reference::{text_length, Behind};
 use planner_tests::sites::{self, Numbers};
 
@@ -49,43 +49,29 @@ fn check_plan_and_write(numbers: &Numbers, random: &mut Random) -> (Result<(), u
 #[test]
 fn legal_tables() {
     let (mut fine, mut writes) = (0, 0);
-    for seed in 0..CASES {
-        let mut random = Random::new(4 << 32 | seed);
-        let table = sites::legal(&mut random);
+    each_seed(4, CASES, |random| {
+        let table = sites::legal(random);
         let (probes, links) = (table.needs.len(), table.links.len());
         let mut numbers = Numbers::of(&table);
-        let lengths = sites::lengths(probes, links, &mut random);
-        numbers.lend(lengths, &mut random);
-        let (checked, written) = check_plan_and_write(&numbers, &mut random);
+        numbers.lend(sites::lengths(probes, links, random), random);
+        let (checked, written) = check_plan_and_write(&numbers, random);
         assert!(matches!(checked, Ok(()) | Err(8)));
         assert!(checked.is_ok() || !written);
         fine += checked.is_ok() as usize;
         writes += written as usize;
-    }
+    });
     assert!(fine > 6_000 && writes > 3_000, "{fine} {writes}");
 }
 
 #[test]
 fn damaged_tables() {
     let mut tally = [0; 9];
-    for seed in 0..CASES {
-        let mut random = Random::new(5 << 32 | seed);
-        let mut table = sites::legal(&mut random);
-        for _ in 0..random.below(3) {
-            sites::damage_table(&mut table, &mut random);
-        }
-        let mut numbers = Numbers::of(&table);
-        if random.one_in(3) {
-            numbers.damage_counts(&mut random);
-        }
-        let true_counts = (table.needs.len(), table.links.len());
-        let told_counts = (numbers.probes.into(), numbers.links.into());
-        let (probes, links) = random.pick(&[true_counts, told_counts]);
-        let lengths = sites::lengths(probes, links, &mut random);
-        numbers.lend(lengths, &mut random);
-        let (checked, _) = check_plan_and_write(&numbers, &mut random);
+    each_seed(5, CASES, |random| {
+        let (table, times) = (sites::legal(random), random.below(3));
+        let numbers = Numbers::damaged(&table, times, random);
+        let (checked, _) = check_plan_and_write(&numbers, random);
         tally[checked.err().unwrap_or(0) as usize] += 1;
-    }
+    });
     assert!(
         [0, 3, 4, 5, 7, 8].iter().all(|&answer| tally[answer] > 300),
         "{tally:?}"

@@ -1,8 +1,7 @@
-//! Random and damaged texts, read both ways and planned by the library and by the second
-//! implementation.
+//! Random and damaged texts, read both ways and planned, beside the second implementation.
 
 use planner_tests::compare;
-use planner_tests::random::Random;
+use planner_tests::random::{each_seed, Random};
 use planner_tests::reference::{plan_output, Behind, Table};
 use planner_tests::sites::{self, Numbers};
 
@@ -22,7 +21,7 @@ fn print(text: &[u8], random: &mut Random) {
 /// Prints the text's plan, reads the text both ways and writes what was read back.
 fn print_and_read(text: &[u8], lengths: [usize; 4], random: &mut Random, tally: &mut Tally) {
     print(text, random);
-    for behind in [Behind::Nothing, Behind::Anything] {
+    for behind in Behind::BOTH {
         let read = compare::read(text, behind, lengths, random);
         tally[read.as_ref().err().copied().unwrap_or(0) as usize] += 1;
         let Ok(table) = read else {
@@ -44,12 +43,11 @@ fn lengths(table: &Table, random: &mut Random) -> [usize; 4] {
 #[test]
 fn legal_texts() {
     let mut tally = Tally::default();
-    for seed in 0..CASES {
-        let mut random = Random::new(seed);
-        let table = sites::legal(&mut random);
-        let lengths = lengths(&table, &mut random);
-        print_and_read(&table.text(), lengths, &mut random, &mut tally);
-    }
+    each_seed(0, CASES, |random| {
+        let table = sites::legal(random);
+        let lengths = lengths(&table, random);
+        print_and_read(&table.text(), lengths, random, &mut tally);
+    });
     assert_eq!(tally[1..8], [0; 7]);
     assert!(tally[0] > 10_000 && tally[8] > 1_000, "{tally:?}");
 }
@@ -57,15 +55,14 @@ fn legal_texts() {
 #[test]
 fn texts_of_damaged_tables() {
     let mut tally = Tally::default();
-    for seed in 0..CASES {
-        let mut random = Random::new(1 << 32 | seed);
-        let mut table = sites::legal(&mut random);
+    each_seed(1, CASES, |random| {
+        let mut table = sites::legal(random);
         for _ in 0..1 + random.below(3) {
-            sites::damage_table(&mut table, &mut random);
+            sites::damage_table(&mut table, random);
         }
-        let lengths = lengths(&table, &mut random);
-        print_and_read(&table.text(), lengths, &mut random, &mut tally);
-    }
+        let lengths = lengths(&table, random);
+        print_and_read(&table.text(), lengths, random, &mut tally);
+    });
     assert!(
         [4, 5, 7].iter().all(|&refusal| tally[refusal] > 1_000),
         "{tally:?}"
@@ -75,34 +72,32 @@ fn texts_of_damaged_tables() {
 #[test]
 fn damaged_texts() {
     let mut tally = Tally::default();
-    for seed in 0..CASES {
-        let mut random = Random::new(2 << 32 | seed);
-        let mut table = sites::legal(&mut random);
+    each_seed(2, CASES, |random| {
+        let mut table = sites::legal(random);
         if random.one_in(4) {
-            sites::damage_table(&mut table, &mut random);
+            sites::damage_table(&mut table, random);
         }
         let mut text = table.text();
         for _ in 0..1 + random.below(3) {
-            sites::damage_text(&mut text, &mut random);
+            sites::damage_text(&mut text, random);
         }
-        let lengths = lengths(&table, &mut random);
-        print_and_read(&text, lengths, &mut random, &mut tally);
-    }
+        let lengths = lengths(&table, random);
+        print_and_read(&text, lengths, random, &mut tally);
+    });
     assert!(tally.iter().all(|&times| times > 100), "{tally:?}");
 }
 
 #[test]
 fn texts_of_any_bytes() {
     let mut tally = Tally::default();
-    for seed in 0..CASES {
-        let mut random = Random::new(3 << 32 | seed);
+    each_seed(3, CASES, |random| {
         let alphabet = random.pick::<&[u8]>(&[b"01f\n", b"000000000000\n", b"0fF \n\r\0\xff"]);
         let header = random.pick::<&[u8]>(&[b"", b"000100010000\n", b"ffff00020001\n"]);
         let mut text = header.to_vec();
         for _ in 0..random.below(60) {
             text.push(random.pick(alphabet));
         }
-        print_and_read(&text, [2, 1, 1, 1], &mut random, &mut tally);
-    }
+        print_and_read(&text, [2, 1, 1, 1], random, &mut tally);
+    });
     assert!(tally[1] > 1_000, "{tally:?}");
 }

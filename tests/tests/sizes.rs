@@ -6,7 +6,6 @@ use planner_tests::reference::{Behind, Link, Table};
 use planner_tests::sites::{legal_of_size, Numbers};
 
 const LENT: [usize; 4] = [300, 2100, 2100, 2100];
-const BOTH: [Behind; 2] = [Behind::Nothing, Behind::Anything];
 
 /// The legal table is read from its text, planned and written back the same, with slices that
 /// just fit and with longer ones.
@@ -14,7 +13,7 @@ const BOTH: [Behind; 2] = [Behind::Nothing, Behind::Anything];
 fn round_trip(table: &Table, random: &mut Random) {
     let text = table.text();
     let mut numbers = Numbers::of(table);
-    for behind in BOTH {
+    for behind in Behind::BOTH {
         for lengths in [numbers.lent, LENT] {
             assert_eq!(
                 compare::read(&text, behind, lengths, random).as_ref(),
@@ -39,7 +38,7 @@ fn round_trip(table: &Table, random: &mut Random) {
 #[track_caller]
 fn refused_by_3(table: &Table, random: &mut Random) {
     let text = table.text();
-    for behind in BOTH {
+    for behind in Behind::BOTH {
         assert_eq!(compare::read(&text, behind, LENT, random), Err(3));
         // The header alone decides.
         assert_eq!(compare::read(&text[..13], behind, LENT, random), Err(3));
@@ -67,7 +66,7 @@ fn longest_text() {
 fn longest_text_without_its_last_bytes() {
     let mut random = Random::new(7);
     let text = legal_of_size(256, 2048, &mut random).text();
-    for behind in BOTH {
+    for behind in Behind::BOTH {
         for (length, refusal) in [(27_921, 6), (27_917, 6), (27_916, 1), (27_904, 1)] {
             let read = compare::read(&text[..length], behind, LENT, &mut random);
             assert_eq!(read, Err(refusal));
@@ -124,7 +123,7 @@ fn need_equal_to_the_links_and_one_above() {
     let mut random = Random::new(11);
     round_trip(&star(1), &mut random);
     let above = star(2);
-    for behind in BOTH {
+    for behind in Behind::BOTH {
         let read = compare::read(&above.text(), behind, LENT, &mut random);
         assert_eq!(read, Err(7));
     }

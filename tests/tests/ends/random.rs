@@ -1,46 +1,19 @@
 //! Random tables, records and frames, legal and damaged, for each call of an end.
 
-use crate::KINDS;
 use planner_tests::compare_ends::End;
-use planner_tests::ends::{What, LINE};
+use planner_tests::ends::{Kind, What, LINE};
 use planner_tests::events::{
-    any_frame, any_probe, any_room, any_table, befall, damage_frame, damage_line, damage_record,
-    fresh, own_links, reached,
+    any_frame, any_probe, any_room, befall, damage_record, damaged_line, each_table, fresh,
+    of_state, own_links, reached,
 };
 use planner_tests::random::Random;
 use planner_tests::reference::Table;
-use planner_tests::sites::{self, Numbers};
+use planner_tests::sites::Numbers;
+use planner_tests::tally::Tally;
 
 /// Tables in a test, and frames heard for each.
 const TABLES: u64 = 4_000;
 const FRAMES: usize = 12;
-
-/// How often hearing was refused by each number, and how often each code came.
-#[derive(Debug, Default)]
-struct Tally {
-    refused: [usize; 27],
-    befell: [usize; 7],
-}
-
-impl Tally {
-    fn count(&mut self, answer: Result<What, u8>) {
-        match answer {
-            Ok(what) => self.befell[what.numbers()[0] as usize] += 1,
-            Err(number) => self.refused[usize::from(number)] += 1,
-        }
-    }
-
-    /// Each of these numbers came often.
-    #[track_caller]
-    fn assert_often(&self, numbers: &[usize]) {
-        let often = |&number: &usize| self.refused[number] > 300;
-        assert!(numbers.iter().all(often), "{self:?}");
-    }
-
-    fn answers(&self) -> usize {
-        self.refused.iter().chain(&self.befell).sum()
-    }
-}
 
 /// A link's place: often an own one, else any or none.
 fn any_link(table: &Table, probe: u16, random: &mut Random) -> u16 {
@@ -59,16 +32,11 @@ fn ask(end: &mut End, table: &Table, random: &mut Random) {
     let longer = LINE + random.below(20);
     let length = random.pick(&[LINE, LINE, LINE + 1, longer, LINE - 1, 0]);
     let rests = end.rests(link);
-    for kind in KINDS {
+    for kind in Kind::BOTH {
         let asked = end.ask(kind, link, length);
         let expected = if length < LINE { Some(8) } else { rests.err() };
         assert_eq!(asked.err(), expected);
     }
-}
-
-/// A refusal for the table or the record, which every call makes.
-fn of_state(refusal: Option<u8>) -> Option<u8> {
-    refusal.filter(|number| matches!(number, 3..=8 | 20..=22))
 }
 
 /// Asks, opens and hears the line, each on the same record, and leaves that.
@@ -85,51 +53,40 @@ fn call(end: &mut End, line: &[u8], table: &Table, random: &mut Random) -> Resul
 
 /// A frame's line: right, or damaged in its numbers, its bytes or both.
 fn any_line(table: &Table, probe: u16, random: &mut Random) -> Vec<u8> {
-    let mut frame = any_frame(table, probe, random);
-    let (in_frame, in_line) = random.pick(&[(0, 0), (1, 0), (2, 0), (0, 1), (1, 1), (0, 2)]);
-    for _ in 0..in_frame {
-        damage_frame(&mut frame, table, random);
-    }
-    let mut line = frame.line();
-    for _ in 0..in_line {
-        damage_line(&mut line, random);
-    }
-    line
+    let frame = any_frame(table, probe, random);
+    let damages = random.pick(&[[0, 0], [1, 0], [2, 0], [0, 1], [1, 1], [0, 2]]);
+    damaged_line(frame, damages, table, random)
 }
 
 #[test]
 fn records_reached_and_frames_that_may_arrive() {
     let mut tally = Tally::default();
-    for seed in 0..TABLES {
-        let random = &mut Random::new(7 << 32 | seed);
-        let table = any_table(random);
-        let probe = any_probe(&table, random);
-        let mut end = fresh(&table, probe, random);
+    each_table(7, TABLES, |table, random| {
+        let probe = any_probe(table, random);
+        let mut end = fresh(table, probe, random);
         for _ in 0..FRAMES {
-            let line = any_frame(&table, probe, random).line();
-            tally.count(call(&mut end, &line, &table, random));
-            tally.count(befall(&mut end, &table, random));
+            let line = any_frame(table, probe, random).line();
+            tally.count(call(&mut end, &line, table, random));
+            tally.count(befall(&mut end, table, random));
         }
-    }
+    });
     assert_eq!(tally.refused[..24], [0; 24]);
-    assert!(tally.befell.iter().all(|&times| times > 300), "{tally:?}");
     tally.assert_often(&[24, 25, 26]);
+    tally.assert_each_befell(300);
     assert!(tally.answers() > 50_000);
 }
 
 #[test]
 fn damaged_frames() {
     let mut tally = Tally::default();
-    for seed in 0..TABLES {
-        let random = &mut Random::new(8 << 32 | seed);
-        let table = any_table(random);
-        let probe = any_probe(&table, random);
-        let mut end = reached(&table, probe, random);
+    each_table(8, TABLES, |table, random| {
+        let probe = any_probe(table, random);
+        let mut end = reached(table, probe, random);
         for _ in 0..FRAMES {
-            let line = any_line(&table, probe, random);
-            tally.count(call(&mut end, &line, &table, random));
+            let line = any_line(table, probe, random);
+            tally.count(call(&mut end, &line, table, random));
         }
-    }
+    });
     tally.assert_often(&[1, 2, 9, 23, 24, 25, 26]);
     assert!(tally.answers() > 30_000);
 }
@@ -137,63 +94,44 @@ fn damaged_frames() {
 #[test]
 fn damaged_records() {
     let mut tally = Tally::default();
-    for seed in 0..TABLES {
-        let random = &mut Random::new(9 << 32 | seed);
-        let table = any_table(random);
-        let probe = any_probe(&table, random);
-        let mut end = reached(&table, probe, random);
+    each_table(9, TABLES, |table, random| {
+        let probe = any_probe(table, random);
+        let mut end = reached(table, probe, random);
         let record = end.record.clone();
         for _ in 0..FRAMES {
             for _ in 0..1 + random.below(2) {
-                damage_record(&mut end, &table, random);
+                damage_record(&mut end, table, random);
             }
             let line = match random.one_in(2) {
-                true => any_frame(&table, probe, random).line(),
-                false => any_line(&table, probe, random),
+                true => any_frame(table, probe, random).line(),
+                false => any_line(table, probe, random),
             };
-            tally.count(call(&mut end, &line, &table, random));
+            tally.count(call(&mut end, &line, table, random));
             end.record.clone_from(&record);
         }
-    }
+    });
     tally.assert_often(&[1, 2, 9, 20, 21, 22, 23, 24, 25, 26]);
     assert!(tally.answers() > 30_000);
-}
-
-/// Damages the table, its counts or the lengths of its slices; seldom none of them.
-fn damage_slices(end: &mut End, table: &Table, random: &mut Random) {
-    let mut damaged = table.clone();
-    if random.one_in(2) {
-        sites::damage_table(&mut damaged, random);
-    }
-    end.numbers = Numbers::of(&damaged);
-    if random.one_in(3) {
-        end.numbers.damage_counts(random);
-    }
-    let (probes, links) = (end.numbers.probes.into(), end.numbers.links.into());
-    let told = sites::lengths(probes, links, random);
-    let right = sites::lengths(table.needs.len(), table.links.len(), random);
-    end.numbers.lend(random.pick(&[told, right]), random);
 }
 
 #[test]
 fn damaged_tables() {
     let mut tally = Tally::default();
-    for seed in 0..TABLES {
-        let random = &mut Random::new(10 << 32 | seed);
-        let table = any_table(random);
+    each_table(10, TABLES, |table, random| {
         let short = random.short();
-        let probe = any_probe(&table, random);
+        let probe = any_probe(table, random);
         let probe = random.pick(&[probe, probe, probe, table.needs.len() as u16, short]);
-        let mut end = End::fresh(&table, probe);
+        let mut end = End::fresh(table, probe);
         for _ in 0..FRAMES {
-            damage_slices(&mut end, &table, random);
-            let line = any_line(&table, probe, random);
-            tally.count(call(&mut end, &line, &table, random));
+            let times = random.below(2);
+            end.numbers = Numbers::damaged(table, times, random);
+            let line = any_line(table, probe, random);
+            tally.count(call(&mut end, &line, table, random));
             if random.one_in(2) {
-                damage_record(&mut end, &table, random);
+                damage_record(&mut end, table, random);
             }
         }
-    }
+    });
     tally.assert_often(&[3, 4, 5, 7, 8, 20, 21, 24]);
     assert!(tally.answers() > 30_000);
 }

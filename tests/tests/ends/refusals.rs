@@ -1,14 +1,24 @@
 //! Bad records, frames and links, each with its refusal, and the order of refusals.
 
-use crate::{line, m2_end, m2_end_with, offer, refusal, without_spare, KINDS};
+use crate::{m2_end, m2_end_with, without_spare};
 use planner_tests::compare_ends::End;
 use planner_tests::ends::{Frame, Kind, What, LINE};
-use planner_tests::sites::marked;
+use planner_tests::faults::{each_choice, first_but, of_line, of_table, Fault};
+use planner_tests::lines::{self, line, offer, refusal};
+use planner_tests::sites::{marked, Numbers};
 
 /// What a fresh end makes of a line.
 #[track_caller]
 fn heard(line: &[u8]) -> Result<What, u8> {
     m2_end().hear(line, 1)
+}
+
+/// A fresh end refuses each of the lines.
+#[track_caller]
+fn all_refused(lines: Vec<Vec<u8>>, number: u8) {
+    for line in lines {
+        assert_eq!(heard(&line), Err(number));
+    }
 }
 
 /// The record is turned down by each call.
@@ -18,7 +28,7 @@ fn refused(mut end: End, number: u8) {
     for kind in [1, 2] {
         assert_eq!(end.hear(&line(kind, 2, 1), 1), Err(number));
     }
-    for kind in KINDS {
+    for kind in Kind::BOTH {
         assert_eq!(end.ask(kind, 1, LINE), Err(number));
     }
     assert_eq!(end.rests(1), Err(number));
@@ -28,7 +38,7 @@ fn refused(mut end: End, number: u8) {
 #[track_caller]
 fn accepted(mut end: End) {
     assert!(end.rests(1).is_ok());
-    for kind in KINDS {
+    for kind in Kind::BOTH {
         assert!(end.ask(kind, 1, LINE).is_ok());
     }
     assert!(end.hear(&offer(2, 1), 1).is_ok());
@@ -89,61 +99,28 @@ fn one_standing_or_held_at_spare_0() {
 
 #[test]
 fn line_cut_at_each_byte() {
-    let line = offer(2, 1);
-    assert_eq!(line.len(), LINE);
-    for length in 0..LINE {
-        assert_eq!(heard(&line[..length]), Err(1));
-        assert_eq!(heard(&line[LINE - length..]), Err(1));
-    }
-    assert_eq!(heard(&line), Ok(What::Taken(1)));
+    all_refused(lines::cut(&offer(2, 1)), 1);
+    assert_eq!(heard(&offer(2, 1)), Ok(What::Taken(1)));
 }
 
 #[test]
 fn line_of_15_digits_or_with_bytes_behind() {
-    for place in 0..=LINE {
-        for byte in [b'0', b'f', b'\n', b'\r', b' '] {
-            let mut longer = offer(2, 1);
-            longer.insert(place, byte);
-            assert_eq!(heard(&longer), Err(1));
-        }
-    }
-    assert_eq!(heard(&[offer(2, 1), offer(2, 1)].concat()), Err(1));
-    assert_eq!(heard(&[b'0'; 70_000]), Err(1));
+    all_refused(lines::too_long(&offer(2, 1)), 1);
 }
 
-/// A line feed inside makes the line too short, whatever stands before it.
 #[test]
 fn line_feed_inside() {
-    for place in 0..LINE - 1 {
-        for first in [b'0', b'X'] {
-            let mut line = offer(2, 1);
-            line[0] = first;
-            line[place] = b'\n';
-            assert_eq!(heard(&line), Err(1));
-        }
-    }
+    all_refused(lines::with_line_feed(&offer(2, 1)), 1);
 }
 
 #[test]
 fn line_that_is_not_closed() {
-    for byte in (0..=255).filter(|&byte| byte != b'\n') {
-        let mut line = offer(2, 1);
-        line[LINE - 1] = byte;
-        assert_eq!(heard(&line), Err(1));
-    }
+    all_refused(lines::not_closed(&offer(2, 1)), 1);
 }
 
 #[test]
 fn byte_that_is_no_digit() {
-    let is_digit = |byte: &u8| matches!(byte, b'0'..=b'9' | b'a'..=b'f');
-    for place in 0..LINE - 1 {
-        for byte in (0..=255).filter(|byte| !is_digit(byte) && *byte != b'\n') {
-            let mut line = offer(2, 1);
-            line[place] = byte;
-            assert_eq!(heard(&line), Err(2));
-        }
-    }
-    assert_eq!(heard(b"0100010002000A\n"), Err(2));
+    all_refused(lines::with_no_digit(&offer(2, 1)), 2);
 }
 
 #[test]
@@ -204,7 +181,7 @@ fn no_such_probe() {
 fn link_not_its_own() {
     let mut end = m2_end_with(&[1, 1, 2, 2, 0, 0]);
     for link in (2..=0xffff).step_by(7).chain([3, 4, 0xffff]) {
-        for kind in KINDS {
+        for kind in Kind::BOTH {
             assert_eq!(end.ask(kind, link, LINE), Err(24));
         }
         assert_eq!(end.rests(link), Err(24));
@@ -265,60 +242,47 @@ struct Call {
     free: usize,
 }
 
-impl Call {
-    fn set_link(&mut self, place: usize, low: u16, high: u16) {
-        self.end.numbers.entries[1][place] = low;
-        self.end.numbers.entries[2][place] = high;
+impl AsMut<Numbers> for Call {
+    fn as_mut(&mut self) -> &mut Numbers {
+        &mut self.end.numbers
     }
 }
 
-/// A change that puts a fault in, and the fault's refusal.
-type Fault = (fn(&mut Call), u8);
+impl AsMut<Vec<u8>> for Call {
+    fn as_mut(&mut self) -> &mut Vec<u8> {
+        &mut self.line
+    }
+}
 
-/// In the order of the refusals; 5 stands before 4, for it is at an earlier link.
-const FAULTS: [Fault; 15] = [
-    (|call| call.end.numbers.lent[3] = 2, 8),
-    (|call| call.end.numbers.probes = 0, 3),
-    (|call| call.set_link(1, 0, 1), 5),
-    (|call| call.set_link(2, 2, 2), 4),
-    (|call| call.end.numbers.entries[0][0] = 9, 7),
+const OF_RECORD: [Fault<Call>; 3] = [
     (|call| call.end.record.push(0), 20),
     (|call| call.end.record[5] = 1, 21),
     (|call| call.end.record[..4].fill(1), 22),
-    (|call| call.line.truncate(LINE - 1), 1),
-    (|call| call.line[9] = b'A', 2),
-    (|call| call.line[0] = b'f', 9),
-    (|call| call.line[2] = b'1', 23),
+];
+
+const OF_FRAME: [Fault<Call>; 3] = [
     (|call| call.line[13] = b'0', 24),
     (|call| call.line[1] = b'2', 25),
     (|call| call.free = 0, 26),
 ];
 
-/// Of any faults together the first in the list decides, if the call can have it.
+/// Of any faults together the first decides, if the call can have it.
 #[test]
 fn order_of_refusals() {
-    for chosen in 0_u32..1 << FAULTS.len() {
-        let held = (0..FAULTS.len()).filter(|fault| chosen >> fault & 1 == 1);
-        let mut call = Call {
-            end: m2_end(),
-            line: offer(2, 1),
-            free: 1,
-        };
-        held.clone().for_each(|fault| FAULTS[fault].0(&mut call));
-        let first = |without: &[u8]| {
-            let mut numbers = held.clone().map(|fault| FAULTS[fault].1);
-            numbers.find(|number| !without.contains(number))
-        };
-        let Call {
-            mut end,
-            line,
-            free,
-        } = call;
-        let of_state = first(&[1, 2, 9, 23, 24, 25, 26]);
+    let fresh = || Call {
+        end: m2_end(),
+        line: offer(2, 1),
+        free: 1,
+    };
+    let faults = [&of_table(), &OF_RECORD[..], &of_line(), &OF_FRAME].concat();
+    each_choice(&faults, fresh, |call, refusals| {
+        let (mut end, line, free) = (call.end, call.line, call.free);
+        let of_state = first_but(refusals, &[1, 2, 9, 23, 24, 25, 26]);
         assert_eq!(end.rests(1).err(), of_state);
         assert_eq!(end.ask(Kind::Offer, 2, LINE).err(), of_state.or(Some(24)));
         assert_eq!(end.ask(Kind::Offer, 2, LINE - 1), Err(8));
-        assert_eq!(end.hear(&line, free).err(), first(&[]));
-        assert_eq!(end.open(free).err(), first(&[1, 2, 9, 23, 24, 25]));
-    }
+        assert_eq!(end.hear(&line, free).err(), first_but(refusals, &[]));
+        let of_opening = first_but(refusals, &[1, 2, 9, 23, 24, 25]);
+        assert_eq!(end.open(free).err(), of_opening);
+    });
 }

@@ -1,13 +1,14 @@
 //! What an end does: opening, taking and displacing, asking, and whole bargainings.
 
-use crate::{m2_end_with, offer, refusal, without_spare, KINDS};
+use crate::{m2_end_with, without_spare};
 use planner_tests::compare_ends::End;
 use planner_tests::ends::{other_end, Frame, Kind, What, LINE};
 use planner_tests::events::own_links;
 use planner_tests::face;
-use planner_tests::random::Random;
+use planner_tests::lines::{offer, refusal};
+use planner_tests::random::{each_seed, Random};
 use planner_tests::reference::{falling, plan, Table};
-use planner_tests::sites::{hubs, legal_of_size, marked, set_costs, set_needs, site, Numbers};
+use planner_tests::sites::{half_needed, largest_hubs, legal_of_size, marked, site, Numbers};
 
 #[test]
 fn spare_0_refuses_every_offer() {
@@ -95,7 +96,7 @@ fn asking_twice_gives_the_same_line() {
     for length in [LINE, LINE, LINE + 1, 64] {
         assert_eq!(end.ask(Kind::Offer, 1, length), Ok(Some(offer(1, 2))));
         assert_eq!(end.ask(Kind::Refusal, 1, length), Ok(Some(refusal(1, 2))));
-        for kind in KINDS {
+        for kind in Kind::BOTH {
             assert_eq!(end.ask(kind, 0, length), Ok(None));
         }
     }
@@ -111,7 +112,7 @@ fn asked_by_the_bytes_alone() {
     for outbound in 0..=2 {
         for inbound in 0..=2 {
             let mut end = m2_end_with(&[outbound, inbound, 0, 0, 0, 0]);
-            let [offered, refused] = KINDS.map(|kind| end.ask(kind, 0, LINE));
+            let [offered, refused] = Kind::BOTH.map(|kind| end.ask(kind, 0, LINE));
             let line = offer(1, 0);
             assert_eq!(offered, Ok((outbound == 1).then_some(line)));
             let line = refusal(1, 0);
@@ -149,29 +150,16 @@ fn asked_line_is_heard_by_the_other_end() {
 fn answers_as_numbers() {
     let numbers = Numbers::of(&marked(1));
     let mut record = [0; 6];
-    let open = |record: &mut [u8]| face::probe_open(numbers.slices(), 1, record, 1);
-    assert_eq!(open(&mut record), 0x8000_0100_0001_ffff);
-    assert_eq!(open(&mut record), 0x8000_0101_ffff_ffff);
-    let hear =
-        |line: &[u8], record: &mut [u8]| face::probe_hear(numbers.slices(), 1, record, line, 1);
-    assert_eq!(
-        hear(b"01000100000001\n", &mut record),
-        0x8000_0102_0000_ffff
-    );
-    assert_eq!(
-        hear(b"01000100020001\n", &mut record),
-        0x8000_0103_0001_0000
-    );
-    assert_eq!(
-        hear(b"02000100020001\n", &mut record),
-        0x8000_0105_0001_ffff
-    );
-    assert_eq!(
-        hear(b"02000100020001\n", &mut record),
-        0x8000_0106_0001_ffff
-    );
+    let mut open = || face::probe_open(numbers.slices(), 1, &mut record, 1);
+    assert_eq!(open(), 0x8000_0100_0001_ffff);
+    assert_eq!(open(), 0x8000_0101_ffff_ffff);
+    let mut hear = |line: &[u8]| face::probe_hear(numbers.slices(), 1, &mut record, line, 1);
+    assert_eq!(hear(b"01000100000001\n"), 0x8000_0102_0000_ffff);
+    assert_eq!(hear(b"01000100020001\n"), 0x8000_0103_0001_0000);
+    assert_eq!(hear(b"02000100020001\n"), 0x8000_0105_0001_ffff);
+    assert_eq!(hear(b"02000100020001\n"), 0x8000_0106_0001_ffff);
+    assert_eq!(hear(b"02000100000001\n"), 25);
     assert_eq!(record, [0, 2, 2, 1, 0, 0]);
-    assert_eq!(hear(b"02000100000001\n", &mut record), 25);
     let mut out = [9; 17];
     let mut ask = |kind, link| {
         let answer = face::probe_ask(numbers.slices(), 1, &record, kind, link, &mut out);
@@ -192,7 +180,7 @@ fn sendable(ends: &mut [End]) -> Vec<Vec<u8>> {
     let mut lines = Vec::new();
     for end in ends {
         for link in 0..end.numbers.links {
-            for kind in KINDS {
+            for kind in Kind::BOTH {
                 lines.extend(end.ask(kind, link, LINE).unwrap_or(None));
             }
         }
@@ -298,8 +286,7 @@ fn bargain(table: &Table, random: &mut Random) -> Vec<End> {
 
 #[test]
 fn ends_finish_with_the_plan() {
-    for seed in 0..600 {
-        let random = &mut Random::new(6 << 32 | seed);
+    each_seed(6, 600, |random| {
         let probes = 2 + random.below(6);
         let links = random.below(probes * (probes - 1) / 2 + 1);
         let table = legal_of_size(probes, links, random);
@@ -310,7 +297,7 @@ fn ends_finish_with_the_plan() {
                 assert_eq!(ends[end].rests(place as u16), Ok(!kept[place]));
             }
         }
-    }
+    });
 }
 
 /// Offered all its links, an end holds the dearest in the end.
@@ -336,14 +323,9 @@ fn hold_the_dearest(table: &Table, probe: u16) {
     }
 }
 
-/// Its first eight probes are joined to all others.
 #[test]
 fn largest_site() {
-    let mut random = Random::new(26);
-    let mut table = hubs(256, 9);
-    table.links.truncate(2048);
-    set_costs(&mut table, || random.below(3) as u16);
-    set_needs(&mut table, |_, degree| degree / 2);
+    let table = half_needed(largest_hubs(), 3, &mut Random::new(26));
     for probe in [0, 1, 7, 8, 44, 45, 255] {
         hold_the_dearest(&table, probe);
     }

@@ -1,11 +1,10 @@
-//! The ends beside the fleet: each end alone, on its own bytes of the fleet's record, does what
-//! the fleet does, and writes a frame exactly when it may be sent.
+//! Each end alone, on its own bytes of the fleet's record, does what the fleet does.
 
-use planner_tests::air::{any_mix, Air};
+use planner_tests::channel::{any_mix, Channel};
 use planner_tests::compare_ends::End;
 use planner_tests::compare_fleet::Fleet;
 use planner_tests::ends::{Entry, Frame, Kind, LINE};
-use planner_tests::events::any_table;
+use planner_tests::events::each_table;
 use planner_tests::fleet::own_record;
 use planner_tests::random::Random;
 use planner_tests::reference::Table;
@@ -35,7 +34,7 @@ fn asked(table: &Table, record: &[u8], random: &mut Random) -> usize {
     let mut written = 0;
     let place = random.below(table.links.len());
     for end in table.links[place].ends() {
-        for kind in [Kind::Offer, Kind::Refusal] {
+        for kind in Kind::BOTH {
             let line = end_of(table, end as u16, record).ask(kind, place as u16, LINE);
             if let Some(line) = line.expect("an end of the link") {
                 assert!(Fleet::with(table, record).event(&line, 0, 1).is_ok());
@@ -49,23 +48,21 @@ fn asked(table: &Table, record: &[u8], random: &mut Random) -> usize {
 #[test]
 fn ends_beside_the_fleet() {
     let (mut accepted, mut written) = (0, 0);
-    for seed in 0..600 {
-        let random = &mut Random::new(40 << 32 | seed);
-        let table = any_table(random);
-        let mut fleet = Fleet::fresh(&table);
-        let mut air = Air::over(&table, any_mix(random));
+    each_table(40, 600, |table, random| {
+        let mut fleet = Fleet::fresh(table);
+        let mut channel = Channel::over(table, any_mix(random));
         for _ in 0..40 {
-            for line in air.next(random) {
+            for line in channel.next(random) {
                 let before = fleet.record().to_vec();
                 if let Ok(entry) = fleet.event(&line, 0, 1) {
-                    same_alone(&table, &before, &line, entry, fleet.record());
+                    same_alone(table, &before, &line, entry, fleet.record());
                     accepted += 1;
                 }
             }
             if !table.links.is_empty() {
-                written += asked(&table, fleet.record(), random);
+                written += asked(table, fleet.record(), random);
             }
         }
-    }
+    });
     assert!(accepted > 10_000 && written > 3_000, "{accepted} {written}");
 }

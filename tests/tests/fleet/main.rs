@@ -8,31 +8,8 @@ mod runs;
 mod states;
 
 use planner_tests::compare_fleet::Fleet;
-use planner_tests::ends::{Entry, Frame, What};
+use planner_tests::ends::{Entry, What};
 use planner_tests::sites::marked;
-
-/// The line of a frame of table 0001.
-fn line(kind: u8, from: u16, to: u16) -> Vec<u8> {
-    let frame = Frame {
-        kind,
-        number: 1,
-        from,
-        to,
-    };
-    frame.line()
-}
-
-fn opening(probe: u16) -> Vec<u8> {
-    line(0, probe, probe)
-}
-
-fn offer(from: u16, to: u16) -> Vec<u8> {
-    line(1, from, to)
-}
-
-fn refusal(from: u16, to: u16) -> Vec<u8> {
-    line(2, from, to)
-}
 
 /// M2: the links 0-1, 1-2 and 2-3, and each probe has a spare of 1.
 fn m2() -> Fleet {

@@ -1,61 +1,29 @@
 //! Random tables, records and lines, legal and damaged.
 
-use planner_tests::air::{any_bytes, any_frame, any_mix, any_opening, Air};
+use planner_tests::channel::{any_bytes, any_frame, any_mix, any_opening, Channel};
 use planner_tests::compare_fleet::Fleet;
-use planner_tests::ends::{Entry, Frame};
-use planner_tests::events::{any_room, any_table, damage_frame, damage_line};
+use planner_tests::events::{any_room, damaged_line, each_table, of_state};
 use planner_tests::fleet::BYTES;
 use planner_tests::random::Random;
 use planner_tests::reference::Table;
-use planner_tests::sites::{self, Numbers};
+use planner_tests::sites::Numbers;
+use planner_tests::tally::Tally;
 
 /// Tables in a test, and lines for each.
 const TABLES: u64 = 4_000;
 const LINES: usize = 12;
 
-/// How often a line was refused by each number, how often each code came, and how often the fleet
-/// was finished.
-#[derive(Debug, Default)]
-struct Tally {
-    refused: [usize; 28],
-    befell: [usize; 7],
-    finished: usize,
-}
-
-impl Tally {
-    fn count(&mut self, answer: Result<Entry, u8>) {
-        match answer {
-            Ok(entry) => self.befell[entry.what.numbers()[0] as usize] += 1,
-            Err(number) => self.refused[usize::from(number)] += 1,
-        }
-    }
-
-    /// Each of these numbers came often.
-    #[track_caller]
-    fn assert_often(&self, numbers: &[usize]) {
-        let often = |&number: &usize| self.refused[number] > 300;
-        assert!(numbers.iter().all(often), "{self:?}");
-    }
-
-    fn answers(&self) -> usize {
-        self.refused.iter().chain(&self.befell).sum()
-    }
-}
-
 /// A fresh fleet; often its slices have random entries beyond the table's own.
 fn fresh(table: &Table, random: &mut Random) -> Fleet {
     let mut fleet = Fleet::fresh(table);
-    let [needs, links, ..] = fleet.numbers.lent;
-    let links = links + random.below(3);
-    let lengths = [needs + random.below(3), links, links, links];
-    fleet.numbers.lend(lengths, random);
+    fleet.numbers.lend_longer(random);
     fleet
 }
 
-/// Hears what the air brings next; answers the last line of it.
-fn hear_next(fleet: &mut Fleet, air: &mut Air, random: &mut Random) -> Vec<u8> {
+/// Hears what the channel brings next; answers the last line of it.
+fn hear_next(fleet: &mut Fleet, channel: &mut Channel, random: &mut Random) -> Vec<u8> {
     let mut last = Vec::new();
-    for line in air.next(random) {
+    for line in channel.next(random) {
         fleet.event(&line, 0, 1).ok();
         last = line;
     }
@@ -65,22 +33,19 @@ fn hear_next(fleet: &mut Fleet, air: &mut Air, random: &mut Random) -> Vec<u8> {
 /// An opening or a frame; with damage in its numbers, its bytes or both, or of any bytes.
 fn any_line(table: &Table, damaged: bool, random: &mut Random) -> Vec<u8> {
     let (opening, frame) = (any_opening(table, random), any_frame(table, random));
-    let mut frame: Frame = random.pick(&[opening, frame, frame]);
+    let frame = random.pick(&[opening, frame, frame]);
     if !damaged {
         return frame.line();
     }
-    let (in_frame, in_line) = random.pick(&[(1, 0), (2, 0), (0, 1), (1, 1), (0, 2), (3, 3)]);
-    if in_frame == 3 {
-        return any_bytes(random);
+    match random.pick(&[[1, 0], [2, 0], [0, 1], [1, 1], [0, 2], [0, 0]]) {
+        [0, 0] => any_bytes(random),
+        damages => damaged_line(frame, damages, table, random),
     }
-    (0..in_frame).for_each(|_| damage_frame(&mut frame, table, random));
-    let mut line = frame.line();
-    (0..in_line).for_each(|_| damage_line(&mut line, random));
-    line
 }
 
-/// Asks whether it is finished and hears the line, on the same record, and leaves that.
-fn call(fleet: &mut Fleet, line: &[u8], tally: &mut Tally, random: &mut Random) {
+/// Asks whether it is finished, hears the line on the same record, and leaves that. Answers whether
+/// it is finished.
+fn call(fleet: &mut Fleet, line: &[u8], tally: &mut Tally, random: &mut Random) -> bool {
     let before = fleet.record().to_vec();
     let used = random.pick(&[0, 1, 1023, 1024, 70_000]);
     let room = match random.one_in(16) {
@@ -89,39 +54,36 @@ fn call(fleet: &mut Fleet, line: &[u8], tally: &mut Tally, random: &mut Random) 
     };
     let finished = fleet.finished();
     let answer = fleet.event(line, used, room);
-    let of_state = |number: &u8| matches!(number, 3..=8 | 20..=22);
-    assert_eq!(finished.err(), answer.err().filter(of_state));
-    tally.finished += usize::from(finished == Ok(true));
-    tally.count(answer);
+    assert_eq!(finished.err(), of_state(answer.err()));
+    tally.count(answer.map(|entry| entry.what));
     fleet.set_record(&before);
+    finished == Ok(true)
 }
 
 #[test]
 fn records_reached() {
-    let mut tally = Tally::default();
-    for seed in 0..TABLES {
-        let random = &mut Random::new(42 << 32 | seed);
-        let table = any_table(random);
-        let mut fleet = fresh(&table, random);
-        let mut air = Air::over(&table, any_mix(random));
+    let (mut tally, mut finished) = (Tally::default(), 0);
+    each_table(42, TABLES, |table, random| {
+        let mut fleet = fresh(table, random);
+        let mut channel = Channel::over(table, any_mix(random));
         for _ in 0..LINES {
             for _ in 0..random.below(table.links.len().min(20) + 1) {
-                hear_next(&mut fleet, &mut air, random);
+                hear_next(&mut fleet, &mut channel, random);
             }
             let before = fleet.record().to_vec();
-            let next = hear_next(&mut fleet, &mut air, random);
+            let next = hear_next(&mut fleet, &mut channel, random);
             let damaged = random.one_in(2);
-            let any = any_line(&table, damaged, random);
+            let any = any_line(table, damaged, random);
             let line = random.pick(&[&next, &next, &next, &any]);
             let after = fleet.record().to_vec();
             fleet.set_record(&before);
-            call(&mut fleet, line, &mut tally, random);
+            finished += usize::from(call(&mut fleet, line, &mut tally, random));
             fleet.set_record(&after);
         }
-    }
+    });
     tally.assert_often(&[1, 2, 9, 23, 24, 26, 27]);
-    assert!(tally.befell.iter().all(|&times| times > 200), "{tally:?}");
-    assert!(tally.finished > 300 && tally.answers() >= 40_000);
+    tally.assert_each_befell(200);
+    assert!(finished > 300 && tally.answers() >= 40_000);
 }
 
 /// A record that 20, 21 and 22 let pass, whether a list of events leads to it or not.
@@ -149,19 +111,17 @@ fn any_record(table: &Table, random: &mut Random) -> Vec<u8> {
 #[test]
 fn records_from_outside() {
     let mut tally = Tally::default();
-    for seed in 0..TABLES {
-        let random = &mut Random::new(43 << 32 | seed);
-        let table = any_table(random);
-        let mut fleet = fresh(&table, random);
+    each_table(43, TABLES, |table, random| {
+        let mut fleet = fresh(table, random);
         for _ in 0..LINES {
-            fleet.set_record(&any_record(&table, random));
-            let line = any_line(&table, false, random);
+            fleet.set_record(&any_record(table, random));
+            let line = any_line(table, false, random);
             call(&mut fleet, &line, &mut tally, random);
         }
-    }
+    });
     assert_eq!(tally.refused[..26], [0; 26]);
     tally.assert_often(&[26, 27]);
-    assert!(tally.befell.iter().all(|&times| times > 300), "{tally:?}");
+    tally.assert_each_befell(300);
     assert!(tally.answers() >= 40_000);
 }
 
@@ -182,49 +142,30 @@ fn damage_record(record: &mut Vec<u8>, random: &mut Random) {
 #[test]
 fn damaged_records() {
     let mut tally = Tally::default();
-    for seed in 0..TABLES {
-        let random = &mut Random::new(44 << 32 | seed);
-        let table = any_table(random);
-        let mut fleet = fresh(&table, random);
+    each_table(44, TABLES, |table, random| {
+        let mut fleet = fresh(table, random);
         for _ in 0..LINES {
-            let mut record = any_record(&table, random);
+            let mut record = any_record(table, random);
             (0..1 + random.below(2)).for_each(|_| damage_record(&mut record, random));
             fleet.set_record(&record);
             let damaged = random.one_in(2);
-            let line = any_line(&table, damaged, random);
+            let line = any_line(table, damaged, random);
             call(&mut fleet, &line, &mut tally, random);
         }
-    }
+    });
     tally.assert_often(&[1, 2, 9, 20, 21, 22, 23, 24, 26, 27]);
     assert!(tally.answers() >= 40_000);
-}
-
-/// Damages the table, its counts or the lengths of its slices; seldom none of them.
-fn damage_slices(fleet: &mut Fleet, table: &Table, random: &mut Random) {
-    let mut damaged = table.clone();
-    if random.one_in(2) {
-        sites::damage_table(&mut damaged, random);
-    }
-    fleet.numbers = Numbers::of(&damaged);
-    if random.one_in(3) {
-        fleet.numbers.damage_counts(random);
-    }
-    let (probes, links) = (fleet.numbers.probes.into(), fleet.numbers.links.into());
-    let told = sites::lengths(probes, links, random);
-    let right = sites::lengths(table.needs.len(), table.links.len(), random);
-    fleet.numbers.lend(random.pick(&[told, right]), random);
 }
 
 #[test]
 fn damaged_tables() {
     let mut tally = Tally::default();
-    for seed in 0..TABLES {
-        let random = &mut Random::new(45 << 32 | seed);
-        let table = any_table(random);
-        let mut fleet = Fleet::fresh(&table);
+    each_table(45, TABLES, |table, random| {
+        let mut fleet = Fleet::fresh(table);
         for _ in 0..LINES {
-            damage_slices(&mut fleet, &table, random);
-            let line = any_line(&table, true, random);
+            let times = random.below(2);
+            fleet.numbers = Numbers::damaged(table, times, random);
+            let line = any_line(table, true, random);
             call(&mut fleet, &line, &mut tally, random);
             if random.one_in(2) {
                 let mut record = fleet.record().to_vec();
@@ -232,7 +173,7 @@ fn damaged_tables() {
                 fleet.set_record(&record);
             }
         }
-    }
+    });
     tally.assert_often(&[3, 4, 5, 7, 8, 20, 21]);
     assert!(tally.answers() >= 40_000);
 }

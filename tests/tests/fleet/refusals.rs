@@ -1,9 +1,11 @@
 //! Bad records and lines, each with its refusal, and the order of refusals.
 
-use crate::{befell, line, m2, m2_with, offer, opening, refusal};
+use crate::{befell, m2, m2_with};
 use planner_tests::compare_fleet::Fleet;
-use planner_tests::ends::{Entry, Frame, What, LINE};
-use planner_tests::sites::{marked, site};
+use planner_tests::ends::{Entry, Frame, What};
+use planner_tests::faults::{each_choice, first_but, of_line, of_table, Fault};
+use planner_tests::lines::{self, line, offer, opening, refusal};
+use planner_tests::sites::{marked, site, Numbers};
 
 /// Probe 1 offers 1-2, and nothing else has happened.
 const OFFERED: [u8; 12] = [0, 0, 0, 0, 1, 0, 0, 0, 0, 0, 0, 0];
@@ -12,6 +14,14 @@ const OFFERED: [u8; 12] = [0, 0, 0, 0, 1, 0, 0, 0, 0, 0, 0, 0];
 #[track_caller]
 fn heard(line: &[u8]) -> Result<Entry, u8> {
     m2_with(&OFFERED).event(line, 0, 1)
+}
+
+/// It refuses each of the lines.
+#[track_caller]
+fn all_refused(lines: Vec<Vec<u8>>, number: u8) {
+    for line in lines {
+        assert_eq!(heard(&line), Err(number));
+    }
 }
 
 /// The record is turned down by each call, whatever the line.
@@ -91,61 +101,28 @@ fn one_standing_or_held_at_spare_0() {
 
 #[test]
 fn line_cut_at_each_byte() {
-    let line = offer(1, 2);
-    assert_eq!(line.len(), LINE);
-    for length in 0..LINE {
-        assert_eq!(heard(&line[..length]), Err(1));
-        assert_eq!(heard(&line[LINE - length..]), Err(1));
-    }
-    assert_eq!(heard(&line), befell(2, What::Taken(1)));
+    all_refused(lines::cut(&offer(1, 2)), 1);
+    assert_eq!(heard(&offer(1, 2)), befell(2, What::Taken(1)));
 }
 
 #[test]
 fn line_of_15_digits_or_with_bytes_behind() {
-    for place in 0..=LINE {
-        for byte in [b'0', b'f', b'\n', b'\r', b' '] {
-            let mut longer = offer(1, 2);
-            longer.insert(place, byte);
-            assert_eq!(heard(&longer), Err(1));
-        }
-    }
-    assert_eq!(heard(&[offer(1, 2), offer(1, 2)].concat()), Err(1));
-    assert_eq!(heard(&[b'0'; 70_000]), Err(1));
+    all_refused(lines::too_long(&offer(1, 2)), 1);
 }
 
-/// A line feed inside makes the line too short, whatever stands before it.
 #[test]
 fn line_feed_inside() {
-    for place in 0..LINE - 1 {
-        for first in [b'0', b'X'] {
-            let mut line = offer(1, 2);
-            line[0] = first;
-            line[place] = b'\n';
-            assert_eq!(heard(&line), Err(1));
-        }
-    }
+    all_refused(lines::with_line_feed(&offer(1, 2)), 1);
 }
 
 #[test]
 fn line_that_is_not_closed() {
-    for byte in (0..=255).filter(|&byte| byte != b'\n') {
-        let mut line = offer(1, 2);
-        line[LINE - 1] = byte;
-        assert_eq!(heard(&line), Err(1));
-    }
+    all_refused(lines::not_closed(&offer(1, 2)), 1);
 }
 
 #[test]
 fn byte_that_is_no_digit() {
-    let is_digit = |byte: &u8| matches!(byte, b'0'..=b'9' | b'a'..=b'f');
-    for place in 0..LINE - 1 {
-        for byte in (0..=255).filter(|byte| !is_digit(byte) && *byte != b'\n') {
-            let mut line = offer(1, 2);
-            line[place] = byte;
-            assert_eq!(heard(&line), Err(2));
-        }
-    }
-    assert_eq!(heard(b"0100010001000A\n"), Err(2));
+    all_refused(lines::with_no_digit(&offer(1, 2)), 2);
 }
 
 #[test]
@@ -251,60 +228,46 @@ struct Call {
     used: usize,
 }
 
-impl Call {
-    fn set_link(&mut self, place: usize, low: u16, high: u16) {
-        self.fleet.numbers.entries[1][place] = low;
-        self.fleet.numbers.entries[2][place] = high;
+impl AsMut<Numbers> for Call {
+    fn as_mut(&mut self) -> &mut Numbers {
+        &mut self.fleet.numbers
     }
 }
 
-/// A change that puts a fault in, and the fault's refusal.
-type Fault = (fn(&mut Call), u8);
+impl AsMut<Vec<u8>> for Call {
+    fn as_mut(&mut self) -> &mut Vec<u8> {
+        &mut self.line
+    }
+}
 
-/// In the order of the refusals; 5 stands before 4, for it is at an earlier link.
-const FAULTS: [Fault; 15] = [
-    (|call| call.fleet.numbers.lent[3] = 2, 8),
-    (|call| call.fleet.numbers.probes = 0, 3),
-    (|call| call.set_link(1, 0, 1), 5),
-    (|call| call.set_link(2, 2, 2), 4),
-    (|call| call.fleet.numbers.entries[0][0] = 9, 7),
+const OF_RECORD: [Fault<Call>; 3] = [
     (|call| call.record.push(0), 20),
     (|call| call.record[11] = 3, 21),
     (|call| call.record[2] = 1, 22),
-    (|call| call.line.truncate(LINE - 1), 1),
-    (|call| call.line[9] = b'A', 2),
-    (|call| call.line[0] = b'f', 9),
-    (|call| call.line[2] = b'1', 23),
+];
+
+const OF_FRAME: [Fault<Call>; 3] = [
     (|call| call.line[13] = b'3', 24),
     (|call| call.line[1] = b'2', 27),
     (|call| call.used = 5, 26),
 ];
 
-/// Of any faults together the first in the list decides, if the call can have it.
+/// Of any faults together the first decides, if the call can have it.
 #[test]
 fn order_of_refusals() {
-    for chosen in 0_u32..1 << FAULTS.len() {
-        let held = (0..FAULTS.len()).filter(|fault| chosen >> fault & 1 == 1);
-        let mut call = Call {
-            fleet: m2(),
-            record: OFFERED.to_vec(),
-            line: offer(1, 2),
-            used: 4,
-        };
-        held.clone().for_each(|fault| FAULTS[fault].0(&mut call));
-        let first = |without: &[u8]| {
-            let mut numbers = held.clone().map(|fault| FAULTS[fault].1);
-            numbers.find(|number| !without.contains(number))
-        };
-        let Call {
-            mut fleet,
-            record,
-            line,
-            used,
-        } = call;
-        fleet.set_record(&record);
-        assert_eq!(fleet.event(&line, used, 5).err(), first(&[]));
-        let of_line = [1, 2, 9, 23, 24, 26, 27];
-        assert_eq!(fleet.finished().err(), first(&of_line));
-    }
+    let fresh = || Call {
+        fleet: m2(),
+        record: OFFERED.to_vec(),
+        line: offer(1, 2),
+        used: 4,
+    };
+    let faults = [&of_table(), &OF_RECORD[..], &of_line(), &OF_FRAME].concat();
+    each_choice(&faults, fresh, |call, refusals| {
+        let (mut fleet, line) = (call.fleet, call.line);
+        fleet.set_record(&call.record);
+        let answer = fleet.event(&line, call.used, 5);
+        assert_eq!(answer.err(), first_but(refusals, &[]));
+        let of_state = first_but(refusals, &[1, 2, 9, 23, 24, 26, 27]);
+        assert_eq!(fleet.finished().err(), of_state);
+    });
 }

@@ -1,10 +1,11 @@
 //! What a fleet does, event by event.
 
-use crate::{befell, line, m2, m2_with, offer, opening, refusal};
+use crate::{befell, m2, m2_with};
 use planner_tests::compare_fleet::Fleet;
 use planner_tests::ends::What;
 use planner_tests::face;
 use planner_tests::fleet::changes;
+use planner_tests::lines::{line, offer, opening, refusal};
 use planner_tests::sites::{marked, site, Numbers};
 
 /// A line, the probe that opens or hears, what befalls it, and the record after.

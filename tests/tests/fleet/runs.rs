@@ -1,15 +1,14 @@
-//! Runs to the finish in many orders, with frames lost, repeated and late. Each ends with the
-//! plan, and all of one table with the same record.
+//! Runs to the finish in many orders, frames lost, repeated and late: each ends with the plan.
 
-use planner_tests::air::{frame_after, opening};
+use planner_tests::channel::{frame_after, opening};
 use planner_tests::compare_fleet::Fleet;
 use planner_tests::ends::{Frame, What};
 use planner_tests::events::any_table;
-use planner_tests::fleet::{changes, Site, BYTES};
+use planner_tests::fleet::{changes, rested, Site, BYTES};
 use planner_tests::methods::slse;
-use planner_tests::random::Random;
+use planner_tests::random::{each_seed, Random};
 use planner_tests::reference::{plan, Table};
-use planner_tests::sites::{banded, hubs, legal_of_size, marked, set_costs, set_needs};
+use planner_tests::sites::{banded, half_needed, largest_hubs, legal_of_size, marked};
 use std::collections::VecDeque;
 
 /// Which of the frames under way, or of the probes that may open, comes next.
@@ -179,10 +178,8 @@ impl Run<'_> {
         assert_eq!(kept, plan(self.table).kept);
         let mut awake = vec![0; self.table.needs.len()];
         for (place, bytes) in self.fleet.record().chunks_exact(BYTES).enumerate() {
-            let at_low = [bytes[0], bytes[3]] == [1, 1];
-            let at_high = [bytes[2], bytes[1]] == [1, 1];
-            assert_eq!([at_low, at_high], [!kept[place]; 2]);
-            if !at_low {
+            assert_eq!(rested(bytes), [!kept[place]; 2]);
+            if kept[place] {
                 let ends = self.table.links[place].ends();
                 ends.into_iter().for_each(|end| awake[end] += 1);
             }
@@ -224,13 +221,12 @@ fn marked_sites() {
 #[test]
 fn small_sites() {
     let mut events = 0;
-    for seed in 0..600 {
-        let random = &mut Random::new(47 << 32 | seed);
+    each_seed(47, 600, |random| {
         let probes = 1 + random.below(9);
         let links = random.below(probes * (probes - 1) / 2 + 1);
         let table = legal_of_size(probes, links, random);
         events += run_all(&table, ORDERS, random);
-    }
+    });
     assert!(events > 100_000, "{events}");
 }
 
@@ -250,13 +246,6 @@ fn sites_of_many_kinds() {
     assert!(events > 100_000, "{events}");
 }
 
-/// Each probe needs half of its links.
-fn half_needed(mut table: Table, costs: usize, random: &mut Random) -> Table {
-    set_costs(&mut table, || random.below(costs) as u16);
-    set_needs(&mut table, |_, degree| degree / 2);
-    table
-}
-
 #[track_caller]
 fn run_largest(table: Table, random: &mut Random) {
     assert_eq!([table.needs.len(), table.links.len()], [256, 2048]);
@@ -271,11 +260,8 @@ fn largest_site() {
     run_largest(half_needed(any, 65_536, random), random);
 }
 
-/// Its first eight probes are joined to all others.
 #[test]
 fn largest_site_with_hubs() {
     let random = &mut Random::new(50);
-    let mut joined = hubs(256, 9);
-    joined.links.truncate(2048);
-    run_largest(half_needed(joined, 3, random), random);
+    run_largest(half_needed(largest_hubs(), 3, random), random);
 }

@@ -1,9 +1,9 @@
 //! Every record that any list of lines leads to, on small tables: each line from each record.
 
-use planner_tests::air::opening;
+use planner_tests::channel::opening;
 use planner_tests::compare_fleet::Fleet;
 use planner_tests::ends::Frame;
-use planner_tests::fleet::{changes, BYTES};
+use planner_tests::fleet::{changes, rested, BYTES};
 use planner_tests::reference::{plan, Table};
 use planner_tests::sites::{every_table, marked, site};
 use std::collections::HashMap;
@@ -32,10 +32,7 @@ fn every_line(table: &Table) -> Vec<Vec<u8>> {
 fn is_planned(table: &Table, record: &[u8]) -> bool {
     let kept = plan(table).kept.into_iter();
     let mut links = record.chunks_exact(BYTES).zip(kept);
-    links.all(|(bytes, kept)| {
-        let rests = [[bytes[0], bytes[3]], [bytes[2], bytes[1]]];
-        rests.iter().all(|own| (*own == [1, 1]) != kept)
-    })
+    links.all(|(bytes, kept)| rested(bytes) == [!kept; 2])
 }
 
 /// The records whose bytes have the same sum, each with the most changes that a list leading to it

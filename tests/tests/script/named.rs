@@ -1,41 +1,22 @@
 //! Named scripts and what they print.
 
-use crate::{input, printed, M11, M4};
-use planner_tests::air::full_script;
+use crate::printed;
+use planner_tests::channel::full_script;
 use planner_tests::compare_script::{text, text_in};
 use planner_tests::random::Random;
 use planner_tests::reference::CLOSING;
+use planner_tests::samples::{self, input, M11, M11_PRINTED, M4, M4_PRINTED};
 use planner_tests::script::{output, room_for};
 use planner_tests::sites::{legal_of_size, marked, M2, MARKED};
 
 #[test]
 fn m4() {
-    let expected = [
-        "0000000000ffff",
-        "0001020000ffff",
-        "0001000000ffff",
-        "0000020000ffff",
-        "0100000004",
-    ];
-    assert_eq!(printed(&input(3, &M4)), expected);
+    assert_eq!(printed(&input(3, &M4)), M4_PRINTED);
 }
 
 #[test]
 fn m11() {
-    let expected = [
-        "0000000000ffff",
-        "0001020000ffff",
-        "0001000001ffff",
-        "0002020001ffff",
-        "0002000001ffff",
-        "00010300010000",
-        "0000050000ffff",
-        "0003000002ffff",
-        "0002040002ffff",
-        "0003050002ffff",
-        "010000000b",
-    ];
-    assert_eq!(printed(&input(1, &M11)), expected);
+    assert_eq!(printed(&input(1, &M11)), M11_PRINTED);
 }
 
 #[test]
@@ -193,9 +174,8 @@ fn long_lines() {
     for byte in [b'0', b'f', b'x', 0, 255] {
         let long = vec![byte; 100_000];
         let start = input(3, &M4[..1]);
-        let rest = input(3, &M4[1..]);
-        let rest = &rest[MARKED[3].len()..];
-        let whole = [&start, &long[..], b"\n", rest].concat();
+        let rest = samples::text(&M4[1..]);
+        let whole = [&start, &long[..], b"\n", &rest].concat();
         let output = text(&whole, &mut random);
         let expected =
             "0000000000ffff\ne001\n0001020000ffff\n0001000000ffff\n0000020000ffff\n0100000004\n";

@@ -1,12 +1,13 @@
 //! A script handled in pieces prints what it prints at once.
 
-use crate::{input, M11, M4};
-use planner_tests::air::{any_mix, any_script};
 use planner_tests::buffer::Buffer;
+use planner_tests::channel::{any_mix, any_script};
 use planner_tests::compare_script::{in_pieces, state_fault, text, Pieces, END, KEPT};
-use planner_tests::events::any_table;
+use planner_tests::events::each_table;
+use planner_tests::faults::{each_choice, of_table, Fault};
 use planner_tests::random::Random;
 use planner_tests::reference::Table;
+use planner_tests::samples::{self, M11, M4};
 use planner_tests::script::output;
 use planner_tests::sites::{damage_table, marked, Numbers, MARKED};
 
@@ -27,8 +28,9 @@ fn small_script() -> Vec<u8> {
     lines.insert(9, &long);
     lines.insert(10, "0000010000000G");
     lines.push("0000010001000");
-    let text = input(1, &lines);
-    text[MARKED[1].len()..text.len() - 1].to_vec()
+    let mut text = samples::text(&lines);
+    text.pop();
+    text
 }
 
 #[test]
@@ -49,7 +51,7 @@ fn pieces_of_every_size() {
     let script = small_script();
     for size in 1..=40 {
         compare(&marked(1), &script, size, random);
-        compare(&marked(3), &input(3, &M4)[MARKED[3].len()..], size, random);
+        compare(&marked(3), &samples::text(&M4), size, random);
     }
 }
 
@@ -80,11 +82,9 @@ fn long_line() {
 #[test]
 fn random_scripts_in_random_pieces() {
     let mut pieces = 0;
-    for seed in 0..600 {
-        let random = &mut Random::new(74 << 32 | seed);
-        let table = any_table(random);
+    each_table(74, 600, |table, random| {
         let lines = random.below(60);
-        let mut script = any_script(&table, lines, any_mix(random), random);
+        let mut script = any_script(table, lines, any_mix(random), random);
         if random.one_in(3) {
             script.pop();
         }
@@ -98,8 +98,8 @@ fn random_scripts_in_random_pieces() {
         }
         pieces += cut.len();
         let whole = output(&[&table.text(), &script[..]].concat());
-        assert!(in_pieces(&table, cut.into_iter(), random) == whole);
-    }
+        assert!(in_pieces(table, cut.into_iter(), random) == whole);
+    });
     assert!(pieces > 10_000, "{pieces}");
 }
 
@@ -139,54 +139,36 @@ fn end_prints_what_it_is_told() {
     }
 }
 
-/// A change that puts a fault in, and the fault's refusal.
-type Fault = (fn(&mut Pieces), u8);
-
-fn set_link(pieces: &mut Pieces, place: usize, low: u16, high: u16) {
-    pieces.numbers.entries[1][place] = low;
-    pieces.numbers.entries[2][place] = high;
-}
-
 fn set_record(pieces: &mut Pieces, record: &[u8]) {
     pieces.record = Buffer::holding(record, || 7);
 }
 
-/// In the order of the refusals; 5 stands before 4, for it is at an earlier link.
-const FAULTS: [Fault; 10] = [
-    (|pieces| pieces.line = Buffer::filled(KEPT - 1, || 7), 8),
-    (|pieces| pieces.progress = Buffer::holding(&[0, 0], || 7), 8),
-    (|pieces| pieces.numbers.lent[3] = 2, 8),
-    (|pieces| pieces.numbers.probes = 0, 3),
-    (|pieces| set_link(pieces, 1, 0, 1), 5),
-    (|pieces| set_link(pieces, 2, 2, 2), 4),
-    (|pieces| pieces.numbers.entries[0][0] = 9, 7),
+const OF_RECORD: [Fault<Pieces>; 3] = [
     (|pieces| set_record(pieces, &[0; 13]), 20),
     (|pieces| set_record(pieces, &[3; 12]), 21),
     (|pieces| set_record(pieces, &[1; 12]), 22),
 ];
 
-/// Each fault alone and any two together; the first in the list decides.
+/// Of any faults together the first decides; short slices go before all others.
 #[test]
 fn refused_pieces_and_ends() {
     let random = &mut Random::new(77);
-    let piece = b"00000100000000\n";
-    for one in 0..FAULTS.len() {
-        for other in 0..FAULTS.len() {
-            // The later fault of a record would take the earlier one's place.
-            let [first, second] = [one.min(other), one.max(other)];
-            let mut pieces = Pieces::fresh(&marked(1), random);
-            FAULTS[second].0(&mut pieces);
-            FAULTS[first].0(&mut pieces);
-            let expected = Err(FAULTS[first].1);
-            let enough = 5 * piece.len();
-            assert_eq!(pieces.piece(piece, enough, random), expected);
-            assert_eq!(pieces.piece(piece, enough - 1, random), Err(8));
-            if first > 2 {
-                assert_eq!(pieces.end(END, random), expected);
-                assert_eq!(pieces.end(END - 1, random), Err(8));
-            }
-        }
-    }
+    let fresh = || Pieces::fresh(&marked(1), &mut Random::new(77));
+    let faults = [&of_table(), &OF_RECORD[..]].concat();
+    each_choice(&faults, fresh, |mut pieces, refusals| {
+        let piece = b"00000100000000\n";
+        let enough = 5 * piece.len();
+        let expected = refusals.first().copied();
+        assert_eq!(pieces.end(END, random).err(), expected);
+        assert_eq!(pieces.end(END - 1, random), Err(8));
+        assert_eq!(pieces.piece(piece, enough, random).err(), expected);
+        assert_eq!(pieces.piece(piece, enough - 1, random), Err(8));
+        let mut short_line = pieces.clone();
+        short_line.line = Buffer::filled(KEPT - 1, || 7);
+        assert_eq!(short_line.piece(piece, enough, random), Err(8));
+        pieces.progress = Buffer::holding(&[0, 0], || 7);
+        assert_eq!(pieces.piece(piece, enough, random), Err(8));
+    });
 }
 
 /// A slice of five bytes for each byte held and for each of the piece is long enough, a shorter
@@ -217,12 +199,10 @@ fn slice_for_the_output() {
 #[test]
 fn damaged_tables() {
     let mut refused = 0;
-    for seed in 0..4_000 {
-        let random = &mut Random::new(79 << 32 | seed);
-        let table = any_table(random);
+    each_table(79, 4_000, |table, random| {
         let mut damaged = table.clone();
         damage_table(&mut damaged, random);
-        let mut pieces = Pieces::fresh(&table, random);
+        let mut pieces = Pieces::fresh(table, random);
         pieces.numbers = Numbers::of(&damaged);
         let expected = state_fault(pieces.numbers.slices(), pieces.record.entries(), false);
         refused += usize::from(expected.is_some());
@@ -230,6 +210,6 @@ fn damaged_tables() {
         let printed = pieces.piece(piece, pieces.enough(piece), random);
         assert_eq!(printed.err(), expected);
         assert_eq!(pieces.end(END, random).err(), expected);
-    }
+    });
     assert!(refused > 2_000, "{refused}");
 }

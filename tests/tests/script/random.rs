@@ -1,9 +1,9 @@
 //! Random scripts on tables of all sizes; whole outputs are compared.
 
-use planner_tests::air::{all_accepted, any_mix, any_script};
+use planner_tests::channel::{all_accepted, any_mix, any_script};
 use planner_tests::compare_script::text;
-use planner_tests::events::any_table;
-use planner_tests::random::Random;
+use planner_tests::events::each_table;
+use planner_tests::random::{each_seed, Random};
 use planner_tests::reference::Table;
 use planner_tests::sites::{damage_text, legal, legal_of_size};
 use std::collections::BTreeMap;
@@ -58,12 +58,10 @@ fn run(table: &Table, lines: usize, random: &mut Random) -> Vec<u8> {
 #[test]
 fn small_sites() {
     let mut tally = Tally::default();
-    for seed in 0..1_800 {
-        let random = &mut Random::new(64 << 32 | seed);
-        let table = any_table(random);
+    each_table(64, 1_800, |table, random| {
         let lines = any_length(3_000, random);
-        tally.count(&run(&table, lines, random));
-    }
+        tally.count(&run(table, lines, random));
+    });
     let refusals = ["e001", "e002", "e009", "e023", "e024", "e026", "e027"];
     tally.assert_often(&refusals, 1_000);
     tally.assert_often(&CODES, 500);
@@ -90,8 +88,7 @@ fn sites_of_all_sizes() {
 #[test]
 fn any_bytes() {
     let mut tally = Tally::default();
-    for seed in 0..2_000 {
-        let random = &mut Random::new(66 << 32 | seed);
+    each_seed(66, 2_000, |random| {
         let table = legal_of_size(2 + random.below(2), 1, random);
         let mut input = table.text();
         let likely = random.pick::<&[u8]>(&[b"\n0", b"0123\n", b"01\n", b"0\n\r \0\xff"]);
@@ -103,7 +100,7 @@ fn any_bytes() {
             });
         }
         tally.count(&text(&input, random));
-    }
+    });
     tally.assert_often(&["e001", "e002"], 300);
 }
 
@@ -111,17 +108,15 @@ fn any_bytes() {
 #[test]
 fn damaged_texts() {
     let mut tally = Tally::default();
-    for seed in 0..3_000 {
-        let random = &mut Random::new(67 << 32 | seed);
-        let table = any_table(random);
+    each_table(67, 3_000, |table, random| {
         let mut input = table.text();
         let lines = random.below(20);
-        input.extend(any_script(&table, lines, all_accepted(), random));
+        input.extend(any_script(table, lines, all_accepted(), random));
         for _ in 0..1 + random.below(2) {
             damage_text(&mut input, random);
         }
         tally.count(&text(&input, random));
-    }
+    });
     let of_tables = ["e001", "e002", "e003", "e004", "e005", "e006", "e007"];
     tally.assert_often(&of_tables, 20);
     tally.assert_often(&["finished", "not finished"], 20);

@@ -1,5 +1,4 @@
-//! Random scripts for a table: frames that were sent arrive, are lost, repeated or late, between
-//! openings, frames that nobody sent, and damaged lines.
+//! Random scripts for a table: frames arrive, are lost, repeated or late, among other lines.
 
 use crate::ends::{other_end, Entry, Frame, What};
 use crate::events::{damage_frame, damage_line};
@@ -124,16 +123,16 @@ pub fn any_mix(random: &mut Random) -> Mix {
 }
 
 /// The frames that were sent, and those of them that are under way.
-pub struct Air {
+pub struct Channel {
     script: Script,
     mix: Mix,
     sent: Vec<Frame>,
     due: Vec<Frame>,
 }
 
-impl Air {
-    pub fn over(table: &Table, mix: Mix) -> Air {
-        Air {
+impl Channel {
+    pub fn over(table: &Table, mix: Mix) -> Channel {
+        Channel {
             script: Script::fresh(table.clone()),
             mix,
             sent: Vec::new(),
@@ -196,17 +195,17 @@ impl Air {
 
 /// So many lines, or a few more.
 pub fn any_script(table: &Table, lines: usize, mix: Mix, random: &mut Random) -> Vec<u8> {
-    let mut air = Air::over(table, mix);
-    let next = |_| air.next(random).concat();
+    let mut channel = Channel::over(table, mix);
+    let next = |_| channel.next(random).concat();
     (0..lines).flat_map(next).collect()
 }
 
 /// A script that fills the log with its last line, every line accepted.
 pub fn full_script(table: &Table, random: &mut Random) -> Vec<u8> {
-    let mut air = Air::over(table, all_accepted());
+    let mut channel = Channel::over(table, all_accepted());
     let mut text = Vec::new();
-    while air.accepted() < LOG {
-        text.extend(air.next(random).concat());
+    while channel.accepted() < LOG {
+        text.extend(channel.next(random).concat());
     }
     text
 }

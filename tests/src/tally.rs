@@ -1,0 +1,37 @@
+//! How often each refusal and each thing that can befall a probe came.
+
+use crate::ends::What;
+
+#[derive(Debug, Default)]
+pub struct Tally {
+    /// By the refusal's number.
+    pub refused: [usize; 28],
+    /// By 01's code.
+    pub befell: [usize; 7],
+}
+
+impl Tally {
+    pub fn count(&mut self, answer: Result<What, u8>) {
+        match answer {
+            Ok(what) => self.befell[what.numbers()[0] as usize] += 1,
+            Err(refusal) => self.refused[usize::from(refusal)] += 1,
+        }
+    }
+
+    /// Each of these refusals came often.
+    #[track_caller]
+    pub fn assert_often(&self, refusals: &[usize]) {
+        let often = |&refusal: &usize| self.refused[refusal] > 300;
+        assert!(refusals.iter().all(often), "{self:?}");
+    }
+
+    /// Each code came so often.
+    #[track_caller]
+    pub fn assert_each_befell(&self, times: usize) {
+        assert!(self.befell.iter().all(|&befell| befell > times), "{self:?}");
+    }
+
+    pub fn answers(&self) -> usize {
+        self.refused.iter().chain(&self.befell).sum()
+    }
+}
