@@ -11,7 +11,6 @@ use borrow.Author.Tests.{lt-ltb, eqb-true, eqb-false, eq-eqb, ne-eqb}
 use Rattle.range.specs.First.{orElse}
 use Rattle.range.proofs.Bools.{decided}
 use Rattle.range.proofs.Sets.{sets-start}
-use Rattle.table_write.specs.declared.Writing.the-variants.{Refused}
 use Rattle.output.specs.declared.Output.{Output}
 use Rattle.script_theory.specs.Script.{Script}
 use Rattle.script_steps.specs.declared.Progress.{Progress}

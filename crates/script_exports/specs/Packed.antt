@@ -13,7 +13,6 @@ use Rattle.script_theory.specs.Script.{Script}
 use Rattle.script_steps.specs.declared.Progress.{Progress}
 use Rattle.script_output.specs.Handling.{PrintsUnless}
 use Rattle.packing.specs.Packed.{packedOutput}
-use Rattle.table_write.specs.declared.Writing.the-variants.{Length}
 
 -- what is printed, or the refusal
 abbrev pub printedOf : ℕ → List ℕ → Output

@@ -7,7 +7,6 @@ use lib.ListN.{length}
 use Rattle.table.specs.Table.{Table as Site}
 use Rattle.table_read.specs.Reading.{readingOf, Reads}
 use Rattle.table_write.specs.Writing.{writingOf, Writes}
-use Rattle.output.specs.declared.Output.the-variants.{Length}
 use Rattle.table_read.specs.declared.Reading.{Reading}
 use Rattle.table_read.specs.declared.Reading.the-variants.{Table, Refused as Unread}
 use Rattle.table_write.specs.declared.Writing.{Writing}

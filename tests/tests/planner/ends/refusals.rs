@@ -1,6 +1,6 @@
 //! Bad records, frames and links, each with its refusal, and the order of refusals.
 
-use crate::{m2_end, m2_end_with, without_spare};
+use super::{m2_end, m2_end_with, without_spare};
 use planner_tests::compare_ends::End;
 use planner_tests::ends::{Frame, Kind, What, LINE};
 use planner_tests::faults::{each_choice, first_but, of_line, of_table, Fault};

@@ -55,11 +55,10 @@ fn tally(counts: &mut [usize; 2], output: &[u8]) {
     counts[usize::from(output.len() != 5)] += 1;
 }
 
-#[test]
 fn plan_texts() {
     let mut random = Random::new(71);
     let mut counts = [0, 0];
-    for case in 0..2_500_000 {
+    for case in 0..1_400_000 {
         let text = match case % 8 {
             0 => random_bytes(&mut random),
             1 => {
@@ -81,14 +80,13 @@ fn plan_texts() {
         }
         tally(&mut counts, &output);
     }
-    assert!(counts.iter().all(|&count| count > 400_000), "{counts:?}");
+    assert!(counts.iter().all(|&count| count > 200_000), "{counts:?}");
 }
 
-#[test]
 fn script_texts() {
     let mut random = Random::new(72);
     let mut counts = [0, 0];
-    for case in 0..800_000 {
+    for case in 0..450_000 {
         let input = match case % 8 {
             0 => random_bytes(&mut random),
             1 => {
@@ -107,5 +105,11 @@ fn script_texts() {
         };
         tally(&mut counts, &compare_script::text(&input, &mut random));
     }
-    assert!(counts.iter().all(|&count| count > 100_000), "{counts:?}");
+    assert!(counts.iter().all(|&count| count > 50_000), "{counts:?}");
+}
+
+#[test]
+fn both_programs() {
+    plan_texts();
+    script_texts();
 }

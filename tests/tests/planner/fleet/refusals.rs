@@ -1,6 +1,6 @@
 //! Bad records and lines, each with its refusal, and the order of refusals.
 
-use crate::{befell, m2, m2_with};
+use super::{befell, m2, m2_with};
 use planner_tests::compare_fleet::Fleet;
 use planner_tests::ends::{Entry, Frame, What};
 use planner_tests::faults::{each_choice, first_but, of_line, of_table, Fault};

@@ -1,6 +1,6 @@
 //! What an end does: opening, taking and displacing, asking, and whole bargainings.
 
-use crate::{m2_end_with, without_spare};
+use super::{m2_end_with, without_spare};
 use planner_tests::compare_ends::End;
 use planner_tests::ends::{other_end, Frame, Kind, What, LINE};
 use planner_tests::events::own_links;

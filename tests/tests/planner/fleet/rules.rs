@@ -1,6 +1,6 @@
 //! What a fleet does, event by event.
 
-use crate::{befell, m2, m2_with};
+use super::{befell, m2, m2_with};
 use planner_tests::compare_fleet::Fleet;
 use planner_tests::ends::What;
 use planner_tests::face;

@@ -1,6 +1,6 @@
 //! Named scripts and what they print.
 
-use crate::printed;
+use super::printed;
 use planner_tests::channel::full_script;
 use planner_tests::compare_script::{text, text_in};
 use planner_tests::random::Random;

@@ -1,0 +1,179 @@
+//! The documents say what stands in the repository: imports, layers, claims, must-fail edits.
+
+use std::collections::{BTreeMap, BTreeSet};
+use std::fs::{read_dir, read_to_string};
+use std::path::{Path, PathBuf};
+
+fn top() -> PathBuf {
+    Path::new(env!("CARGO_MANIFEST_DIR")).join("..")
+}
+
+fn text(path: &Path) -> String {
+    read_to_string(path).unwrap_or_else(|e| panic!("{}: {e}", path.display()))
+}
+
+fn document(path: &str) -> String {
+    text(&top().join(path))
+}
+
+/// The files at or below a path that end in one of the suffixes.
+fn files(path: &Path, suffixes: &[&str]) -> Vec<PathBuf> {
+    if path.is_dir() {
+        let entries = read_dir(path).expect("a folder that can be read");
+        let paths = entries.map(|entry| entry.expect("an entry").path());
+        return paths.flat_map(|path| files(&path, suffixes)).collect();
+    }
+    let name = path.to_string_lossy();
+    let wanted = suffixes.iter().any(|suffix| name.ends_with(suffix));
+    Vec::from_iter(wanted.then(|| path.to_owned()))
+}
+
+/// What stands between backticks.
+fn quoted(text: &str) -> impl Iterator<Item = &str> {
+    text.split('`').skip(1).step_by(2)
+}
+
+/// The cells of each row of the tables below a heading, without the tables' own headings.
+fn rows<'a>(text: &'a str, heading: &str) -> Vec<Vec<&'a str>> {
+    let start = text.find(heading).expect("the heading") + heading.len();
+    let part = text[start..].split("\n## ").next().expect("a part");
+    let lines: Vec<&str> = part.lines().collect();
+    let below = |i: &usize| {
+        !lines
+            .get(i + 1)
+            .is_some_and(|next| next.starts_with("|---"))
+    };
+    let row = |i: &usize| lines[*i].starts_with("| ") && below(i);
+    let cells = |i: usize| {
+        lines[i]
+            .trim_matches('|')
+            .split(" | ")
+            .map(str::trim)
+            .collect()
+    };
+    (0..lines.len()).filter(row).map(cells).collect()
+}
+
+/// Each crate with the crates of the repository that its line in crates.txt has.
+fn listed() -> BTreeMap<String, BTreeSet<String>> {
+    let text = document("crates.txt");
+    let lines: Vec<_> = text.lines().filter_map(|l| l.split_once(':')).collect();
+    let own: BTreeSet<&str> = lines.iter().map(|line| line.0).collect();
+    let words = |list: &str| {
+        let words = list.split_whitespace().filter(|word| own.contains(word));
+        words.map(str::to_owned).collect()
+    };
+    let line = |&(name, list): &(&str, &str)| (name.to_owned(), words(list));
+    lines.iter().map(line).collect()
+}
+
+/// The words that a file of Rattle or antt has where a crate can stand.
+fn crate_words(path: &Path) -> BTreeSet<String> {
+    let text = text(path);
+    let words = |text: &str| -> Vec<String> {
+        let words = text.split(|c: char| !c.is_alphanumeric() && c != '_');
+        words.map(str::to_owned).collect()
+    };
+    let mut found = BTreeSet::new();
+    found.extend(
+        text.split("Rattle·")
+            .skip(1)
+            .map(|rest| words(rest).swap_remove(0)),
+    );
+    if path.extension().is_some_and(|suffix| suffix == "rt") {
+        found.extend(text.split("::").filter_map(|part| words(part).pop()));
+    }
+    found
+}
+
+#[test]
+fn crates_list_what_they_import() {
+    let crates = listed();
+    for (name, list) in &crates {
+        let sources = files(&top().join("crates").join(name), &[".rt", ".antt"]);
+        let words = sources.iter().flat_map(|path| crate_words(path));
+        let imports = words.filter(|word| crates.contains_key(word) && word != name);
+        assert_eq!(&imports.collect::<BTreeSet<_>>(), list, "{name}");
+    }
+}
+
+#[test]
+fn layers() {
+    let crates = listed();
+    let readme = document("README.md");
+    let layers = rows(&readme, "\n## How the crates stand on each other\n");
+    let mut layer_of = BTreeMap::new();
+    for layer in &layers {
+        for name in quoted(layer[1]) {
+            assert_eq!(layer_of.insert(name, layer[0]), None, "{name} stands twice");
+        }
+    }
+    assert!(layer_of.keys().eq(crates.keys()));
+    for layer in &layers {
+        let below: BTreeSet<_> = layer[2]
+            .split(", ")
+            .filter(|name| !name.is_empty())
+            .collect();
+        let imports = quoted(layer[1]).flat_map(|name| &crates[name]);
+        let others = imports.map(|name| layer_of[name.as_str()]);
+        let others: BTreeSet<_> = others.filter(|&other| other != layer[0]).collect();
+        assert_eq!(others, below, "{}", layer[0]);
+    }
+}
+
+/// Each name that states a sentence stands in one of the files beside it.
+#[test]
+fn claims() {
+    let claims = document("docs/CLAIMS.md");
+    let mut names = 0;
+    let headings = claims.lines().filter(|line| line.starts_with("## "));
+    for row in headings.flat_map(|heading| rows(&claims, heading)) {
+        let [_, stated, place] = row[..] else {
+            continue;
+        };
+        let paths: Vec<_> = quoted(place).map(|path| top().join(path)).collect();
+        assert!(paths.iter().all(|path| path.exists()), "{place}");
+        let found: String = paths
+            .iter()
+            .flat_map(|path| files(path, &[""]))
+            .map(|path| text(&path))
+            .collect();
+        let ends = |c: char| c.is_whitespace() || "(){}[],;.:<".contains(c);
+        let tokens: BTreeSet<&str> = found.split(ends).collect();
+        for name in quoted(stated).filter(|_| !paths.is_empty()) {
+            let name = name.rsplit("::").next().expect("a last part");
+            assert!(tokens.contains(name), "{name} is not in {place}");
+            names += 1;
+        }
+    }
+    assert!(names > 200, "{names}");
+}
+
+/// The must-fail edits are those among the claims, each under its crate.
+#[test]
+fn edits() {
+    let claims = document("docs/CLAIMS.md");
+    let mut named = BTreeSet::new();
+    for row in rows(
+        &claims,
+        "\n## Public promises, and wrong answers that they rule out\n",
+    ) {
+        for answers in row[1]
+            .split("; ")
+            .filter(|part| !part.starts_with("and those of"))
+        {
+            let (of, edits) = answers.split_once(": ").expect("a crate and its edits");
+            let of = of.trim_matches('`');
+            named.extend(quoted(edits).map(|edit| format!("{of}/must-fail/{edit}.edit")));
+        }
+    }
+    let crates = top().join("crates");
+    let stand = files(&crates, &[".edit"]);
+    let stand = stand
+        .iter()
+        .map(|path| path.strip_prefix(&crates).expect("a crate's"));
+    let stand: BTreeSet<_> = stand
+        .map(|path| path.to_string_lossy().into_owned())
+        .collect();
+    assert_eq!(named, stand);
+}

@@ -1,0 +1,22 @@
+//! All tests, in one binary, so that the longest runs beside the others.
+
+mod definitions;
+mod documents;
+mod ends;
+mod fleet;
+mod fleet_definitions;
+mod fuzz;
+mod marked_sites;
+mod methods;
+mod named_slices;
+mod named_texts;
+mod plan_random;
+mod plan_sizes;
+mod plan_slips;
+mod plan_small;
+mod plan_texts;
+mod programs;
+mod random_slices;
+mod random_texts;
+mod script;
+mod sizes;
