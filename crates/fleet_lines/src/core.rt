@@ -11,6 +11,7 @@ ghost use Rattle.frame.specs.Frame.{frameOf, frameFault};
 ghost use Rattle.rules.specs.declared.Event.the-variants.{Opening, Offer, Refusal};
 ghost use Rattle.rules.specs.Frames.{between};
 ghost use Rattle.rules.specs.Within.{EventWithin};
+ghost use Rattle.link_between.specs.Ordered.{Ordered};
 ghost use Rattle.fleet_theory.specs.Fleet.{own, endsFault, lineFault, unsentFault};
 
 fn refused(fault: u8) -> Ends
@@ -29,7 +30,7 @@ fn find_ends(
     from: usize,
     to: usize,
 ) -> Ends
-    requires { ⌜ (links ≤ length (now lows)) × (links ≤ length (now highs)) ⌝ }
+    requires { ⌜ Ordered links (now lows) (now highs) ⌝ }
     ensures { λ r. ⌜ (r .fault ≡ endsFault (ofSlices 0 probes links [] (now (lows .entry)) (now (highs .entry)) []) (record { kind = kind; number = 0; from = from; to = to }))
         × (r .fault ≡ 0 → eqb kind 0 ≡ false → r .link ≡ between (ofSlices 0 probes links [] (now (lows .entry)) (now (highs .entry)) []) from to) ⌝ }
 {
@@ -58,7 +59,7 @@ pub fn check_line(
     highs: &[u16],
     line: &[u8],
 ) -> Ends
-    requires { ⌜ (links ≤ length (now lows)) × (links ≤ length (now highs)) ⌝ }
+    requires { ⌜ Ordered links (now lows) (now highs) ⌝ }
     ensures { λ r. ⌜ (r .fault ≡ lineFault (ofSlices number probes links [] (now (lows .entry)) (now (highs .entry)) []) (now (line .entry)))
         × (r .fault ≡ 0 → eqb (frameOf (now (line .entry)) .kind) 0 ≡ false → r .link ≡ between (ofSlices 0 probes links [] (now (lows .entry)) (now (highs .entry)) []) (frameOf (now (line .entry)) .from) (frameOf (now (line .entry)) .to)) ⌝ }
 {

@@ -10,6 +10,7 @@ ghost use Rattle.frame.specs.Frame.{frameOf, frameFault};
 ghost use Rattle.record.specs.Record.{recordFault};
 ghost use Rattle.rules.specs.Frames.{heardOf};
 ghost use Rattle.rules.specs.Within.{EventWithin};
+ghost use Rattle.link_between.specs.Ordered.{Ordered};
 ghost use Rattle.probe_checks.specs.Checks.{untriedFault, heardFault, hearFault, openFault, linkCallFault};
 
 // 9, 23, 24 of a frame's line.
@@ -21,7 +22,7 @@ fn frame_fault(
     probe: usize,
     frame: &[u8],
 ) -> u8
-    requires { ⌜ (links ≤ length (now lows)) × (links ≤ length (now highs)) ⌝ }
+    requires { ⌜ Ordered links (now lows) (now highs) ⌝ }
     ensures { λ r. ⌜ r ≡ heardFault (ofSlices number 0 links [] (now (lows .entry)) (now (highs .entry)) []) probe (now (frame .entry)) ⌝ }
 {
     let fault = frame::core::frame_fault(frame);
@@ -52,7 +53,7 @@ fn frame_fault(
 
 // What a frame that was not turned down says.
 pub fn event_of(links: usize, lows: &[u16], highs: &[u16], frame: &[u8]) -> rules::Event
-    requires { ⌜ (links ≤ length (now lows)) × (links ≤ length (now highs)) × (frameFault (now frame) ≡ 0) ⌝ }
+    requires { ⌜ Ordered links (now lows) (now highs) × (frameFault (now frame) ≡ 0) ⌝ }
     ensures { λ r. ⌜ r ≡ heardOf (ofSlices 0 0 links [] (now (lows .entry)) (now (highs .entry)) []) (frameOf (now (frame .entry))) ⌝ }
 {
     let from = frame::core::field(frame, 6, 4);

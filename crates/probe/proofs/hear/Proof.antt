@@ -6,6 +6,7 @@ use mathlib.Core.Path.{sym, _∙_}
 use Rattle.table.specs.Table.{Table, ofSlices}
 use Rattle.table.specs.Legal.{sliceFault}
 use Rattle.table.proofs.Slices.{given}
+use Rattle.link_between.proofs.Search.{ordered}
 use Rattle.rules.specs.Frames.{heardOf}
 use Rattle.rules.proofs.Ready.{ready}
 use Rattle.frame.specs.Frame.{frameOf}
@@ -27,8 +28,7 @@ event-of-requires c κs =
     let t : Table = ofSlices (a .number) (a .probes) (a .links) (a .needs .now) (a .lows .now) (a .highs .now) (a .costs .now) in
     let s = sliceFault 256 2048 0 (a .probes) (a .links) (a .needs .now) (a .lows .now) (a .highs .now) (a .costs .now) in
     let p = hear-parts s t (a .probe) (a .rec .now) (a .frame .now) (a .free) (sym (c .before .hear-fault .ensures) ∙ c .if1 .left) in
-    let g = given 256 2048 0 (a .probes) (a .links) (a .needs .now) (a .lows .now) (a .highs .now) (a .costs .now) (p .0) in
-    (g .in-lows, g .in-highs, heard-frame t (a .probe) (a .frame .now) (p .2))
+    (ordered 256 2048 0 (a .probes) (a .links) (a .needs .now) (a .lows .now) (a .highs .now) (a .costs .now) (p .0), heard-frame t (a .probe) (a .frame .now) (p .2))
 
 apply-requires : tie.Need-apply-requires
 apply-requires c κs =

@@ -6,6 +6,7 @@ use mathlib.Core.Path.{sym, _∙_}
 use native.Mathlib.Omega.{arith}
 use Rattle.table.specs.Table.{ofSlices}
 use Rattle.table.proofs.Slices.{given}
+use Rattle.link_between.proofs.Search.{ordered}
 use Rattle.fleet_checks.proofs.Checks.{fleet-good}
 use Rattle.fleet.proofs.Checks.{checked, line-frame, line-within, line-to}
 use Rattle.fleet.proofs.Calls.{event-of, unsent-is, line-refused, unsent-refused, full-refused, line-accepted}
@@ -13,8 +14,7 @@ use Rattle.fleet.proofs.Calls.{event-of, unsent-is, line-refused, unsen
 check-line-requires : tie.Need-check-line-requires
 check-line-requires c κs =
     let a = c .before .before .before .before .before .before .args in
-    let g = given 256 2048 (a .number) (a .probes) (a .links) (a .needs .now) (a .lows .now) (a .highs .now) (a .costs .now) (c .before .before .before .before .before .before .pre .0) in
-    (g .in-lows, g .in-highs)
+    ordered 256 2048 (a .number) (a .probes) (a .links) (a .needs .now) (a .lows .now) (a .highs .now) (a .costs .now) (c .before .before .before .before .before .before .pre .0)
 
 returns : tie.Need-returns
 returns c =

@@ -12,7 +12,7 @@ use mathlib.Core.Path.{_≡_, sym, _∙_}
 use native.Mathlib.Omega.{arith}
 use borrow.Author.Tests.{eq-eqb, ne-eqb}
 use Rattle.range.proofs.Faults.{or-here, or-left, or-right}
-use Rattle.table.proofs.Slices.{given}
+use Rattle.link_between.proofs.Search.{ordered}
 use Rattle.record_checks.proofs.Bytes.{record-good}
 use Rattle.probe_checks.specs.Checks.{heardFault}
 
@@ -31,8 +31,7 @@ frame-fault-requires : tie.Need-frame-fault-requires
 frame-fault-requires c κs =
     let a = c .before .before .before .before .before .before .before .before .args in
     let z = sym (c .before .state-fault .ensures) ∙ c .if1 .left in
-    let g = given 256 2048 0 (a .probes) (a .links) (a .needs .now) (a .lows .now) (a .highs .now) (a .costs .now) (or-left _ _ z) in
-    (g .in-lows, g .in-highs)
+    ordered 256 2048 0 (a .probes) (a .links) (a .needs .now) (a .lows .now) (a .highs .now) (a .costs .now) (or-left _ _ z)
 
 returns-2 : tie.Need-returns-2
 unfolding heardFault
@@ -48,9 +47,9 @@ unfolding heardFault
 event-of-requires c κs =
     let a = c .before .before .before .before .before .before .before .before .before .before .args in
     let z = sym (c .before .before .before .state-fault .ensures) ∙ c .before .before .if1 .left in
-    let g = given 256 2048 0 (a .probes) (a .links) (a .needs .now) (a .lows .now) (a .highs .now) (a .costs .now) (or-left _ _ z) in
+    let o = ordered 256 2048 0 (a .probes) (a .links) (a .needs .now) (a .lows .now) (a .highs .now) (a .costs .now) (or-left _ _ z) in
     let t : Table = ofSlices (a .number) (a .probes) (a .links) (a .needs .now) (a .lows .now) (a .highs .now) (a .costs .now) in
-    (g .in-lows, g .in-highs, heard-frame t (a .probe) (a .frame .now) (sym (c .before .frame-fault .ensures) ∙ c .if2 .left))
+    (o, heard-frame t (a .probe) (a .frame .now) (sym (c .before .frame-fault .ensures) ∙ c .if2 .left))
 
 untried-fault-requires : tie.Need-untried-fault-requires
 unfolding heardFault
