@@ -17,7 +17,7 @@ use Rattle.offer_search.proofs.core.next_offer.Reads as next-offer-reads
 use Rattle.directions.proofs.core.opposite.Reads as opposite-reads
 use Rattle.directions.proofs.core.put.Reads as put-reads
 use Rattle.directions.proofs.core.store.Reads as store-reads
-use Rattle.directions.proofs.core.take_one.Reads as take-one-reads
+use Rattle.table.proofs.core.take_one.Reads as take-one-reads
 use Rattle.table.proofs.core.add_one.Reads as add-one-reads
 use Rattle.offer_steps.proofs.core.+displace+make_offer.{statement}
 use Rattle.offer_steps.proofs.core.+displace+make_offer.Tie.{close}
