@@ -25,8 +25,9 @@ use mathlib.Core.List.{List}
 use lib.ListN.{length}
 use native.Mathlib.Omega.{arith}
 use Rattle.table.specs.Table.{item}
+use Rattle.record.specs.Record.{outbound}
 use Rattle.offers.specs.Offers.{stands, Cheapest}
-use Rattle.offers.specs.Record.{endOf, siteOf, outbound, put, untriedCount, Kept}
+use Rattle.offers.specs.Record.{endOf, siteOf, put, untriedCount, Kept}
 use Rattle.offers.proofs.Record.{target-below, source-below}
 use Rattle.offers.proofs.Chain.{opposite-below, opposite-end}
 use Rattle.offers.proofs.Kept.{mark-other, less-at, cursor-moved, floor-moved}
