@@ -155,11 +155,6 @@ displace-end t c =
     let a = displace-start t (displace-ends t (c .before .before .before .before)) .args in
     c .before .before .before .before .before .before .end-of3 .ensures ∙ sym (ap (endOf (a .lows .now) (a .highs .now)) (c .opposite .ensures) ∙ opposite-end (a .lows .now) (a .highs .now) (c .before .before .before .before .before .before .before .cheapest .result))
 
-displace-bytes : (t : ℕ) (c : DisplacePut t) → let a = displace-start t (displace-ends t (displace-stored t c)) .args in c .put2 .last .0 ≡ put (put (a .rec .now) (c .before .before .before .before .before .opposite .result) 2) (a .d) 1
-displace-bytes t c =
-    let a = displace-start t (displace-ends t (displace-stored t c)) .args in
-    c .put2 .ensures ∙ ap (λ (y : List ℕ). put y (a .d) 1) (c .before .before .before .before .put .ensures)
-
 displace-end-of-requires : (t : ℕ) → displace-lts.Need-end-of-requires (displace-calls t) (displace-at t) displace.Post
 displace-end-of-requires t c κs = search needs
 
@@ -281,14 +276,15 @@ displace-make-offer-requires t c κs =
     let x = b .before .before .before .before .before .opposite .result in
     let low = displace-cheapest t (b .before .before .before .before .before) in
     let ew = displace-end t (b .before .before .before .before .before) in
+    let bytes = b .put2 .ensures ∙ ap (λ (y : List ℕ). put y (a .d) 1) (b .before .before .before .before .put .ensures) in
     let less = c .before .before .before .before .before .before .before .before .take-one in
-    let kept = displaced-kept (a .links) (a .lows .now) (a .highs .now) (a .costs .now) (a .spares .now) (a .rec .now) (a .d) (v .result) (p .0) (v .ensures) x low _ (λ z. omega arith) (λ z. omega arith) _ (displace-bytes t b) (w .result) (u .result) ew (u .ensures) (s .store .last .0) (displace-kept t s) (less .last .0) _ (less .ensures) (c .before .before .before .before .add-one .ensures) in
-    let f = displaced-fewer (a .links) (a .lows .now) (a .highs .now) (a .costs .now) (a .spares .now) (a .rec .now) (a .d) (v .result) (p .0) (v .ensures) x low _ (λ z. omega arith) (λ z. omega arith) _ (displace-bytes t b) in
-    let r = displaced-room (a .links) (a .lows .now) (a .highs .now) (a .costs .now) (a .spares .now) (a .rec .now) (a .d) (v .result) (p .0) (v .ensures) x low _ (λ z. omega arith) (λ z. omega arith) _ (displace-bytes t b) (w .result) ew in
+    let kept = displaced-kept (a .links) (a .lows .now) (a .highs .now) (a .costs .now) (a .spares .now) (a .rec .now) (a .d) (v .result) (p .0) (v .ensures) x low _ (λ z. omega arith) (λ z. omega arith) _ bytes (w .result) (u .result) ew (u .ensures) (s .store .last .0) (displace-kept t s) (less .last .0) _ (less .ensures) (c .before .before .before .before .add-one .ensures) in
+    let f = displaced-fewer (a .links) (a .lows .now) (a .highs .now) (a .costs .now) (a .spares .now) (a .rec .now) (a .d) (v .result) (p .0) (v .ensures) x low _ (λ z. omega arith) (λ z. omega arith) _ bytes in
+    let r = displaced-room (a .links) (a .lows .now) (a .highs .now) (a .costs .now) (a .spares .now) (a .rec .now) (a .d) (v .result) (p .0) (v .ensures) x low _ (λ z. omega arith) (λ z. omega arith) _ bytes (w .result) ew in
     let lw = displace-maker t (s .before .before) in
     let n = kept .standing (w .result) lw in
     let m = displace-start t e .pre .0 in
-    (omega arith, (displaced-ready (a .links) (a .lows .now) (a .highs .now) (a .costs .now) (a .spares .now) (a .rec .now) (a .d) (v .result) (p .0) (v .ensures) x low _ (λ z. omega arith) (λ z. omega arith) _ (displace-bytes t b), kept, p .2, p .3, lw, omega arith))
+    (omega arith, (displaced-ready (a .links) (a .lows .now) (a .highs .now) (a .costs .now) (a .spares .now) (a .rec .now) (a .d) (v .result) (p .0) (v .ensures) x low _ (λ z. omega arith) (λ z. omega arith) _ bytes, kept, p .2, p .3, lw, omega arith))
 
 displace-same-length : (t : ℕ) → displace-lts.Need-same-length (displace-calls t) (displace-at t) displace.Post
 displace-same-length t c =
@@ -308,8 +304,9 @@ displace-returns t c =
     let a = displace-start t e .args in
     let p = displace-start t e .pre .1 in
     let v = e .end-of2 in
+    let bytes = b .put2 .ensures ∙ ap (λ (y : List ℕ). put y (a .d) 1) (b .before .before .before .before .put .ensures) in
     let again = c .before .before .before .before .make-offer .ensures in
-    (displaced-offered (a .links) (a .lows .now) (a .highs .now) (a .costs .now) (a .spares .now) (a .rec .now) (a .d) (v .result) (p .0) (v .ensures) (b .before .before .before .before .before .opposite .result) (displace-cheapest t (b .before .before .before .before .before)) _ (λ z. omega arith) (λ z. omega arith) _ (displace-bytes t b) (s .before .before .end-of3 .result) (displace-end t (b .before .before .before .before .before)) _ _ (again .0), again .1)
+    (displaced-offered (a .links) (a .lows .now) (a .highs .now) (a .costs .now) (a .spares .now) (a .rec .now) (a .d) (v .result) (p .0) (v .ensures) (b .before .before .before .before .before .opposite .result) (displace-cheapest t (b .before .before .before .before .before)) _ (λ z. omega arith) (λ z. omega arith) _ bytes (s .before .before .end-of3 .result) (displace-end t (b .before .before .before .before .before)) _ _ (again .0), again .1)
 
 -- places of make_offer: the cursor stored, with v
 abbrev OfferStart : ℕ → Type 0
