@@ -1,6 +1,6 @@
 // The two directions of each link: their ends, their order and their bytes; and the entries of slices of numbers.
 ghost use mathlib.Core.Path.{_≡_};
-ghost use Prim.Native.Nat.{_+_, _*_, _-_, _<_};
+ghost use Prim.Native.Nat.{_+_, _*_, _<_};
 ghost use lib.Dec.{ltb};
 ghost use lib.ListN.{length, set};
 ghost use Rattle.table.specs.Table.{item};
@@ -73,11 +73,4 @@ pub fn store(numbers: &mut [u16], i: usize, x: usize)
     ensures { λ _. ⌜ now (numbers .exit) ≡ set (now (numbers .entry)) i x ⌝ }
 {
     numbers[i] = x as u16;
-}
-
-pub fn take_one(counts: &mut [u16], i: usize)
-    requires { ⌜ (i < length (now counts)) × (0 < item (now counts) i) ⌝ }
-    ensures { λ _. ⌜ now (counts .exit) ≡ set (now (counts .entry)) i (item (now (counts .entry)) i - 1) ⌝ }
-{
-    counts[i] -= 1;
 }

@@ -4,15 +4,15 @@ use rules::Event;
 use rules::Outcome;
 ghost use mathlib.Core.Path.{_≡_};
 ghost use mathlib.Core.Bool.{cond, _&&_, _||_};
-ghost use Prim.Native.Nat.{_+_, _-_, _<_, _≤_};
+ghost use mathlib.Core.List.{[]};
+ghost use Prim.Native.Nat.{_*_, _-_, _<_, _≤_};
 ghost use lib.Dec.{ltb, leb, eqb};
 ghost use lib.ListN.{length};
-ghost use Rattle.table.specs.Table.{item, ofSlices, dearer, cheaper};
-ghost use Rattle.record.specs.Record.{outbound, inbound};
+ghost use Rattle.table.specs.Table.{item, ofSlices};
 ghost use Rattle.rules.specs.Rules.{opening, offer, befalls};
 ghost use Rattle.rules.specs.Within.{EventWithin};
 ghost use Rattle.fleet_theory.specs.Fleet.{own};
-ghost use Rattle.fleet_decisions.specs.Survey.{Ready, Surveyed};
+ghost use Rattle.fleet_decisions.specs.Survey.{Ready, sideByte, sideBetter, Surveyed};
 
 fn one_if(byte: u8) -> usize
     ensures { λ r. ⌜ r ≡ cond (eqb byte 1) 1 0 ⌝ }
@@ -23,36 +23,53 @@ fn one_if(byte: u8) -> usize
     0
 }
 
-// The dearest untried link so far, with the link k.
-fn untried_with(byte: u8, costs: &[u16], links: usize, k: usize, best: usize) -> usize
-    requires { ⌜ (links ≤ length (now costs)) × (k < links) ⌝ }
-    ensures { λ r. ⌜ r ≡ cond (eqb byte 0 && (leb links best || leb (item (now (costs .entry)) best) (item (now (costs .entry)) k))) k best ⌝ }
+// The end's byte on the link k: with value 0 the outbound byte, with value 1 the inbound one.
+fn side_byte(
+    value: u8,
+    rec: &[u8],
+    links: usize,
+    lows: &[u16],
+    highs: &[u16],
+    probe: usize,
+    k: usize,
+) -> u8
+    requires { ⌜ (k < links) × (links ≤ 2048) × (links ≤ length (now lows)) × (links ≤ length (now highs)) × (length (now rec) ≡ 4 * links) ⌝ }
+    ensures { λ r. ⌜ r ≡ sideByte value (own (ofSlices 0 0 links [] (now (lows .entry)) (now (highs .entry)) []) probe (now (rec .entry))) k ⌝ }
 {
-    if byte != 0 {
+    if value == 1 {
+        return fleet_record::core::in_byte(rec, lows, highs, probe, k);
+    }
+    fleet_record::core::out_byte(rec, lows, highs, probe, k)
+}
+
+// Whether the link k goes before the best so far, which stands earlier in the table.
+fn goes_before(value: u8, costs: &[u16], links: usize, k: usize, best: usize) -> bool
+    requires { ⌜ (links ≤ length (now costs)) × (k < links) ⌝ }
+    ensures { λ r. ⌜ r ≡ (leb links best || cond (eqb value 1) (ltb (item (now (costs .entry)) k) (item (now (costs .entry)) best)) (leb (item (now (costs .entry)) best) (item (now (costs .entry)) k))) ⌝ }
+{
+    if value == 1 {
+        return record_search::core::cheaper_later(costs, links, k, best);
+    }
+    record_search::core::dearer_later(costs, links, k, best)
+}
+
+// The best link so far, with the link k.
+fn best_with(value: u8, byte: u8, costs: &[u16], links: usize, k: usize, best: usize) -> usize
+    requires { ⌜ (links ≤ length (now costs)) × (k < links) ⌝ }
+    ensures { λ r. ⌜ r ≡ cond (eqb byte value && (leb links best || cond (eqb value 1) (ltb (item (now (costs .entry)) k) (item (now (costs .entry)) best)) (leb (item (now (costs .entry)) best) (item (now (costs .entry)) k)))) k best ⌝ }
+{
+    if byte != value {
         return best;
     }
-    if record_search::core::dearer_later(costs, links, k, best) {
+    if goes_before(value, costs, links, k, best) {
         return k;
     }
     best
 }
 
-// The cheapest held link so far, with the link k.
-fn held_with(byte: u8, costs: &[u16], links: usize, k: usize, best: usize) -> usize
-    requires { ⌜ (links ≤ length (now costs)) × (k < links) ⌝ }
-    ensures { λ r. ⌜ r ≡ cond (eqb byte 1 && (leb links best || ltb (item (now (costs .entry)) k) (item (now (costs .entry)) best))) k best ⌝ }
-{
-    if byte != 1 {
-        return best;
-    }
-    if record_search::core::cheaper_later(costs, links, k, best) {
-        return k;
-    }
-    best
-}
-
-// The end's links, its offers standing and its dearest untried link.
-fn survey_outbound(
+// The end's links; with value 0 its offers standing and its dearest untried link, with value 1 its offers held and the cheapest of them.
+fn survey(
+    value: u8,
     rec: &[u8],
     probes: usize,
     links: usize,
@@ -63,7 +80,7 @@ fn survey_outbound(
     probe: usize,
 ) -> Survey
     requires { ⌜ Ready (ofSlices 0 probes links (now needs) (now lows) (now highs) (now costs)) (now rec) (length (now lows)) (length (now highs)) (length (now costs)) ⌝ }
-    ensures { λ r. ⌜ Surveyed (ofSlices 0 probes links (now (needs .entry)) (now (lows .entry)) (now (highs .entry)) (now (costs .entry))) probe (outbound (own (ofSlices 0 probes links (now (needs .entry)) (now (lows .entry)) (now (highs .entry)) (now (costs .entry))) probe (now (rec .entry)))) (dearer (ofSlices 0 probes links (now (needs .entry)) (now (lows .entry)) (now (highs .entry)) (now (costs .entry)))) 0 links r ⌝ }
+    ensures { λ r. ⌜ Surveyed (ofSlices 0 probes links (now (needs .entry)) (now (lows .entry)) (now (highs .entry)) (now (costs .entry))) probe (sideByte value (own (ofSlices 0 probes links (now (needs .entry)) (now (lows .entry)) (now (highs .entry)) (now (costs .entry))) probe (now (rec .entry)))) (sideBetter value (ofSlices 0 probes links (now (needs .entry)) (now (lows .entry)) (now (highs .entry)) (now (costs .entry)))) value links r ⌝ }
 {
     let mut s = Survey {
         degree: 0,
@@ -77,47 +94,11 @@ fn survey_outbound(
         if !record::core::touches(lows, highs, probe, k) {
             continue;
         }
-        let byte = fleet_record::core::out_byte(rec, lows, highs, probe, k);
+        let byte = side_byte(value, rec, links, lows, highs, probe, k);
         s = Survey {
             degree: s.degree + 1,
             count: s.count + one_if(byte),
-            best: untried_with(byte, costs, links, k, s.best),
-        };
-    }
-    s
-}
-
-// The end's links, its offers held and the cheapest of them.
-fn survey_inbound(
-    rec: &[u8],
-    probes: usize,
-    links: usize,
-    needs: &[u16],
-    lows: &[u16],
-    highs: &[u16],
-    costs: &[u16],
-    probe: usize,
-) -> Survey
-    requires { ⌜ Ready (ofSlices 0 probes links (now needs) (now lows) (now highs) (now costs)) (now rec) (length (now lows)) (length (now highs)) (length (now costs)) ⌝ }
-    ensures { λ r. ⌜ Surveyed (ofSlices 0 probes links (now (needs .entry)) (now (lows .entry)) (now (highs .entry)) (now (costs .entry))) probe (inbound (own (ofSlices 0 probes links (now (needs .entry)) (now (lows .entry)) (now (highs .entry)) (now (costs .entry))) probe (now (rec .entry)))) (cheaper (ofSlices 0 probes links (now (needs .entry)) (now (lows .entry)) (now (highs .entry)) (now (costs .entry)))) 1 links r ⌝ }
-{
-    let mut s = Survey {
-        degree: 0,
-        count: 0,
-        best: links,
-    };
-    let mut i = 0;
-    while i < links {
-        let k = i;
-        i += 1;
-        if !record::core::touches(lows, highs, probe, k) {
-            continue;
-        }
-        let byte = fleet_record::core::in_byte(rec, lows, highs, probe, k);
-        s = Survey {
-            degree: s.degree + 1,
-            count: s.count + one_if(byte),
-            best: held_with(byte, costs, links, k, s.best),
+            best: best_with(value, byte, costs, links, k, s.best),
         };
     }
     s
@@ -150,7 +131,7 @@ fn decide_opening(
     requires { ⌜ Ready (ofSlices 0 probes links (now needs) (now lows) (now highs) (now costs)) (now rec) (length (now lows)) (length (now highs)) (length (now costs)) ⌝ }
     ensures { λ r. ⌜ r ≡ opening (ofSlices 0 probes links (now (needs .entry)) (now (lows .entry)) (now (highs .entry)) (now (costs .entry))) probe (own (ofSlices 0 probes links (now (needs .entry)) (now (lows .entry)) (now (highs .entry)) (now (costs .entry))) probe (now (rec .entry))) ⌝ }
 {
-    let s = survey_outbound(rec, probes, links, needs, lows, highs, costs, probe);
+    let s = survey(0, rec, probes, links, needs, lows, highs, costs, probe);
     if spare_of(s.degree, needs, probe) <= s.count {
         return Outcome::NothingToOpen;
     }
@@ -174,7 +155,7 @@ fn decide_offer(
     requires { ⌜ Ready (ofSlices 0 probes links (now needs) (now lows) (now highs) (now costs)) (now rec) (length (now lows)) (length (now highs)) (length (now costs)) × (i < links) ⌝ }
     ensures { λ r. ⌜ r ≡ offer (ofSlices 0 probes links (now (needs .entry)) (now (lows .entry)) (now (highs .entry)) (now (costs .entry))) probe (own (ofSlices 0 probes links (now (needs .entry)) (now (lows .entry)) (now (highs .entry)) (now (costs .entry))) probe (now (rec .entry))) i ⌝ }
 {
-    let s = survey_inbound(rec, probes, links, needs, lows, highs, costs, probe);
+    let s = survey(1, rec, probes, links, needs, lows, highs, costs, probe);
     if s.count < spare_of(s.degree, needs, probe) {
         return Outcome::Taken(i);
     }

@@ -35,6 +35,7 @@ use Rattle.fleet_theory.proofs.Own.{out-reads, in-reads}
 use Rattle.rules.specs.Within.{OwnLink, OwnOutcome}
 use Rattle.record_search.proofs.Search.{dearest}
 use Rattle.fleet_theory.proofs.Events.{line-step}
+use Rattle.fleet_theory.proofs.Changes.{no-changes}
 use Rattle.fleet_theory.proofs.Run.{slices-legal, Holds, start-holds, fleet-passes, next-holds}
 use Rattle.fleet.specs.Answers.{Handled, changesOf, changesBy, changesIn}
 use Rattle.fleet_checks.proofs.Checks.{fleet-good}
@@ -128,12 +129,6 @@ other-byte : (r r′ : List ℕ) (m v : ℕ) → item r′ m ≡ v → (item r m
 other-byte r r′ m v e d = rw (e, ne-eqb (item r m) v d)
 
 module _ (n : ℕ) (r : List ℕ) (long : length r ≡ 4 * n) where
-  no-change : sum n (linkChanges r r) ≡ 0
-  no-change =
-      sum-fours n (differs r r)
-      ∙ sum-same (4 * n) (differs r r) (λ m. cond false 1 0) (λ m l. same-byte r r m refl)
-      ∙ none-count (4 * n) (λ m. false) (λ m l e. true≢false (sym e))
-
   one-change : (j v : ℕ) → j < 4 * n → (item r j ≡ v → ⊥) → sum n (linkChanges r (set r j v)) ≡ 1
   one-change j v l new =
       sum-fours n (differs r (set r j v))
@@ -177,7 +172,7 @@ module _ (t : Table) (p : ℕ) (r : List ℕ) (long : length r ≡ 4 * t .links)
 
   outcome-changes : (o : Outcome) → OwnOutcome t p o → NewBytes (own t p r) o → sum (t .links) (linkChanges r (alterFleet t p o r)) ≡ changesOf (whatOf t p o)
   outcome-changes (Opened i) a new = out-one i 1 a new
-  outcome-changes NothingToOpen a new = no-change (t .links) r long
+  outcome-changes NothingToOpen a new = no-changes r (t .links)
   outcome-changes (Taken i) a new = in-one i 1 a new
   outcome-changes (Displacing i c) a new =
       let byte = in-reads t .own-byte r p i (a .0) in
@@ -188,7 +183,7 @@ module _ (t : Table) (p : ℕ) (r : List ℕ) (long : length r ≡ 4 * t .links)
       (λ z. let s = ap (item r) z in omega arith) (λ z. omega arith) (λ z. omega arith)
   outcome-changes (Refused i) a new = in-one i 2 a new
   outcome-changes (Learnt i) a new = out-one i 2 a new
-  outcome-changes (NoChange i) a new = no-change (t .links) r long
+  outcome-changes (NoChange i) a new = no-changes r (t .links)
 
 module _ (x : Slices) (fine : slicesFault x ≡ 0) (room : ℕ) where
   abbrev t : Table
@@ -217,7 +212,7 @@ module _ (x : Slices) (fine : slicesFault x ≡ 0) (room : ℕ) where
       go : Dec (eventFault x r used room l ≡ 0)
           → sum (x .links) (linkChanges r (cond (eqb (eventFault x r used room l) 0) (alteredBy t r f) r)) ≡ changesBy (answerOf (eventFault x r used room l) entry)
       go (yes e) = rw e (passed e)
-      go (no d) = rw (ne-eqb (eventFault x r used room l) 0 d) (no-change (x .links) r long)
+      go (no d) = rw (ne-eqb (eventFault x r used room l) 0 d) (no-changes r (x .links))
 
   -- a step of the list of lines is a line handled
   next-handled : (s : State) (l : List ℕ) → Handled x (length (s .log)) room l (answerTo x room s l) (s .bytes) (next x room s l .bytes)

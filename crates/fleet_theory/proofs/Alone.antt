@@ -20,7 +20,7 @@ use Rattle.fleet_theory.proofs.Own.{outOf, inOf, length-own}
 use Rattle.fleet_theory.proofs.Bytes.{storedOut, storedIn, out-set, out-in-set, in-set, in-out-set, altered-out, altered-in}
 
 -- records of ends that are equal byte by byte
-pairs-equal : (n : ℕ) (e f : List ℕ) → length e ≡ 2 * n → length f ≡ 2 * n → ((i : ℕ) → i < n → outbound e i ≡ outbound f i)
+pub pairs-equal : (n : ℕ) (e f : List ℕ) → length e ≡ 2 * n → length f ≡ 2 * n → ((i : ℕ) → i < n → outbound e i ≡ outbound f i)
     → ((i : ℕ) → i < n → inbound e i ≡ inbound f i) → e ≡ f
 pairs-equal n e f le lf outs ins = ext-getD 0 e f (le ∙ sym lf) (λ j l. go j l (ℕ-discrete (j % 2) 0))
   where

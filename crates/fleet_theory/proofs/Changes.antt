@@ -1,12 +1,14 @@
 -- The changes of a link: what its four bytes rise by, so at most four.
 use Prim.Native.Nat.{ℕ, _+_, _*_, _≤_, _<_}
-use mathlib.Core.Path.{_≡_, _∙_, ap}
+use mathlib.Core.Path.{_≡_, refl, sym, _∙_, ap}
+use mathlib.Core.Bool.{false, cond, true≢false}
 use mathlib.Core.List.{List, [], _∷_}
 use native.Mathlib.Nat.{add-zero}
 use native.Mathlib.Omega.{arith}
 use native.Mathlib.Decide.{ℕ-discrete}
 use borrow.Author.Tests.{eq-eqb, ne-eqb}
 use Rattle.range.specs.Sum.{sum}
+use Rattle.range.proofs.Sums.{sum-same, none-count}
 use Rattle.table.specs.Table.{Table, item}
 use Rattle.table.specs.Legal.{Legal}
 use Rattle.bargain.proofs.State.{Good, four}
@@ -17,6 +19,15 @@ use Rattle.fleet_theory.specs.Fleet.{Slices, tableOf, slicesFault, State
 use Rattle.fleet_theory.proofs.Own.{outOf, inOf}
 use Rattle.fleet_theory.proofs.Bytes.{first-byte, second-byte, third-byte, fourth-byte}
 use Rattle.fleet_theory.proofs.Run.{slices-legal, Holds, Steps, start-holds, next-holds, next-steps, run-holds}
+
+-- none where no byte is altered
+pub no-changes : (r : List ℕ) (n : ℕ) → sum n (linkChanges r r) ≡ 0
+no-changes r n = sum-same n (linkChanges r r) (λ i. cond false 1 0) (λ i l. link i) ∙ none-count n (λ i. false) (λ i l e. true≢false (sym e))
+  where
+    link : (i : ℕ) → linkChanges r r i ≡ 0
+    link i =
+        sum-same 4 (λ k. differs r r (4 * i + k)) (λ k. cond false 1 0) (λ k l. rw (eq-eqb (item r (4 * i + k)) (item r (4 * i + k)) refl))
+        ∙ none-count 4 (λ k. false) (λ k l e. true≢false (sym e))
 
 -- the four bytes of a link in a record
 abbrev fourOf : Table → List ℕ → ℕ → ℕ

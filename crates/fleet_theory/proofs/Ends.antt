@@ -1,5 +1,5 @@
 -- The ends called alone.
-use Prim.Native.Nat.{ℕ, _≤_, _<_}
+use Prim.Native.Nat.{ℕ, _+_, _*_, _≤_, _<_}
 use mathlib.Core.Path.{_≡_, refl, sym, _∙_, ap}
 use mathlib.Core.Logic.{_↔_, _⊎_, inl, inr}
 use mathlib.Core.Bool.{Bool, true, false, true≢false}
@@ -7,17 +7,18 @@ use mathlib.Core.List.{List}
 use native.Mathlib.Omega.{arith}
 use native.Mathlib.Decide.{ℕ-discrete}
 use lib.Dec.{eqb}
-use lib.ListN.{length}
+use lib.ListN.{length, length-replicate}
 use lib.Seq.{sets}
 use borrow.Author.Tests.{le-ltb, lt-ltb, eqb-true, eq-eqb, ne-eqb}
 use Rattle.range.specs.First.{orElse}
 use Rattle.range.proofs.Bools.{decided, unless-none}
 use Rattle.range.proofs.Faults.{or-left, or-right, or-none}
+use Rattle.range.proofs.Lists.{zeros-at}
 use Rattle.table.specs.Table.{Table, touches}
 use Rattle.table.specs.Legal.{Legal}
 use Rattle.cover_theory.proofs.Settled.{back}
 use Rattle.frame.specs.Frame.{Frame, frameOf, frameFault}
-use Rattle.record.specs.Record.{recordFault}
+use Rattle.record.specs.Record.{fresh, recordFault}
 use Rattle.record_checks.proofs.Bytes.{record-passes}
 use Rattle.rules.specs.declared.Event.{Event}
 use Rattle.rules.specs.declared.Event.the-variants.{Opening}
@@ -37,8 +38,8 @@ use Rattle.fleet_theory.specs.Demand3.{IsFrame, MaySend}
 use Rattle.fleet_theory.specs.Ends.{SameAlone, EndsAlone}
 use Rattle.fleet_theory.proofs.Own.{outOf, inOf, length-own}
 use Rattle.fleet_theory.proofs.Events.{Says, an-opening, an-offer, a-refusal, says, line-step}
-use Rattle.fleet_theory.proofs.Run.{slices-legal, Holds, Passed, passed, passed-fault, next-accepted, start-holds, run-holds}
-use Rattle.fleet_theory.proofs.Alone.{own-altered, own-else}
+use Rattle.fleet_theory.proofs.Run.{slices-legal, Holds, Passed, passed, passed-fault, next-accepted, start-out, start-in, start-holds, run-holds}
+use Rattle.fleet_theory.proofs.Alone.{pairs-equal, own-altered, own-else}
 
 -- whether the line was written
 abbrev isWritten : Asked → Bool
@@ -204,9 +205,15 @@ module _ (x : Slices) (fine : slicesFault x ≡ 0) (s : State) (h : Holds (table
             written : may ≡ true → (answer ≡ asked.Written) × (out′ ≡ sets out 0 (askedLine t p k i))
             written m = (rw (none, m) at (q .answer), rw (none, m) at (q .line))
 
+own-start : (x : Slices) (p : ℕ) → own (tableOf x) p (start x .bytes) ≡ fresh (tableOf x)
+own-start x p =
+    pairs-equal (x .links) (own (tableOf x) p (start x .bytes)) (fresh (tableOf x)) (length-own (tableOf x) p (start x .bytes)) (length-replicate (2 * x .links) 0)
+    (λ i l. start-out x p i ∙ sym (zeros-at (2 * x .links) (2 * i))) (λ i l. start-in x p i ∙ sym (zeros-at (2 * x .links) (2 * i + 1)))
+
 pub ends-alone : (x : Slices) → slicesFault x ≡ 0 → (room : ℕ) (ls : List (List ℕ)) → EndsAlone x room ls
 ends-alone x fine room ls =
     record {
+      own-start = own-start x;
       opens-or-hears = λ xs ys l e n. opening-or-frame x fine (after xs) (holds xs) room l (passed x fine (after xs) (holds xs) room l n);
       opens-alone = λ xs ys l e n. opens-same x fine (after xs) (holds xs) room l (passed x fine (after xs) (holds xs) room l n);
       hears-alone = λ xs ys l e n. hears-same x fine (after xs) (holds xs) room l (passed x fine (after xs) (holds xs) room l n);

@@ -72,7 +72,7 @@ module _ (x : Slices) where
   pub start-out : Same (outOf (tableOf x) (start x .bytes)) (λ p i. 0)
   start-out = start-byte (outAt (tableOf x)) (outOf (tableOf x)) (out-reads (tableOf x))
 
-  start-in : Same (inOf (tableOf x) (start x .bytes)) (λ p i. 0)
+  pub start-in : Same (inOf (tableOf x) (start x .bytes)) (λ p i. 0)
   start-in = start-byte (inAt (tableOf x)) (inOf (tableOf x)) (in-reads (tableOf x))
 
 module _ (x : Slices) (fine : slicesFault x ≡ 0) where

@@ -9,6 +9,7 @@ use lib.Seq.{sets}
 use Rattle.range.specs.First.{orElse}
 use Rattle.table.specs.Table.{Table}
 use Rattle.frame.specs.Frame.{frameOf}
+use Rattle.record.specs.Record.{fresh}
 use Rattle.rules.specs.declared.Event.{Event}
 use Rattle.rules.specs.declared.Event.the-variants.{Opening}
 use Rattle.rules.specs.Rules.{sendable}
@@ -52,6 +53,8 @@ module _ (x : Slices) (room : ℕ) (ls : List (List ℕ)) where
   ownBytes p xs = own t p (stateAfter xs .bytes)
 
   pub record EndsAlone : Type 0 where
+    -- "The list starts from a fresh fleet's record": each end's own bytes are then fresh
+    pub own-start : (p : ℕ) → own t p (start x .bytes) ≡ fresh t
     -- "For each opening or frame that the fleet accepts .. the end that opens or hears, called alone on its own bytes of the fleet's record with an entry free"
     pub opens-or-hears : (xs ys : List (List ℕ)) (l : List ℕ) → ls ≡ xs ++ l ∷ ys → faultOf x room (stateAfter xs) l ≡ 0
         → (frameOf l .kind ≡ 0) ⊎ IsFrame (frameOf l)

@@ -3,7 +3,6 @@ use Prim.Native.Nat.{ℕ, _+_, _<_}
 use mathlib.Core.Path.{_≡_, _∙_}
 use mathlib.Core.Bool.{cond}
 use mathlib.Core.List.{List, [], _∷_}
-use native.Mathlib.Nat.{zero-add}
 use native.Mathlib.Omega.{arith}
 use lib.Dec.{eqb}
 use lib.ListN.{length, getD, length-append}
@@ -11,8 +10,8 @@ use lib.Seq.{take-all}
 use borrow.Author.Tests.{eqb-true}
 use Rattle.range.proofs.Bools.{unless-none}
 use Rattle.range.proofs.Faults.{or-left, or-right}
-use Rattle.hex.specs.Digits.{valueOf, digits}
-use Rattle.hex.proofs.Laws.{length-digits, digits-are, number-digits, number-fits}
+use Rattle.hex.specs.Digits.{digits}
+use Rattle.hex.proofs.Laws.{length-digits, digits-are, number-digits}
 use Rattle.lines.specs.Digits.{lineFault}
 use Rattle.lines.proofs.Lines.{GoodLine, line-good, good-line}
 use Rattle.lines.proofs.Parts.{part, part-at, part-split}
@@ -42,19 +41,6 @@ pub record Writable (f : Frame) : Type 0 where
   pub number : f .number < 65536
   pub from : f .from < 65536
   pub to : f .to < 65536
-
--- a good line's frame has such numbers
-pub reads-writable : (l : List ℕ) → frameFault l ≡ 0 → Writable (frameOf l)
-reads-writable l e =
-    record {
-      kind = number-fits l 0 2 (λ j k. digit 0 j (omega arith));
-      number = number-fits l 2 4 (λ j k. digit 2 j (omega arith));
-      from = number-fits l 6 4 (λ j k. digit 6 j (omega arith));
-      to = number-fits l 10 4 (λ j k. digit 10 j (omega arith));
-    }
-  where
-    digit : (at j : ℕ) → at + j < 14 → valueOf (getD l (at + j) 0) < 16
-    digit at j k = let d = frame-good l e .line .digits (at + j) k in rw (zero-add (at + j)) at d
 
 pub length-frame : (f : Frame) → length (frameLine f) ≡ 15
 unfolding frameLine

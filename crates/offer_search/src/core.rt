@@ -2,9 +2,10 @@
 ghost use Prim.Native.Nat.{_+_, _*_, _<_, _≤_};
 ghost use lib.ListN.{length};
 ghost use Rattle.table.specs.Table.{item};
+ghost use Rattle.record.specs.Record.{outbound};
 ghost use Rattle.offers.specs.Chain.{opposite, Falling, Rising};
 ghost use Rattle.offers.specs.Offers.{Sought, Cheapest, Floor, holds};
-ghost use Rattle.offers.specs.Record.{siteOf, outbound, Ready, Kept};
+ghost use Rattle.offers.specs.Record.{siteOf, Ready, Kept};
 use directions::core::CURSOR;
 use directions::core::FLOOR;
 use directions::core::HELD;

@@ -14,7 +14,6 @@ use directions::core::entry;
 use directions::core::opposite;
 use directions::core::put;
 use directions::core::store;
-use directions::core::take_one;
 
 // Makes the next offer of u, if one is left; an end that holds its spare displaces its cheapest.
 pub fn make_offer(
@@ -86,7 +85,7 @@ fn displace(
     store(marks, 4 * v + FLOOR, floor);
     put(rec, opposite(floor), 2);
     put(rec, d, 1);
-    take_one(marks, 4 * w + STANDING);
+    table::core::take_one(marks, 4 * w + STANDING);
     table::core::add_one(marks, 4 * u + STANDING);
     let _again = make_offer(rec, marks, links, lows, highs, costs, spares, nexts, ups, w);
 }

@@ -7,8 +7,9 @@ use native.Mathlib.Decide.{ℕ-discrete}
 use lib.ListN.{length, set, length-set}
 use lib.Seq.{getD-set-same, getD-set-other}
 use Rattle.table.specs.Table.{item}
+use Rattle.record.specs.Record.{outbound}
 use Rattle.offers.specs.Offers.{Site, Sought, Floor, Walk}
-use Rattle.offers.specs.Record.{endOf, siteOf, outbound, mark, FirstMarks, Kept}
+use Rattle.offers.specs.Record.{endOf, siteOf, mark, FirstMarks, Kept}
 use Rattle.offers.proofs.Chain.{walk-sought}
 
 -- in another column

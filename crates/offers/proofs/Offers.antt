@@ -1,5 +1,5 @@
 -- What an offer taken, with or without a displacement, does to the offers of a site.
-use Prim.Native.Nat.{ℕ, zero, suc, _+_, _≤_, _<_}
+use Prim.Native.Nat.{ℕ, _+_, _≤_, _<_}
 use mathlib.Core.Path.{_≡_, refl, sym, _∙_, ap}
 use mathlib.Core.Logic.{_⊎_, inl, inr}
 use mathlib.Core.Bool.{Bool, true, false, cond, _&&_, true≢false}
@@ -7,35 +7,10 @@ use native.Mathlib.Omega.{arith}
 use native.Mathlib.Decide.{decLe, decLt, ℕ-discrete}
 use lib.Dec.{ltb, eqb}
 use borrow.Author.Tests.{ltb-true, ltb-false, lt-ltb, eqb-true, eq-eqb, ne-eqb}
-use Rattle.range.specs.Sum.{sum, count}
 use Rattle.range.proofs.Bools.{and-left, and-right, and-intro, decided}
+use Rattle.range.proofs.Counts.{member-outside}
 use Rattle.range.proofs.Sums.{sum-same, sum-add, sum-one, weigh-le}
 use Rattle.offers.specs.Offers.{Site, on, stands, holds, beats, rivals, Shut, NoneLeft, Satisfied, Inv, Grows, Made, Next, Cheapest}
-
--- a larger set has a member that the smaller has not
-find : (n : ℕ) (p q : ℕ → Bool) → count n p < count n q → (i : ℕ) × (i < n) × (q i ≡ true) × (p i ≡ false)
-unfolding sum
-find n p q l = go n l
-  where
-    go : (n : ℕ) → count n p < count n q → (i : ℕ) × (i < n) × (q i ≡ true) × (p i ≡ false)
-    go zero l = absurd (omega arith)
-    go (suc n) l = here (go n) (decided (q n)) (decided (p n))
-      where
-        here : (count n p < count n q → (i : ℕ) × (i < n) × (q i ≡ true) × (p i ≡ false)) → (q n ≡ true) ⊎ (q n ≡ false) → (p n ≡ true) ⊎ (p n ≡ false)
-            → (i : ℕ) × (i < suc n) × (q i ≡ true) × (p i ≡ false)
-        here below (inl a) (inr b) = (n, omega arith, a, b)
-        here below (inl a) (inl b) =
-            let k = rw (a, b) at l in
-            let m = below (omega arith) in
-            (m .0, omega (arith, m .1), m .2, m .3)
-        here below (inr a) (inl b) =
-            let k = rw (a, b) at l in
-            let m = below (omega arith) in
-            (m .0, omega (arith, m .1), m .2, m .3)
-        here below (inr a) (inr b) =
-            let k = rw (a, b) at l in
-            let m = below (omega arith) in
-            (m .0, omega (arith, m .1), m .2, m .3)
 
 -- the bit of a direction of q by its byte, where the byte becomes 1, and where it is 1 no more
 one-more : (b : Bool) → cond (b && eqb 1 1) 1 0 ≡ cond (b && eqb 0 1) 1 0 + cond b 1 0
@@ -203,7 +178,7 @@ module _ (s : Site) (laws : Distinct s) (o : ℕ → ℕ) (i : Inv s o) (u d : �
         part f (no n) (no g) = rw (ne-eqb f d n, ne-eqb f c g, rest f n g)
 
     cheaper : s .key c < s .key d
-    cheaper = go (find (s .dirs) (λ f. beats s d f && eqb (o f) 1) (λ f. eqb (s .target f) (s .target d) && eqb (o f) 1) (let a = next .wanted in omega arith))
+    cheaper = go (member-outside (s .dirs) (λ f. beats s d f && eqb (o f) 1) (λ f. eqb (s .target f) (s .target d) && eqb (o f) 1) (let a = next .wanted in omega arith))
       where
         go : (f : ℕ) × (f < s .dirs) × ((eqb (s .target f) (s .target d) && eqb (o f) 1) ≡ true) × ((beats s d f && eqb (o f) 1) ≡ false) → s .key c < s .key d
         go (f, l, h, n) = last (decided (ltb (s .key d) (s .key f)))

@@ -24,8 +24,9 @@ use Rattle.cover_theory.specs.Plan.{linksAt, rested, kept}
 use Rattle.cover_theory.proofs.Order.{Sound, sound, dear, on-dear, Dear}
 use Rattle.cover_theory.proofs.Plan.{dearerAt}
 use Rattle.cover_theory.proofs.Settled.{Across, up, down, Settled, settled-is-plan}
+use Rattle.record.specs.Record.{outbound, inbound}
 use Rattle.offers.specs.Offers.{Site, on, Shut}
-use Rattle.offers.specs.Record.{endOf, keyOf, siteOf, outbound, inbound, keptByte, Fits, Over}
+use Rattle.offers.specs.Record.{endOf, keyOf, siteOf, keptByte, Fits, Over}
 use Rattle.offers.proofs.Offers.{explained}
 use Rattle.offers.proofs.Record.{end-from, end-back}
 

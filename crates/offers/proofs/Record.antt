@@ -12,7 +12,8 @@ use borrow.Author.Tests.{ltb-true, lt-ltb, eqb-true, eq-eqb, ne-eqb}
 use Rattle.range.proofs.Bools.{same-bool}
 use Rattle.range.proofs.Sums.{weigh-le, count-less}
 use Rattle.table.specs.Table.{item}
-use Rattle.offers.specs.Record.{endOf, keyOf, siteOf, outbound, inbound, put, untriedCount, Fits, Paired}
+use Rattle.record.specs.Record.{outbound, inbound}
+use Rattle.offers.specs.Record.{endOf, keyOf, siteOf, put, untriedCount, Fits, Paired}
 use Rattle.offers.proofs.Offers.{Distinct}
 
 pub end-even : (a b : List ℕ) (d : ℕ) → d % 2 ≡ 0 → endOf a b d ≡ item a (d / 2)

@@ -10,8 +10,9 @@ use lib.ListN.{length, set}
 use borrow.Author.Tests.{eq-eqb, ne-eqb}
 use Rattle.range.proofs.Sums.{sum-at}
 use Rattle.table.specs.Table.{item}
+use Rattle.record.specs.Record.{outbound}
 use Rattle.offers.specs.Offers.{Site, on, stands, holds, Grows, Sought, Cheapest}
-use Rattle.offers.specs.Record.{endOf, siteOf, outbound, put, untriedCount, Ready, mark, Kept, Offered, Displaces}
+use Rattle.offers.specs.Record.{endOf, siteOf, put, untriedCount, Ready, mark, Kept, Offered, Displaces}
 use Rattle.offers.proofs.Offers.{on-take, made-none, take-made, on-swap, swap-inv, swap-room, swap-grows, swap-made}
 use Rattle.offers.proofs.Record.{length-put, put-here, put-other, put-paired, untried-most, untried-less, distinct, source-below, target-below}
 use Rattle.offers.proofs.Chain.{walk-grows, floor-grows}

@@ -13,8 +13,9 @@ use Rattle.range.specs.Sum.{count}
 use Rattle.range.proofs.Bools.{and-right}
 use Rattle.range.proofs.Sums.{none-count}
 use Rattle.table.specs.Table.{item}
+use Rattle.record.specs.Record.{outbound}
 use Rattle.offers.specs.Offers.{stands, Satisfied}
-use Rattle.offers.specs.Record.{endOf, siteOf, outbound, Fits, Ready, mark, Kept, Offered, Turned, Over}
+use Rattle.offers.specs.Record.{endOf, siteOf, Fits, Ready, mark, Kept, Offered, Turned, Over}
 use Rattle.offers.specs.Chain.{Started}
 use Rattle.offers.proofs.Offers.{satisfied-made}
 use Rattle.offers.proofs.Chain.{walk-start, floor-start}

@@ -7,6 +7,7 @@ use lib.Dec.{eqb}
 use lib.ListN.{length, set}
 use Rattle.range.specs.Sum.{count}
 use Rattle.table.specs.Table.{item}
+use Rattle.record.specs.Record.{outbound, inbound}
 use Rattle.offers.specs.Offers.{Site, stands, holds, NoneLeft, Satisfied, Inv, Made, Next, Walk, Floor}
 
 -- the direction 2 * i is the link i from its first end, 2 * i + 1 the other way
@@ -21,14 +22,7 @@ abbrev pub siteOf : ℕ → List ℕ → List ℕ → List ℕ → List ℕ → 
 siteOf links lows highs costs spares =
     record { dirs = 2 * links; source = endOf lows highs; target = endOf highs lows; key = keyOf costs; spare = item spares }
 
--- the outbound and the inbound byte of a direction
-abbrev pub outbound : List ℕ → ℕ → ℕ
-outbound r d = item r (2 * d)
-
-abbrev pub inbound : List ℕ → ℕ → ℕ
-inbound r d = item r (2 * d + 1)
-
--- both bytes of a direction stored
+-- the outbound and the inbound byte of a direction, both stored
 unfoldable pub put : List ℕ → ℕ → ℕ → List ℕ
 put r d b = set (set r (2 * d) b) (2 * d + 1) b
 

@@ -10,6 +10,7 @@ use Rattle.table.specs.Table.{Table}
 use Rattle.table.specs.Legal.{Legal}
 use Rattle.cover_theory.proofs.Settled.{near, back}
 use Rattle.frame.specs.Frame.{Frame, frameOf}
+use Rattle.record.specs.Record.{fresh}
 use Rattle.record_checks.proofs.Bytes.{good-record, record-passes}
 use Rattle.rules.specs.declared.Event.{Event}
 use Rattle.rules.specs.Rules.{befalls}
@@ -21,7 +22,7 @@ use Rattle.probe_checks.specs.Checks.{heardFault, linkCallFault}
 use Rattle.probe_checks.proofs.Accepted.{heard-link, heard-to}
 use Rattle.probe_theory.specs.EndLaws.{EndLaws, after}
 use Rattle.probe_theory.proofs.Changes.{outcome-few, outcome-own}
-use Rattle.probe_theory.proofs.Usable.{befell-good}
+use Rattle.probe_theory.proofs.Usable.{fresh-good, befell-good}
 use Rattle.probe_theory.proofs.Asking.{asks-again, asked-says, asked-passes, asked-heard}
 
 heard-own : (t : Table) (p : ℕ) (l : List ℕ) → heardFault t p l ≡ 0 → OwnEvent t p (heardOf t (frameOf l))
@@ -43,6 +44,7 @@ end-laws t legal p =
       heard-own = heard-own t p;
       changes-own = λ v e a. outcome-own t p e (befalls t p v e) (own-links v e a);
       changes-few = λ v e a. outcome-few t p e (befalls t p v e) (own-links v e a);
+      fresh-usable = record-passes t p (fresh t) (fresh-good t p);
       stays-usable = λ v e f a. record-passes t p (after t p v e) (befell-good t p e (good-record t p e f) (is v e a) a);
       asked-again = λ k i slices e. asks-again t p k i e (linkCallFault slices t p e i);
       line-says = λ digits k i a. asked-says t legal digits p i a k;

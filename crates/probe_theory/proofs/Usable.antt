@@ -1,4 +1,4 @@
--- The record that an event leaves passes 20, 21 and 22.
+-- A fresh record passes 20, 21 and 22, and so does the record that an event leaves.
 use Prim.Native.Nat.{ℕ, suc, _+_, _*_, _≤_, _<_}
 use mathlib.Core.Path.{_≡_, sym, _∙_}
 use mathlib.Core.Bool.{true, false, true≢false, and-false}
@@ -6,14 +6,15 @@ use mathlib.Core.List.{List}
 use native.Mathlib.Omega.{arith}
 use native.Mathlib.Decide.{ℕ-discrete}
 use lib.Dec.{eqb}
-use lib.ListN.{length, set, length-set}
+use lib.ListN.{length, set, length-set, length-replicate}
 use borrow.Author.Tests.{eqb-true, eq-eqb, ne-eqb}
 use Rattle.range.specs.Sum.{count}
 use Rattle.range.proofs.Bools.{and-right, and-intro}
-use Rattle.range.proofs.Sums.{weigh-le, weigh-same}
+use Rattle.range.proofs.Lists.{zeros-at}
+use Rattle.range.proofs.Sums.{weigh-le, weigh-same, none-count}
 use Rattle.range.proofs.Counts.{count-except, count-swap}
-use Rattle.table.specs.Table.{Table, touches, spare}
-use Rattle.record.specs.Record.{outbound, inbound, ownWith, standing, held}
+use Rattle.table.specs.Table.{Table, item, touches, spare}
+use Rattle.record.specs.Record.{outbound, inbound, fresh, ownWith, standing, held}
 use Rattle.record_checks.proofs.Bytes.{Passes, GoodRecord}
 use Rattle.rules.specs.declared.Event.{Event}
 use Rattle.rules.specs.declared.Outcome.{Outcome}
@@ -51,6 +52,26 @@ module _ (t : Table) (p : ℕ) (b b′ : ℕ → ℕ) where
       go j d e (no s) = rw (h j d s) at e
 
 module _ (t : Table) (p : ℕ) where
+  pub fresh-good : GoodRecord t p (fresh t)
+  fresh-good =
+      record {
+        size = length-replicate (2 * t .links) 0;
+        bytes = λ i l. record {
+          out-small = rw (zero-at (2 * i)) (omega arith);
+          in-small = rw (zero-at (2 * i + 1)) (omega arith);
+          out-own = λ m. zero-at (2 * i);
+          in-own = λ m. zero-at (2 * i + 1);
+        };
+        standing-fits = rw (none (outbound (fresh t)) (λ i. zero-at (2 * i))) (omega arith);
+        held-fits = rw (none (inbound (fresh t)) (λ i. zero-at (2 * i + 1))) (omega arith);
+      }
+    where
+      zero-at : (j : ℕ) → item (fresh t) j ≡ 0
+      zero-at = zeros-at (2 * t .links)
+
+      none : (b : ℕ → ℕ) → ((i : ℕ) → b i ≡ 0) → count (t .links) (ownWith t p b 1) ≡ 0
+      none b z = none-count (t .links) (ownWith t p b 1) (λ i l e. let a = eqb-true (b i) 1 (and-right (touches t p i) (eqb (b i) 1) e) in let c = z i in omega arith)
+
   -- 20 and 21 let the record pass
   pub record GoodBytes (e : List ℕ) : Type 0 where
     pub size : length e ≡ 2 * t .links

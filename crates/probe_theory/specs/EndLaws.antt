@@ -10,7 +10,7 @@ use Rattle.range.specs.Sum.{count}
 use Rattle.range.specs.First.{orElse}
 use Rattle.table.specs.Table.{Table, item}
 use Rattle.frame.specs.Frame.{frameOf}
-use Rattle.record.specs.Record.{outbound, inbound, recordFault}
+use Rattle.record.specs.Record.{outbound, inbound, fresh, recordFault}
 use Rattle.rules.specs.declared.Event.{Event}
 use Rattle.rules.specs.Rules.{befalls, alter, other}
 use Rattle.rules.specs.Frames.{heardOf}
@@ -48,7 +48,8 @@ module _ (t : Table) (p : ℕ) where
     -- a byte that an event alters stands on an own link
     pub changes-own : (event : Event) (e : List ℕ) → OwnEvent t p event → (j : ℕ) → (item (after event e) j ≡ item e j → ⊥) → OwnLink t p (j / 2)
     pub changes-few : (event : Event) (e : List ℕ) → OwnEvent t p event → FewChanges (t .links) e (after event e)
-    -- a record that 20, 21 and 22 let pass stays one
+    -- 20, 21 and 22 let a fresh record pass, and a record that they let pass stays one
+    pub fresh-usable : recordFault t p (fresh t) ≡ 0
     pub stays-usable : (event : Event) (e : List ℕ) → recordFault t p e ≡ 0 → OwnEvent t p event → recordFault t p (after event e) ≡ 0
     -- "as often as wished": asked again, an end answers and writes the same
     pub asked-again : (k : Kind) (i slices : ℕ) (e : List ℕ) (r r′ : Asked) (out out′ out″ : List ℕ)

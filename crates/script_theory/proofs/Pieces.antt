@@ -1,5 +1,5 @@
 -- A script handled in pieces prints what it prints handled whole.
-use Prim.Native.Nat.{ℕ, _+_, _*_, _%_}
+use Prim.Native.Nat.{ℕ, _+_, _%_}
 use mathlib.Core.Path.{_≡_, refl, sym, _∙_, ap}
 use mathlib.Core.Logic.{_⊎_, inl, inr}
 use mathlib.Core.Bool.{true, false, cond, true≢false}
@@ -7,28 +7,19 @@ use mathlib.Core.List.{List, [], _∷_, _++_, append-nil, append-assoc}
 use native.Mathlib.Omega.{arith}
 use lib.Dec.{eqb}
 use lib.ListN.{length, take, length-append}
-use borrow.Author.Tests.{eq-eqb, ne-eqb}
+use borrow.Author.Tests.{ne-eqb}
 use Rattle.range.specs.Sum.{sum}
 use Rattle.range.proofs.Bools.{decided}
 use Rattle.range.specs.First.{orElse}
 use Rattle.range.proofs.Faults.{or-right}
-use Rattle.range.proofs.Sums.{sum-add, sum-same, none-count}
-use Rattle.table.specs.Table.{item}
+use Rattle.range.proofs.Sums.{sum-add, none-count}
 use Rattle.frame.specs.Frame.{frameOf, frameFault}
 use Rattle.rules.specs.Rules.{entryOf}
-use Rattle.fleet_theory.specs.Fleet.{Slices, tableOf, slicesFault, fleetFault, outcomeOf, faultOf, State, start, accepted, answerTo, next, run, differs, linkChanges, changes, allChanges, finished}
+use Rattle.fleet_theory.specs.Fleet.{Slices, tableOf, slicesFault, fleetFault, outcomeOf, faultOf, State, start, accepted, answerTo, next, run, linkChanges, changes, allChanges, finished}
+use Rattle.fleet_theory.proofs.Changes.{no-changes}
 use Rattle.fleet_theory.proofs.Run.{Holds, start-holds, fault-is, next-holds}
 use Rattle.script_theory.specs.Script.{answerLine, linesFrom, printed, lastLine, scriptText, Script, afterLine, afterByte, afterPiece, begun, endText, together, carried, printedBy}
 use Rattle.script_theory.proofs.Lines.{same-digits, Unclosed, unclosed-none, unclosed-next, unclosed-refused, take-again, short-or-refused}
-
-no-changes : (r : List ℕ) (n : ℕ) → sum n (linkChanges r r) ≡ 0
-no-changes r n = sum-same n (linkChanges r r) (λ i. cond false 1 0) (λ i l. four i) ∙ none-count n (λ i. false) (λ i l e. true≢false (sym e))
-  where
-    byte : (j : ℕ) → differs r r j ≡ 0
-    byte j = rw (eq-eqb (item r j) (item r j) refl)
-
-    four : (i : ℕ) → linkChanges r r i ≡ 0
-    four i = sum-same 4 (λ k. differs r r (4 * i + k)) (λ k. cond false 1 0) (λ k l. byte (4 * i + k)) ∙ none-count 4 (λ k. false) (λ k l e. true≢false (sym e))
 
 module _ (x : Slices) (room : ℕ) where
   pub in-pieces : (p : Script) (a b : List ℕ) → afterPiece x room p (a ++ b) ≡ afterPiece x room (afterPiece x room p a) b

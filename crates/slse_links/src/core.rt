@@ -1,7 +1,7 @@
 // S-LSE on one link: whether it is added or removed.
 ghost use mathlib.Core.Path.{_≡_};
 ghost use mathlib.Core.Bool.{cond, _&&_};
-ghost use Prim.Native.Nat.{_-_, _<_};
+ghost use Prim.Native.Nat.{_<_};
 ghost use lib.Dec.{eqb};
 ghost use lib.ListN.{length, getD, set};
 ghost use Rattle.table.specs.Table.{item};
@@ -27,13 +27,6 @@ fn both_over(counts: &[u16], needs: &[u16], low: usize, high: usize) -> bool
         return false;
     }
     needs[high] < counts[high]
-}
-
-fn take_one(counts: &mut [u16], v: usize)
-    requires { ⌜ (v < length (now counts)) × (0 < getD (now counts) v 0) ⌝ }
-    ensures { λ _. ⌜ now (counts .exit) ≡ set (now (counts .entry)) v (getD (now (counts .entry)) v 0 - 1) ⌝ }
-{
-    counts[v] -= 1;
 }
 
 // Adds a link that has an end short of its need.
@@ -78,6 +71,6 @@ pub fn remove_link(
         return;
     }
     plan[i] = 0;
-    take_one(counts, low);
-    take_one(counts, high);
+    table::core::take_one(counts, low);
+    table::core::take_one(counts, high);
 }

@@ -1,7 +1,7 @@
 // The checks of a table. The table's text, the plan, the ends and the fleet call these, within the bounds that they ask.
 ghost use mathlib.Core.Path.{_≡_};
 ghost use mathlib.Core.List.{[]};
-ghost use Prim.Native.Nat.{ℕ, _+_, _<_, _≤_};
+ghost use Prim.Native.Nat.{ℕ, _+_, _-_, _<_, _≤_};
 ghost use lib.ListN.{length, getD, set};
 ghost use Rattle.range.specs.First.{first};
 ghost use Rattle.table.specs.Table.{item, ofSlices, degree};
@@ -100,6 +100,14 @@ pub fn add_one(counts: &mut [u16], v: usize)
     ensures { λ _. ⌜ now (counts .exit) ≡ set (now (counts .entry)) v (getD (now (counts .entry)) v 0 + 1) ⌝ }
 {
     counts[v] += 1;
+}
+
+// One less at a probe.
+pub fn take_one(counts: &mut [u16], v: usize)
+    requires { ⌜ (v < length (now counts)) × (0 < getD (now counts) v 0) ⌝ }
+    ensures { λ _. ⌜ now (counts .exit) ≡ set (now (counts .entry)) v (getD (now (counts .entry)) v 0 - 1) ⌝ }
+{
+    counts[v] -= 1;
 }
 
 // Counts each probe's links into zeros.

@@ -4,8 +4,9 @@ use Rattle.offer_search.proofs.core.cheapest.Tie as tie
 use Prim.Native.Nat.{_*_}
 use mathlib.Core.Path.{sym, _∙_, ap}
 use native.Mathlib.Omega.{arith}
+use Rattle.record.specs.Record.{outbound, inbound}
 use Rattle.offers.specs.Offers.{Floor}
-use Rattle.offers.specs.Record.{endOf, siteOf, outbound, inbound}
+use Rattle.offers.specs.Record.{endOf, siteOf}
 use Rattle.offers.specs.Chain.{opposite, turnedKey}
 use Rattle.offers.proofs.Chain.{height, falls, opposite-below, floor-at, floor-cheapest, floor-step}
 

@@ -7,8 +7,9 @@ use mathlib.Core.Path.{_≡_, refl, sym, _∙_, ap}
 use native.Mathlib.Omega.{arith}
 use borrow.Author.Tests.{ltb-true, ltb-false}
 use Rattle.table.specs.Table.{item}
+use Rattle.record.specs.Record.{outbound, inbound}
 use Rattle.offers.specs.Offers.{Floor, Walk, holds}
-use Rattle.offers.specs.Record.{endOf, keyOf, siteOf, outbound, inbound, mark}
+use Rattle.offers.specs.Record.{endOf, keyOf, siteOf, mark}
 use Rattle.offers.specs.Chain.{opposite, turnedKey}
 use Rattle.offers.proofs.Record.{target-below}
 use Rattle.offers.proofs.Chain.{height, falls, opposite-below, walk-next, walk-found, walk-end, taken-free, floor-wanted, floor-shut, floor-next}
