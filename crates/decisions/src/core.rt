@@ -1,4 +1,4 @@
-// What befalls an end, by its rules.
+// The functions, each within the bounds that it asks.
 ghost use mathlib.Core.Path.{_≡_};
 ghost use mathlib.Core.Bool.{_&&_, _||_};
 ghost use Prim.Native.Nat.{_<_};

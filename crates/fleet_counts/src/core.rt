@@ -1,4 +1,4 @@
-// Counts by probe of a fleet's record: the links whose byte for it has a value, and its spare.
+// The functions, each within the bounds that it asks.
 ghost use mathlib.Core.Path.{_≡_};
 ghost use mathlib.Core.Bool.{cond};
 ghost use Prim.Native.Nat.{ℕ, _+_, _*_, _-_, _<_, _≤_};

@@ -1,4 +1,4 @@
-// A line to a fleet: its checks, and what it says.
+// The functions, each within the bounds that it asks.
 use super::Ends;
 ghost use mathlib.Core.Path.{_≡_};
 ghost use mathlib.Core.Bool.{false, cond};

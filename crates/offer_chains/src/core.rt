@@ -1,4 +1,4 @@
-// Each probe's links in chains, down from its dearest and up from its cheapest.
+// The functions, each within the bounds that it asks.
 ghost use mathlib.Core.Path.{_≡_};
 ghost use Prim.Native.Nat.{ℕ, _+_, _*_, _-_, _<_, _≤_};
 ghost use lib.ListN.{length, set};

@@ -1,4 +1,4 @@
-// The searches of offers by turn: a probe's next offer, and the cheapest that an end holds.
+// The functions, each within the bounds that it asks.
 ghost use Prim.Native.Nat.{_+_, _*_, _<_, _≤_};
 ghost use lib.ListN.{length};
 ghost use Rattle.table.specs.Table.{item};

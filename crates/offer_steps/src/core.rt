@@ -1,4 +1,4 @@
-// Offers and displacements, which call each other.
+// The functions, each within the bounds that it asks.
 ghost use mathlib.Core.Bool.{true};
 ghost use Prim.Native.Nat.{_+_, _*_, _<_};
 ghost use lib.ListN.{length};

@@ -1,4 +1,4 @@
-// The turns of the probes, in number order.
+// The functions, each within the bounds that it asks.
 ghost use Prim.Native.Nat.{_+_, _*_, _<_, _≤_};
 ghost use lib.ListN.{length};
 ghost use Rattle.offers.specs.Chain.{Falling, Rising};

@@ -1,4 +1,4 @@
-// The searches in an end's record: its dearest untried link, and its cheapest offer held.
+// The functions, each within the bounds that it asks.
 ghost use mathlib.Core.Path.{_≡_};
 ghost use mathlib.Core.Bool.{_||_};
 ghost use Prim.Native.Nat.{_+_, _*_, _<_, _≤_};

@@ -1,4 +1,4 @@
-// The checks of a table's text, line by line.
+// The functions, each within the bounds that it asks.
 ghost use mathlib.Core.Path.{_≡_};
 ghost use mathlib.Core.Bool.{true};
 ghost use Prim.Native.Nat.{_+_, _*_, _<_, _≤_};

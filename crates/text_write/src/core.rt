@@ -1,4 +1,4 @@
-// A table's text, written as a whole.
+// The functions, each within the bounds that it asks.
 ghost use mathlib.Core.Path.{_≡_};
 ghost use Prim.Native.Nat.{_+_, _≤_};
 ghost use lib.ListN.{length};
