@@ -22,9 +22,9 @@ use Rattle.table_round.proofs.Functions.{answer-read}
 use Rattle.table_round.specs.Same.{Same}
 use Rattle.table_round.specs.Functions.{Slices, tableOf, readingFault, ReadTable}
 use Rattle.table_round.proofs.Tables.{same-fault}
-use Rattle.output.specs.Output.{refusalLine, Prints}
+use Rattle.output.specs.Output.{refusalLine, shortFault, Prints}
 use Rattle.output.specs.declared.Output.{Output}
-use Rattle.plan_lines.specs.Output.{planText, Outputs}
+use Rattle.plan_lines.specs.Output.{planText, outputOf}
 use Rattle.plan_output.proofs.Same.{same-plan}
 
 -- slices of the planner's lengths
@@ -72,7 +72,8 @@ module _ (s : List ℕ) (r : Reading) (a b : Slices) (g : Local a) (read : ReadT
       let n = answer-unread (eqb (readingFault s a) 0) (readingFault s a) refusal (ofText s) (sym e ∙ read .answer) in
       (n .1 ∙ reading-is s a g, λ z. eqb-false (readingFault s a) 0 (n .0) (reading-is s a g ∙ z))
 
-  pub refusal-printed : (refusal : ℕ) (o : Output) (out out′ : List ℕ) → r ≡ Unread refusal → Prints (refusalLine refusal) o out out′ → Outputs s o out out′
+  pub refusal-printed : (refusal : ℕ) (o : Output) (out out′ : List ℕ) → r ≡ Unread refusal → Prints (shortFault (length out) (refusalLine refusal)) (refusalLine refusal) o out out′
+      → Prints (shortFault (length out) (outputOf s)) (outputOf s) o out out′
   refusal-printed refusal o out out′ e p =
       let n = refused refusal e in
       rw (ne-eqb (textFault 256 2048 false s) 0 (n .1), ← n .0) p
@@ -131,5 +132,6 @@ module _ (s : List ℕ) (r : Reading) (a b : Slices) (g : Local a) (read : ReadT
         }
         (omega arith) (omega arith)
 
-    pub plan-printed : (o : Output) (out out′ : List ℕ) → Prints (planText (tableOf number probes links b)) o out out′ → Outputs s o out out′
+    pub plan-printed : (o : Output) (out out′ : List ℕ) → Prints (shortFault (length out) (planText (tableOf number probes links b))) (planText (tableOf number probes links b)) o out out′
+        → Prints (shortFault (length out) (outputOf s)) (outputOf s) o out out′
     plan-printed o out out′ p = rw (eq-eqb (textFault 256 2048 false s) 0 accepted, ← same-plan (tableOf number probes links b) t entries legal) p

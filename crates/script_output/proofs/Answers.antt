@@ -6,13 +6,12 @@ use mathlib.Core.List.{List, _++_}
 use native.Mathlib.Omega.{arith}
 use native.Mathlib.Decide.{decLt}
 use lib.Dec.{eqb, ltb}
-use lib.ListN.{length, take, drop, length-append}
+use lib.ListN.{length, take, drop}
 use lib.Seq.{sets, take-take, take-all, take-at, length-take-le}
 use borrow.Author.Tests.{eq-eqb, ne-eqb, lt-ltb, le-ltb}
 use Rattle.range.specs.First.{orElse}
 use Rattle.range.proofs.Sets.{sets-start}
-use Rattle.output.specs.declared.Output.{Output}
-use Rattle.output.specs.declared.Output.the-variants.{Length, Refused}
+use Rattle.output.proofs.Printing.{filled-within}
 use Rattle.fleet_theory.specs.Fleet.{Slices, tableOf, slicesFault, fleetFault}
 use Rattle.script_theory.specs.Script.{Script}
 use Rattle.script_steps.specs.declared.Progress.{Progress}
@@ -20,16 +19,7 @@ use Rattle.script_steps.specs.declared.core.Place.{Place}
 use Rattle.script_steps.specs.Within.{underWay, Buffered}
 use Rattle.script_output.specs.declared.Handling.{Handling}
 use Rattle.script_output.specs.declared.Handling.the-variants as handling
-use Rattle.script_output.specs.Handling.{callFault, pieceFault, before, Handles, PrintsUnless}
-
-pub unprinted : (fault n : ℕ) (printed out : List ℕ) → n ≡ fault → (n ≡ 0 → ⊥) → PrintsUnless fault printed (Refused n) out out
-unprinted fault n printed out e some = let f = ne-eqb fault 0 (λ z. some (e ∙ z)) in record { answer = rw f (ap Refused e); out = rw f }
-
-pub printed-all : (fault n : ℕ) (printed out out′ : List ℕ) → fault ≡ 0 → n ≡ length printed → length printed ≤ length out → out′ ≡ sets out 0 printed
-    → PrintsUnless fault printed (Length n) out out′
-printed-all fault n printed out out′ f e l s =
-    let none = eq-eqb fault 0 f in
-    record { answer = rw (none, e); out = rw none (s ∙ sets-start out printed l) }
+use Rattle.script_output.specs.Handling.{callFault, pieceFault, before, Handles}
 
 pub unhandled : (fault n : ℕ) (q : Script) (rec line out : List ℕ) → n ≡ fault → (n ≡ 0 → ⊥) → Handles fault q (handling.Refused n) rec rec line line out out
 unhandled fault n q rec line out e some =
@@ -103,24 +93,11 @@ module _ (x : Slices) (rec : List ℕ) (lent : ℕ) where
   call-state n e s = rw e s
 
 -- What is answered as printed stands within the lent slice.
-within : (printed out out′ : List ℕ) → out′ ≡ printed ++ drop (length printed) out → length out′ ≡ length out → length printed ≤ length out
-within printed out out′ e l =
-    let a = ap length e in
-    let n = length-append printed (drop (length printed) out) in
-    omega arith
-
 pub handled-within : (fault n : ℕ) (p : Progress) (q : Script) (r : Handling) (rec rec′ line line′ out out′ : List ℕ) → Handles fault q r rec rec′ line line′ out out′
     → r ≡ handling.Printed n p → length out′ ≡ length out → n ≤ length out
 handled-within fault n p q r rec rec′ line line′ out out′ h e l = go (eqb fault 0) (sym e ∙ h .answer) (h .out-after)
   where
     go : (b : Bool) → handling.Printed n p ≡ cond b (handling.Printed (length (q .out)) (record { used = q .used; held = length (q .held); changed = q .changed })) (handling.Refused fault)
         → out′ ≡ cond b (q .out ++ drop (length (q .out)) out) out → n ≤ length out
-    go true a o = let k = within (q .out) out out′ o l in let m : n ≡ length (q .out) = cc in omega arith
-    go false a o = let z : _≡_ {A = ℕ} 0 1 = cc in absurd (omega arith)
-
-pub printed-within : (fault n : ℕ) (printed : List ℕ) (r : Output) (out out′ : List ℕ) → PrintsUnless fault printed r out out′ → r ≡ Length n → length out′ ≡ length out → n ≤ length out
-printed-within fault n printed r out out′ h e l = go (eqb fault 0) (sym e ∙ h .answer) (h .out)
-  where
-    go : (b : Bool) → Length n ≡ cond b (Length (length printed)) (Refused fault) → out′ ≡ cond b (printed ++ drop (length printed) out) out → n ≤ length out
-    go true a o = let k = within printed out out′ o l in let m : n ≡ length printed = cc in omega arith
+    go true a o = let k = filled-within (q .out) out out′ o l in let m : n ≡ length (q .out) = cc in omega arith
     go false a o = let z : _≡_ {A = ℕ} 0 1 = cc in absurd (omega arith)

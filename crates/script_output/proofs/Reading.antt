@@ -22,15 +22,14 @@ use Rattle.table_read.specs.declared.Reading.the-variants.{Table as Read, Refus
 use Rattle.text_lines.proofs.Good.{text-head}
 use Rattle.table_round.specs.Same.{Same}
 use Rattle.table_round.proofs.Tables.{same-fault}
-use Rattle.output.specs.Output.{refusalLine, Prints}
+use Rattle.output.specs.Output.{refusalLine, shortFault, Prints}
 use Rattle.output.specs.declared.Output.{Output}
 use Rattle.output.specs.declared.Output.the-variants.{Length}
+use Rattle.output.proofs.Printing.{prints-done, long-enough}
 use Rattle.fleet_theory.specs.Fleet.{Slices, tableOf, slicesFault}
 use Rattle.fleet.specs.Answers.{slicesOf}
 use Rattle.script_theory.specs.Script.{inSlices, scriptText, scriptOutput}
 use Rattle.script_steps.proofs.Ends.{links-within}
-use Rattle.script_output.specs.Handling.{PrintsUnless}
-use Rattle.script_output.proofs.Answers.{printed-all}
 
 begins-length : (b xs : List ℕ) → begins b xs ≡ true → length xs ≤ length b
 unfolding begins
@@ -124,13 +123,13 @@ module _ (s : List ℕ) (r : Reading) (needs lows highs costs : List ℕ)
   abbrev found : ℕ
   found = readFault 256 2048 true s 256 2048 2048 2048
 
-  pub refusal-printed : (n : ℕ) (o : Output) (out out′ : List ℕ) → r ≡ Unread n → 5 ≤ length out → Prints (refusalLine n) o out out′ → PrintsUnless 0 (scriptOutput s) o out out′
+  pub refusal-printed : (n : ℕ) (o : Output) (out out′ : List ℕ) → r ≡ Unread n → 5 ≤ length out → Prints (shortFault (length out) (refusalLine n)) (refusalLine n) o out out′
+      → Prints 0 (scriptOutput s) o out out′
   refusal-printed n o out out′ e l p =
       let u = unsaid (eqb found 0) found n (ofText s) (sym e ∙ read .answer) in
       let is : n ≡ fault s = u .1 ∙ reading-is s in
-      let enough = le-ltb (length out) 5 l in
       let some : fault s ≡ 0 → ⊥ = λ z. eqb-false found 0 (u .0) (reading-is s ∙ z) in
-      rw (output-refused s some, ← is) record { answer = rw enough at (p .answer); out = rw enough at (p .out) }
+      rw (output-refused s some, ← is) (rw (long-enough (length out) (refusalLine n) l) at p)
 
   module _ (number probes links rest : ℕ) (e : r ≡ Read number probes links rest) where
     abbrev is : (eqb found 0 ≡ true) × (number ≡ ofText s .number) × (probes ≡ ofText s .probes) × (links ≡ ofText s .links) × (rest ≡ textEnd (ofText s))
@@ -165,7 +164,7 @@ module _ (s : List ℕ) (r : Reading) (needs lows highs costs : List ℕ)
     behind-length = ap length behind-is ∙ length-drop rest s
 
     pub script-printed : (n : ℕ) (out out′ : List ℕ) → out′ ≡ sets out 0 (scriptText (slicesOf number probes links needs lows highs costs) 1024 behind)
-        → n ≡ length (scriptText (slicesOf number probes links needs lows highs costs) 1024 behind) → n ≤ length out → PrintsUnless 0 (scriptOutput s) (Length n) out out′
+        → n ≡ length (scriptText (slicesOf number probes links needs lows highs costs) 1024 behind) → n ≤ length out → Prints 0 (scriptOutput s) (Length n) out out′
     script-printed n out out′ o k l =
         let text = scriptText (slicesOf number probes links needs lows highs costs) 1024 behind in
         let same : text ≡ scriptOutput s =
@@ -173,4 +172,4 @@ module _ (s : List ℕ) (r : Reading) (needs lows highs costs : List ℕ)
         ∙ ap (λ (z : List ℕ). scriptText (inSlices (ofText s)) 1024 z) behind-is
         ∙ ap (λ (m : ℕ). scriptText (inSlices (ofText s)) 1024 (drop m s)) (is .4)
         ∙ sym (output-read s accepted) in
-        printed-all 0 n (scriptOutput s) out out′ refl (k ∙ ap length same) (let m = ap length same in omega arith) (o ∙ ap (sets out 0) same)
+        prints-done 0 n (scriptOutput s) out out′ refl (k ∙ ap length same) l (o ∙ ap (sets out 0) same)

@@ -6,9 +6,10 @@ ghost use mathlib.Core.Bool.{cond};
 ghost use Prim.Native.Nat.{_+_, _*_};
 ghost use lib.Dec.{ltb};
 ghost use lib.ListN.{length, take};
+ghost use Rattle.output.specs.Output.{Prints};
 ghost use Rattle.fleet.specs.Answers.{slicesOf};
 ghost use Rattle.script_theory.specs.Script.{afterPiece, endText, scriptOutput};
-ghost use Rattle.script_output.specs.Handling.{callFault, pieceFault, before, Handles, PrintsUnless};
+ghost use Rattle.script_output.specs.Handling.{callFault, pieceFault, before, Handles};
 
 // A piece's answer: the length printed and how far the script has come, or the number of the refusal.
 pub enum Handling {
@@ -110,7 +111,7 @@ pub fn script_end(
     progress: Progress,
     out: &mut [u8],
 ) -> Output
-    ensures { λ r. ⌜ PrintsUnless
+    ensures { λ r. ⌜ Prints
         (callFault (cond (ltb (length (now (out .entry))) 16) 8 0)
         (slicesOf number probes links (now (needs .entry)) (now (lows .entry)) (now (highs .entry)) (now (costs .entry))) (now (rec .entry)))
         (endText (slicesOf number probes links (now (needs .entry)) (now (lows .entry)) (now (highs .entry)) (now (costs .entry))) (now (rec .entry)) (progress .held) (progress .changed))
@@ -147,7 +148,7 @@ pub fn script_end(
 
 // Prints what a whole text prints: a table and, behind its closing line, the script.
 pub fn script_text(text: &[u8], out: &mut [u8]) -> Output
-    ensures { λ r. ⌜ PrintsUnless (cond (ltb (length (now (out .entry))) (5 * length (now (text .entry)) + 5)) 8 0) (scriptOutput (now (text .entry)))
+    ensures { λ r. ⌜ Prints (cond (ltb (length (now (out .entry))) (5 * length (now (text .entry)) + 5)) 8 0) (scriptOutput (now (text .entry)))
         r (now (out .entry)) (now (out .exit)) ⌝ }
 {
     if out.len() / 5 < text.len() + 1 {

@@ -16,10 +16,10 @@ use Rattle.fleet_counts.proofs.Legal.{fits}
 use Rattle.fleet_checks.proofs.Checks.{fleet-good}
 use Rattle.fleet.proofs.Calls.{state-is}
 use Rattle.script_steps.proofs.Ends.{length-end, end-most}
-use Rattle.script_output.proofs.Answers.{unprinted, printed-all}
+use Rattle.output.proofs.Printing.{prints-refused, prints-done}
 
 returns : tie.Need-returns
-returns c = unprinted _ 8 _ _ (rw (lt-ltb _ _ (c .if1 .taken))) (λ z. omega arith)
+returns c = prints-refused _ 8 _ _ (rw (lt-ltb _ _ (c .if1 .taken))) (λ z. omega arith)
 
 state-fault-requires : tie.Need-state-fault-requires
 state-fault-requires c κs = search needs
@@ -27,7 +27,7 @@ state-fault-requires c κs = search needs
 returns-2 : tie.Need-returns-2
 returns-2 c =
     let a = c .before .before .before .before .before .before .before .before .before .args in
-    unprinted _ _ _ _ (rw (le-ltb _ _ (c .before .before .if1 .left)) (state-is (a .number) (a .probes) (a .links) (a .needs .now) (a .lows .now) (a .highs .now) (a .costs .now) 0 0 [] (a .rec .now) _ (c .before .state-fault .ensures))) (c .if2 .taken)
+    prints-refused _ _ _ _ (rw (le-ltb _ _ (c .before .before .if1 .left)) (state-is (a .number) (a .probes) (a .links) (a .needs .now) (a .lows .now) (a .highs .now) (a .costs .now) 0 0 [] (a .rec .now) _ (c .before .state-fault .ensures))) (c .if2 .taken)
 
 put-end-requires : tie.Need-put-end-requires
 put-end-requires c κs =
@@ -48,7 +48,7 @@ returns-3 c =
     let n = length-end x (a .rec .now) (a .progress .held) (a .progress .changed) in
     let m = end-most (eqb (a .progress .held) 0) in
     let k = c .before .before .put-end .ensures in
-    printed-all _ _ _ (a .out .now) _ (rw (le-ltb _ _ (c .before .before .before .before .before .before .if1 .left)) z) (omega (arith, k .1)) (omega (arith, c .before .before .before .before .before .before .if1 .left)) (k .0 (a .number) (a .costs .now))
+    prints-done _ _ _ (a .out .now) _ (rw (le-ltb _ _ (c .before .before .before .before .before .before .if1 .left)) z) (omega (arith, k .1)) (omega (arith, k .1, c .before .before .before .before .before .before .if1 .left)) (k .0 (a .number) (a .costs .now))
 
 pub script-end-spec : {M : Type 1} → statement M
 script-end-spec =
