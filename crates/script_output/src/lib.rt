@@ -113,7 +113,6 @@ pub fn script_piece(
         rec,
         &mut buffer,
         begun,
-        1024,
         piece,
         out,
     );
