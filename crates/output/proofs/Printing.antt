@@ -1,38 +1,48 @@
 -- How code comes to what is printed, and what its answer tells.
 use Prim.Native.Nat.{ℕ, suc, _+_, _≤_, _<_}
-use mathlib.Core.Path.{_≡_, refl, sym, _∙_}
+use mathlib.Core.Path.{_≡_, sym, _∙_, ap}
 use mathlib.Core.Bool.{Bool, true, false, cond}
-use mathlib.Core.List.{List, [], _∷_}
+use mathlib.Core.List.{List, [], _∷_, _++_}
 use native.Mathlib.Omega.{arith}
-use lib.Dec.{ltb}
-use lib.ListN.{length, set}
+use lib.Dec.{eqb}
+use lib.ListN.{length, drop, set, length-append}
 use lib.Seq.{sets}
-use borrow.Author.Tests.{lt-ltb, le-ltb, ltb-false}
+use borrow.Author.Tests.{eq-eqb, ne-eqb, lt-ltb, le-ltb}
 use Rattle.range.proofs.Sets.{sets-start}
-use Rattle.output.specs.Output.{Prints}
+use Rattle.output.specs.Output.{shortFault, Prints}
 use Rattle.output.specs.declared.Output.{Output}
 use Rattle.output.specs.declared.Output.the-variants.{Length, Refused}
 
-pub prints-refused : (printed out : List ℕ) → length out < length printed → Prints printed (Refused 8) out out
-prints-refused printed out l =
-    let short = lt-ltb (length out) (length printed) l in
-    record { answer = rw short; out = rw short }
+pub prints-refused : (fault n : ℕ) (printed out : List ℕ) → n ≡ fault → (n ≡ 0 → ⊥) → Prints fault printed (Refused n) out out
+prints-refused fault n printed out e some = let f = ne-eqb fault 0 (λ z. some (e ∙ z)) in record { answer = rw f (ap Refused e); out = rw f }
 
-pub prints-done : (printed out out′ : List ℕ) (n : ℕ) → n ≡ length printed → n ≤ length out → out′ ≡ sets out 0 printed → Prints printed (Length n) out out′
-prints-done printed out out′ n e l w =
-    let enough = le-ltb (length out) (length printed) (omega arith) in
-    record { answer = rw (enough, e); out = rw enough (w ∙ sets-start out printed (omega arith)) }
+pub prints-done : (fault n : ℕ) (printed out out′ : List ℕ) → fault ≡ 0 → n ≡ length printed → n ≤ length out → out′ ≡ sets out 0 printed → Prints fault printed (Length n) out out′
+prints-done fault n printed out out′ f e l w =
+    let none = eq-eqb fault 0 f in
+    record { answer = rw (none, e); out = rw none (w ∙ sets-start out printed (omega arith)) }
+
+pub too-short : (room : ℕ) (printed : List ℕ) → room < length printed → 8 ≡ shortFault room printed
+too-short room printed l = rw (lt-ltb room (length printed) l)
+
+pub long-enough : (room : ℕ) (printed : List ℕ) → length printed ≤ room → shortFault room printed ≡ 0
+long-enough room printed l = rw (le-ltb room (length printed) l)
+
+-- what a lent slice is filled with stands within it
+pub filled-within : (printed out out′ : List ℕ) → out′ ≡ printed ++ drop (length printed) out → length out′ ≡ length out → length printed ≤ length out
+filled-within printed out out′ e l =
+    let a = ap length e in
+    let n = length-append printed (drop (length printed) out) in
+    omega arith
 
 -- a length that is answered is that of what is printed, which the lent slice holds
-pub printed-within : (printed out out′ : List ℕ) (r : Output) (n : ℕ) → Prints printed r out out′ → r ≡ Length n → (n ≡ length printed) × (n ≤ length out)
-printed-within printed out out′ r n p q = go (ltb (length out) (length printed)) refl (sym q ∙ p .answer)
+pub printed-within : (fault n : ℕ) (printed : List ℕ) (r : Output) (out out′ : List ℕ) → Prints fault printed r out out′ → r ≡ Length n → length out′ ≡ length out
+    → (n ≡ length printed) × (n ≤ length out)
+printed-within fault n printed r out out′ p e l = go (eqb fault 0) (sym e ∙ p .answer) (p .out)
   where
-    go : (b : Bool) → ltb (length out) (length printed) ≡ b → Length n ≡ cond b (Refused 8) (Length (length printed)) → (n ≡ length printed) × (n ≤ length out)
-    go true e a = let z : _≡_ {A = ℕ} 0 1 = cc in absurd (omega arith)
-    go false e a =
-        let m : n ≡ length printed = cc in
-        let k = ltb-false (length out) (length printed) e in
-        (m, omega arith)
+    go : (b : Bool) → Length n ≡ cond b (Length (length printed)) (Refused fault) → out′ ≡ cond b (printed ++ drop (length printed) out) out
+        → (n ≡ length printed) × (n ≤ length out)
+    go true a o = let k = filled-within printed out out′ o l in let m : n ≡ length printed = cc in (m, omega arith)
+    go false a o = let z : _≡_ {A = ℕ} 0 1 = cc in absurd (omega arith)
 
 -- five bytes, stored one by one
 pub five-stored : (l : List ℕ) (at a b c d e : ℕ) → set (set (set (set (set l at a) (at + 1) b) (at + 2) c) (at + 3) d) (at + 4) e ≡ sets l at (a ∷ b ∷ c ∷ d ∷ e ∷ [])

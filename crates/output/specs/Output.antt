@@ -3,7 +3,7 @@ use Prim.Native.Nat.{ℕ, _+_, _/_, _%_}
 use mathlib.Core.Path.{_≡_}
 use mathlib.Core.Bool.{cond}
 use mathlib.Core.List.{List, [], _∷_, _++_}
-use lib.Dec.{ltb}
+use lib.Dec.{ltb, eqb}
 use lib.ListN.{length, drop}
 use Rattle.output.specs.declared.Output.{Output}
 use Rattle.output.specs.declared.Output.the-variants.{Length, Refused}
@@ -12,7 +12,11 @@ use Rattle.output.specs.declared.Output.the-variants.{Length, Refused}
 abbrev pub refusalLine : ℕ → List ℕ
 refusalLine k = 101 ∷ (k / 100 % 10 + 48) ∷ (k / 10 % 10 + 48) ∷ (k % 10 + 48) ∷ 10 ∷ []
 
--- A lent slice is filled from its start, and the bytes beyond stay. The answer is the length printed, or 8 for "a lent .. output slice too short".
-pub record Prints (printed : List ℕ) (r : Output) (before after : List ℕ) : Type 0 where
-  pub answer : r ≡ cond (ltb (length before) (length printed)) (Refused 8) (Length (length printed))
-  pub out : after ≡ cond (ltb (length before) (length printed)) before (printed ++ drop (length printed) before)
+-- "a lent .. output slice too short" for what is to be printed
+abbrev pub shortFault : ℕ → List ℕ → ℕ
+shortFault room printed = cond (ltb room (length printed)) 8 0
+
+-- A lent slice is filled from its start, and the bytes beyond stay; refused, the answer is the refusal alone and the slice stays.
+pub record Prints (fault : ℕ) (printed : List ℕ) (r : Output) (before after : List ℕ) : Type 0 where
+  pub answer : r ≡ cond (eqb fault 0) (Length (length printed)) (Refused fault)
+  pub out : after ≡ cond (eqb fault 0) (printed ++ drop (length printed) before) before

@@ -8,8 +8,7 @@ use Rattle.hex.specs.Digits.{digits}
 use Rattle.table.specs.Table.{Table}
 use Rattle.table.specs.Text.{closingLine, tripleLine, ofText, textFault}
 use Rattle.cover_theory.specs.Plan.{kept, keptCount, costOf}
-use Rattle.output.specs.Output.{refusalLine, Prints}
-use Rattle.output.specs.declared.Output.{Output}
+use Rattle.output.specs.Output.{refusalLine}
 
 -- "table number, kept count (four digits each) and cost (eight)"
 abbrev pub headLine : ℕ → ℕ → ℕ → List ℕ
@@ -28,7 +27,3 @@ abbrev pub outputOf : List ℕ → List ℕ
 outputOf s =
     let fault = textFault 256 2048 false s in
     cond (eqb fault 0) (planText (ofText s)) (refusalLine fault)
-
--- the promise for the text s
-abbrev pub Outputs : List ℕ → Output → List ℕ → List ℕ → Type 0
-Outputs s r out out′ = Prints (outputOf s) r out out′

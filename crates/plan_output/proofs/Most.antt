@@ -6,14 +6,16 @@ use mathlib.Core.List.{List}
 use native.Mathlib.Omega.{arith}
 use native.Mathlib.Decide.{ℕ-discrete}
 use lib.ListN.{length}
-use borrow.Author.Tests.{eq-eqb, ne-eqb, le-ltb}
+use borrow.Author.Tests.{eq-eqb, ne-eqb}
 use Rattle.range.proofs.Sums.{count-le}
 use Rattle.table.specs.Text.{ofText, textFault}
 use Rattle.text_lines.proofs.Good.{text-head}
 use Rattle.cover_theory.specs.Plan.{kept}
-use Rattle.plan_lines.specs.Output.{outputOf, Outputs}
+use Rattle.plan_lines.specs.Output.{outputOf}
+use Rattle.output.specs.Output.{shortFault, Prints}
 use Rattle.output.specs.declared.Output.{Output}
 use Rattle.output.specs.declared.Output.the-variants.{Length}
+use Rattle.output.proofs.Printing.{long-enough}
 use Rattle.plan_lines.proofs.Printing.{length-plan}
 
 pub most : (s : List ℕ) → length (outputOf s) ≤ 26646
@@ -27,7 +29,7 @@ most s = go (ℕ-discrete (textFault 256 2048 false s) 0)
         rw (eq-eqb (textFault 256 2048 false s) 0 e) (omega arith)
     go (no n) = rw (ne-eqb (textFault 256 2048 false s) 0 n) (omega arith)
 
-pub always-printed : (s : List ℕ) (r : Output) (out out′ : List ℕ) → 26646 ≤ length out → Outputs s r out out′ → r ≡ Length (length (outputOf s))
+pub always-printed : (s : List ℕ) (r : Output) (out out′ : List ℕ) → 26646 ≤ length out → Prints (shortFault (length out) (outputOf s)) (outputOf s) r out out′ → r ≡ Length (length (outputOf s))
 always-printed s r out out′ l p =
     let k = most s in
-    p .answer ∙ rw (le-ltb (length out) (length (outputOf s)) (omega arith))
+    p .answer ∙ rw (long-enough (length out) (outputOf s) (omega arith))

@@ -5,7 +5,7 @@ ghost use Prim.Native.Nat.{_+_, _*_};
 ghost use lib.ListN.{length};
 ghost use Rattle.table.specs.Table.{ofSlices};
 ghost use Rattle.table.specs.Legal.{tableFault, roomFault};
-ghost use Rattle.output.specs.Output.{Prints};
+ghost use Rattle.output.specs.Output.{shortFault, Prints};
 ghost use Rattle.plan_lines.specs.Output.{planText};
 
 // The plan of a legal table.
@@ -22,6 +22,7 @@ pub fn print_plan(
     requires { ⌜ (tableFault 256 2048 (ofSlices 0 probes links (now needs) (now lows) (now highs) (now costs)) ≡ 0)
         × (roomFault probes links (length (now needs)) (length (now lows)) (length (now highs)) (length (now costs)) ≡ 0) ⌝ }
     ensures { λ r. ⌜ Prints
+        (shortFault (length (now (out .entry))) (planText (ofSlices number probes links (now (needs .entry)) (now (lows .entry)) (now (highs .entry)) (now (costs .entry)))))
         (planText (ofSlices number probes links (now (needs .entry)) (now (lows .entry)) (now (highs .entry)) (now (costs .entry))))
         r (now (out .entry)) (now (out .exit)) ⌝ }
 {

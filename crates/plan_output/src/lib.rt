@@ -1,12 +1,14 @@
 // The plan of a table's text, as the plan program prints it.
 use output::Output;
-ghost use Rattle.plan_lines.specs.Output.{Outputs};
+ghost use lib.ListN.{length};
+ghost use Rattle.output.specs.Output.{shortFault, Prints};
+ghost use Rattle.plan_lines.specs.Output.{outputOf};
 
 pub mod core;
 
 // Prints the plan of the table that a text gives, or the text's refusal.
 pub fn plan_text(text: &[u8], out: &mut [u8]) -> Output
-    ensures { λ r. ⌜ Outputs (now (text .entry)) r (now (out .entry)) (now (out .exit)) ⌝ }
+    ensures { λ r. ⌜ Prints (shortFault (length (now (out .entry))) (outputOf (now (text .entry)))) (outputOf (now (text .entry))) r (now (out .entry)) (now (out .exit)) ⌝ }
 {
     let mut needs = [0u16; 256];
     let mut lows = [0u16; 2048];

@@ -2,12 +2,8 @@
 use output::Output;
 use script_output::Handling;
 use script_steps::Progress;
-
-// How far the script has come, and whether more may follow.
-struct Turn {
-    more: bool,
-    progress: Progress,
-}
+ghost use Prim.Native.Nat.{_≤_};
+ghost use lib.ListN.{length};
 
 // Handles a piece and prints its answers; 139,690 bytes hold those of the longest one.
 fn handle(
@@ -47,41 +43,6 @@ fn handle(
             next
         }
         Handling::Refused(_) => progress,
-    }
-}
-
-// Reads once and handles what came.
-fn handle_next(
-    number: u16,
-    probes: u16,
-    links: u16,
-    needs: &[u16],
-    lows: &[u16],
-    highs: &[u16],
-    costs: &[u16],
-    rec: &mut [u8],
-    line: &mut [u8],
-    progress: Progress,
-) -> Turn {
-    let mut piece = [0u8; 4096];
-    let got = libc::read(0, &mut piece);
-    let n = io::count(got, &piece);
-    let next = handle(
-        number,
-        probes,
-        links,
-        needs,
-        lows,
-        highs,
-        costs,
-        rec,
-        line,
-        progress,
-        &piece[..n],
-    );
-    Turn {
-        more: n != 0,
-        progress: next,
     }
 }
 
@@ -130,7 +91,7 @@ fn refuse(fault: u8) {
     }
 }
 
-// Handles the text from its first piece to its end. A proved loop has to end, and nothing says that the input does: the turns are counted down from a number that no run uses up.
+// Handles the text behind a table: first what was read with it, then what each further reading gives. A proved loop has to end, and nothing says that the input does: the turns are counted down from a number that no run uses up.
 fn handle_all(
     number: u16,
     probes: u16,
@@ -139,32 +100,25 @@ fn handle_all(
     lows: &[u16],
     highs: &[u16],
     costs: &[u16],
-    rec: &mut [u8],
-    line: &mut [u8],
-    first: &[u8],
-) {
-    let begun = Progress {
+    text: &mut [u8],
+    rest: usize,
+    read: usize,
+)
+    requires { ⌜ (links ≤ 2048) × (rest ≤ read) × (read ≤ length (now text)) ⌝ }
+{
+    let mut bytes = [0u8; 8192];
+    let rec = &mut bytes[..4 * (links as usize)];
+    let mut line = [0u8; 16];
+    let mut progress = Progress {
         used: 0,
         held: 0,
         changed: 0,
     };
-    let mut progress = handle(
-        number,
-        probes,
-        links,
-        needs,
-        lows,
-        highs,
-        costs,
-        rec,
-        line,
-        begun,
-        first,
-    );
-    let mut more = true;
+    let mut from = rest;
+    let mut to = read;
     let mut turns = u64::MAX;
-    while turns > 0 && more {
-        let turn = handle_next(
+    while turns > 0 && to > 0 {
+        progress = handle(
             number,
             probes,
             links,
@@ -173,11 +127,13 @@ fn handle_all(
             highs,
             costs,
             rec,
-            line,
+            &mut line,
             progress,
+            &text[from..to],
         );
-        progress = turn.progress;
-        more = turn.more;
+        let got = libc::read(0, text);
+        to = io::count(got, text);
+        from = 0;
         turns -= 1;
     }
     end(
@@ -214,23 +170,18 @@ fn main() {
             probes,
             links,
             rest,
-        } => {
-            let mut bytes = [0u8; 8192];
-            let mut line = [0u8; 16];
-            let rec = &mut bytes[..4 * (links as usize)];
-            handle_all(
-                number,
-                probes,
-                links,
-                &needs,
-                &lows,
-                &highs,
-                &costs,
-                rec,
-                &mut line,
-                &text[rest..n],
-            );
-        }
+        } => handle_all(
+            number,
+            probes,
+            links,
+            &needs,
+            &lows,
+            &highs,
+            &costs,
+            &mut text,
+            rest,
+            n,
+        ),
         table_read::Reading::Refused(fault) => refuse(fault),
     }
 }

@@ -6,13 +6,14 @@ use mathlib.Core.List.{List, _++_}
 use native.Mathlib.Omega.{arith}
 use native.Mathlib.Decide.{decLt}
 use lib.Dec.{eqb, ltb}
-use lib.ListN.{length, take, drop, length-append}
+use lib.ListN.{length, take, drop}
 use lib.Seq.{sets, take-take, take-all, take-at, length-take-le}
-use borrow.Author.Tests.{eq-eqb, ne-eqb, lt-ltb, le-ltb}
+use borrow.Author.Tests.{eq-eqb, ne-eqb, lt-ltb, le-ltb, ltb-false}
 use Rattle.range.specs.First.{orElse}
+use Rattle.range.proofs.Bools.{when-none}
+use Rattle.range.proofs.Faults.{or-left, or-right}
 use Rattle.range.proofs.Sets.{sets-start}
-use Rattle.output.specs.declared.Output.{Output}
-use Rattle.output.specs.declared.Output.the-variants.{Length, Refused}
+use Rattle.output.proofs.Printing.{filled-within}
 use Rattle.fleet_theory.specs.Fleet.{Slices, tableOf, slicesFault, fleetFault}
 use Rattle.script_theory.specs.Script.{Script}
 use Rattle.script_steps.specs.declared.Progress.{Progress}
@@ -20,16 +21,7 @@ use Rattle.script_steps.specs.declared.core.Place.{Place}
 use Rattle.script_steps.specs.Within.{underWay, Buffered}
 use Rattle.script_output.specs.declared.Handling.{Handling}
 use Rattle.script_output.specs.declared.Handling.the-variants as handling
-use Rattle.script_output.specs.Handling.{callFault, pieceFault, before, Handles, PrintsUnless}
-
-pub unprinted : (fault n : ℕ) (printed out : List ℕ) → n ≡ fault → (n ≡ 0 → ⊥) → PrintsUnless fault printed (Refused n) out out
-unprinted fault n printed out e some = let f = ne-eqb fault 0 (λ z. some (e ∙ z)) in record { answer = rw f (ap Refused e); out = rw f }
-
-pub printed-all : (fault n : ℕ) (printed out out′ : List ℕ) → fault ≡ 0 → n ≡ length printed → length printed ≤ length out → out′ ≡ sets out 0 printed
-    → PrintsUnless fault printed (Length n) out out′
-printed-all fault n printed out out′ f e l s =
-    let none = eq-eqb fault 0 f in
-    record { answer = rw (none, e); out = rw none (s ∙ sets-start out printed l) }
+use Rattle.script_output.specs.Handling.{callFault, pieceFault, before, Handles}
 
 pub unhandled : (fault n : ℕ) (q : Script) (rec line out : List ℕ) → n ≡ fault → (n ≡ 0 → ⊥) → Handles fault q (handling.Refused n) rec rec line line out out
 unhandled fault n q rec line out e some =
@@ -52,75 +44,84 @@ handled-all fault q r rec rec′ line line′ buffer out out′ f b s l m =
     }
 
 -- of an unfinished line at most 16 bytes are held
-module _ (line : List ℕ) (h : ℕ) (long : 16 ≤ length line) where
-  abbrev most : ℕ
-  most = cond (ltb h 16) h 16
+abbrev most : ℕ → ℕ
+most h = cond (ltb h 16) h 16
 
-  pub held-part : take most line ≡ take h (take 16 line)
-  held-part = go (decLt h 16)
+most-few : (h : ℕ) → most h ≤ 16
+most-few h = go (decLt h 16)
+  where
+    go : Dec (h < 16) → most h ≤ 16
+    go (yes l) = rw (lt-ltb h 16 l) (omega arith)
+    go (no d) = rw (le-ltb h 16 (omega arith)) (omega arith)
+
+held-part : (line : List ℕ) (h : ℕ) → 16 ≤ length line → take (most h) line ≡ take h (take 16 line)
+held-part line h long = go (decLt h 16)
+  where
+    go : Dec (h < 16) → take (most h) line ≡ take h (take 16 line)
+    go (yes l) = rw (lt-ltb h 16 l) (sym (take-take h 16 line (omega arith)))
+    go (no d) =
+        let n = length-take-le 16 line long in
+        rw (le-ltb h 16 (omega arith)) (sym (take-all h (take 16 line) (omega arith)))
+
+held-length : (line : List ℕ) (h : ℕ) → 16 ≤ length line → most h ≡ length (take h (take 16 line))
+held-length line h long = sym (ap length (sym (held-part line h long)) ∙ length-take-le (most h) line (let k = most-few h in omega arith))
+
+-- copied into a buffer, they are the same
+pub copied-same : (b p : Progress) (rec line buffer buffer′ : List ℕ) → (b .used ≡ p .used) × (b .held ≡ most (p .held)) × (b .changed ≡ p .changed)
+    → 16 ≤ length line → 16 ≤ length buffer → buffer′ ≡ sets buffer 0 (take (b .held) line) → underWay b rec buffer′ ≡ before p rec line
+copied-same b p rec line buffer buffer′ e long l s =
+    let n = b .held in
+    let few = most-few (p .held) in
+    let k = e .1 in
+    let m = length-take-le n line (omega arith) in
+    let c : take n buffer′ ≡ take n line =
+    ap (take n) (s ∙ sets-start buffer (take n line) (omega arith)) ∙ take-at (take n line) (drop (length (take n line)) buffer) n m in
+    rw (c, e .0, e .1, e .2) (rw (held-part line (p .held) long))
+
+-- what a piece's call has found, where it found no fault
+pub record Given (x : Slices) (rec line : List ℕ) (held out piece : ℕ) : Type 0 where
+  pub few : held ≤ 16
+  pub long : 16 ≤ length line
+  pub room : 5 * (held + piece) ≤ out
+  pub fine : slicesFault x ≡ 0
+  pub good : fleetFault (tableOf x) rec ≡ 0
+
+-- The fault of a piece's call, as the code finds it.
+module _ (x : Slices) (rec line : List ℕ) (h held out piece short fault : ℕ) (m : held ≡ most h) (s : short ≡ pieceFault (length line) out held piece)
+    (f : fault ≡ callFault short x rec) where
+  same-short : pieceFault (length line) out held piece ≡ pieceFault (length line) out (length (take h (take 16 line))) piece
+  same-short = go (decLt (length line) 16)
     where
-      go : Dec (h < 16) → take most line ≡ take h (take 16 line)
-      go (yes l) = rw (lt-ltb h 16 l) (sym (take-take h 16 line (omega arith)))
-      go (no d) =
-          let n = length-take-le 16 line long in
-          rw (le-ltb h 16 (omega arith)) (sym (take-all h (take 16 line) (omega arith)))
+      go : Dec (length line < 16) → pieceFault (length line) out held piece ≡ pieceFault (length line) out (length (take h (take 16 line))) piece
+      go (yes l) = rw (lt-ltb (length line) 16 l)
+      go (no d) = ap (λ (k : ℕ). pieceFault (length line) out k piece) (m ∙ held-length line h (omega arith))
 
-  pub most-few : most ≤ 16
-  most-few = go (decLt h 16)
-    where
-      go : Dec (h < 16) → most ≤ 16
-      go (yes l) = rw (lt-ltb h 16 l) (omega arith)
-      go (no d) = rw (le-ltb h 16 (omega arith)) (omega arith)
+  pub call-is : fault ≡ callFault (pieceFault (length line) out (length (take h (take 16 line))) piece) x rec
+  call-is = f ∙ ap (λ (k : ℕ). callFault k x rec) (s ∙ same-short)
 
-  pub held-length : length (take h (take 16 line)) ≡ most
-  held-length = ap length (sym held-part) ∙ length-take-le most line (let k = most-few in omega arith)
-
-  -- copied into a buffer, they are the same
-  pub copied-same : (p : Progress) (n : ℕ) (rec buffer buffer′ : List ℕ) → p .held ≡ h → n ≡ most → 16 ≤ length buffer → buffer′ ≡ sets buffer 0 (take n line)
-      → underWay (record { used = p .used; held = n; changed = p .changed }) rec buffer′ ≡ before p rec line
-  copied-same p n rec buffer buffer′ e k l s =
-      let few = most-few in
-      let m = length-take-le n line (omega arith) in
-      let c : take n buffer′ ≡ take n line =
-      ap (take n) (s ∙ sets-start buffer (take n line) (omega arith)) ∙ take-at (take n line) (drop (length (take n line)) buffer) n m in
-      rw (c, e, k) (rw held-part)
-
--- The fault of a piece.
-pub line-short : (line out held piece : ℕ) → line < 16 → pieceFault line out held piece ≡ 8
-line-short line out held piece l = rw (lt-ltb line 16 l)
-
-pub out-short : (line out held piece : ℕ) → 16 ≤ line → out < 5 * (held + piece) → pieceFault line out held piece ≡ 8
-out-short line out held piece l s = rw (le-ltb line 16 l, lt-ltb out (5 * (held + piece)) s)
-
-pub piece-fits : (line out held piece : ℕ) → 16 ≤ line → 5 * (held + piece) ≤ out → pieceFault line out held piece ≡ 0
-piece-fits line out held piece l s = rw (le-ltb line 16 l, le-ltb out (5 * (held + piece)) s)
-
-module _ (x : Slices) (rec : List ℕ) (lent : ℕ) where
-  pub call-lent : lent ≡ 8 → 8 ≡ callFault lent x rec
-  call-lent e = rw e
-
-  pub call-state : (n : ℕ) → lent ≡ 0 → n ≡ orElse (slicesFault x) (fleetFault (tableOf x) rec) → n ≡ callFault lent x rec
-  call-state n e s = rw e s
+  pub call-given : fault ≡ 0 → Given x rec line held out piece
+  call-given none =
+      let state = orElse (slicesFault x) (fleetFault (tableOf x) rec) in
+      let z = or-left short state (sym f ∙ none) in
+      let y = or-right short state (sym f ∙ none) in
+      let w = sym s ∙ z in
+      let few = most-few h in
+      record {
+        few = omega arith;
+        long = ltb-false (length line) 16 (when-none (ltb (length line) 16) 7 (or-left (cond (ltb (length line) 16) 8 0) (cond (ltb out (5 * (held + piece))) 8 0) w));
+        room =
+            ltb-false out (5 * (held + piece))
+            (when-none (ltb out (5 * (held + piece))) 7 (or-right (cond (ltb (length line) 16) 8 0) (cond (ltb out (5 * (held + piece))) 8 0) w));
+        fine = or-left (slicesFault x) (fleetFault (tableOf x) rec) y;
+        good = or-right (slicesFault x) (fleetFault (tableOf x) rec) y;
+      }
 
 -- What is answered as printed stands within the lent slice.
-within : (printed out out′ : List ℕ) → out′ ≡ printed ++ drop (length printed) out → length out′ ≡ length out → length printed ≤ length out
-within printed out out′ e l =
-    let a = ap length e in
-    let n = length-append printed (drop (length printed) out) in
-    omega arith
-
 pub handled-within : (fault n : ℕ) (p : Progress) (q : Script) (r : Handling) (rec rec′ line line′ out out′ : List ℕ) → Handles fault q r rec rec′ line line′ out out′
     → r ≡ handling.Printed n p → length out′ ≡ length out → n ≤ length out
 handled-within fault n p q r rec rec′ line line′ out out′ h e l = go (eqb fault 0) (sym e ∙ h .answer) (h .out-after)
   where
     go : (b : Bool) → handling.Printed n p ≡ cond b (handling.Printed (length (q .out)) (record { used = q .used; held = length (q .held); changed = q .changed })) (handling.Refused fault)
         → out′ ≡ cond b (q .out ++ drop (length (q .out)) out) out → n ≤ length out
-    go true a o = let k = within (q .out) out out′ o l in let m : n ≡ length (q .out) = cc in omega arith
-    go false a o = let z : _≡_ {A = ℕ} 0 1 = cc in absurd (omega arith)
-
-pub printed-within : (fault n : ℕ) (printed : List ℕ) (r : Output) (out out′ : List ℕ) → PrintsUnless fault printed r out out′ → r ≡ Length n → length out′ ≡ length out → n ≤ length out
-printed-within fault n printed r out out′ h e l = go (eqb fault 0) (sym e ∙ h .answer) (h .out)
-  where
-    go : (b : Bool) → Length n ≡ cond b (Length (length printed)) (Refused fault) → out′ ≡ cond b (printed ++ drop (length printed) out) out → n ≤ length out
-    go true a o = let k = within printed out out′ o l in let m : n ≡ length printed = cc in omega arith
+    go true a o = let k = filled-within (q .out) out out′ o l in let m : n ≡ length (q .out) = cc in omega arith
     go false a o = let z : _≡_ {A = ℕ} 0 1 = cc in absurd (omega arith)

@@ -6,8 +6,6 @@ use mathlib.Core.List.{List, [], _++_}
 use lib.Dec.{ltb, eqb}
 use lib.ListN.{length, take, drop}
 use Rattle.range.specs.First.{orElse}
-use Rattle.output.specs.declared.Output.{Output}
-use Rattle.output.specs.declared.Output.the-variants.{Length, Refused}
 use Rattle.fleet_theory.specs.Fleet.{Slices, tableOf, slicesFault, fleetFault}
 use Rattle.script_theory.specs.Script.{Script}
 use Rattle.script_steps.specs.declared.Progress.{Progress}
@@ -33,8 +31,3 @@ pub record Handles (fault : ℕ) (q : Script) (r : Handling) (rec rec′ line li
   pub record-after : rec′ ≡ cond (eqb fault 0) (q .bytes) rec
   pub line-after : line′ ≡ cond (eqb fault 0) (q .held ++ drop (length (q .held)) line) line
   pub out-after : out′ ≡ cond (eqb fault 0) (q .out ++ drop (length (q .out)) out) out
-
--- what is printed, or the refusal alone and the slice unchanged
-pub record PrintsUnless (fault : ℕ) (printed : List ℕ) (r : Output) (before after : List ℕ) : Type 0 where
-  pub answer : r ≡ cond (eqb fault 0) (Length (length printed)) (Refused fault)
-  pub out : after ≡ cond (eqb fault 0) (printed ++ drop (length printed) before) before

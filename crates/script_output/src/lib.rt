@@ -3,12 +3,13 @@ use output::Output;
 use script_steps::Progress;
 ghost use mathlib.Core.Path.{_≡_};
 ghost use mathlib.Core.Bool.{cond};
-ghost use Prim.Native.Nat.{_+_, _*_};
+ghost use Prim.Native.Nat.{ℕ, _+_, _*_};
 ghost use lib.Dec.{ltb};
 ghost use lib.ListN.{length, take};
+ghost use Rattle.output.specs.Output.{Prints};
 ghost use Rattle.fleet.specs.Answers.{slicesOf};
 ghost use Rattle.script_theory.specs.Script.{afterPiece, endText, scriptOutput};
-ghost use Rattle.script_output.specs.Handling.{callFault, pieceFault, before, Handles, PrintsUnless};
+ghost use Rattle.script_output.specs.Handling.{callFault, pieceFault, before, Handles};
 
 // A piece's answer: the length printed and how far the script has come, or the number of the refusal.
 pub enum Handling {
@@ -16,14 +17,59 @@ pub enum Handling {
     Refused(u8),
 }
 
-// How many bytes of an unfinished line are held: at most 16.
-fn held_bytes(held: u32) -> u32
-    ensures { λ r. ⌜ r ≡ cond (ltb held 16) held 16 ⌝ }
+// The progress that a piece goes on from: of an unfinished line at most 16 bytes are held.
+fn begun(progress: Progress) -> Progress
+    ensures { λ r. ⌜ (r .used ≡ progress .used) × (r .held ≡ cond (ltb (progress .held) 16) (progress .held) 16) × (r .changed ≡ progress .changed) ⌝ }
 {
-    if held < 16 {
-        return held;
+    if progress.held < 16 {
+        return progress;
     }
-    16
+    Progress {
+        used: progress.used,
+        held: 16,
+        changed: progress.changed,
+    }
+}
+
+// 8 for a slice that is too short, for the bytes of a piece and those held before it.
+fn piece_fault(line: usize, out: usize, held: u32, piece: &[u8]) -> u8
+    ensures { λ r. ⌜ r ≡ pieceFault line out held (length (now (piece .entry))) ⌝ }
+{
+    if line < 16 {
+        return 8;
+    }
+    if out / 5 < held as usize + piece.len() {
+        return 8;
+    }
+    0
+}
+
+// 8 for a slice that is too short, then the table's own, then 20, 21, 22. The table's number does not bear on it.
+fn call_fault(
+    short: u8,
+    probes: u16,
+    links: u16,
+    needs: &[u16],
+    lows: &[u16],
+    highs: &[u16],
+    costs: &[u16],
+    rec: &[u8],
+) -> u8
+    ensures { λ r. ⌜ ((number : ℕ) → r ≡ callFault short
+        (slicesOf number probes links (now (needs .entry)) (now (lows .entry)) (now (highs .entry)) (now (costs .entry))) (now (rec .entry))) ⌝ }
+{
+    if short != 0 {
+        return short;
+    }
+    fleet_checks::core::state_fault(
+        probes as usize,
+        links as usize,
+        needs,
+        lows,
+        highs,
+        costs,
+        rec,
+    )
 }
 
 // Handles a piece of the text behind a table. `line` keeps an unfinished line from one piece to the next, in 16 bytes.
@@ -48,32 +94,14 @@ pub fn script_piece(
         (before progress (now (rec .entry)) (now (line .entry))) (now (piece .entry)))
         r (now (rec .entry)) (now (rec .exit)) (now (line .entry)) (now (line .exit)) (now (out .entry)) (now (out .exit)) ⌝ }
 {
-    if line.len() < 16 {
-        return Handling::Refused(8);
-    }
-    let held = held_bytes(progress.held);
-    if out.len() / 5 < held as usize + piece.len() {
-        return Handling::Refused(8);
-    }
-    let fault = fleet_checks::core::state_fault(
-        probes as usize,
-        links as usize,
-        needs,
-        lows,
-        highs,
-        costs,
-        rec,
-    );
+    let begun = begun(progress);
+    let short = piece_fault(line.len(), out.len(), begun.held, piece);
+    let fault = call_fault(short, probes, links, needs, lows, highs, costs, rec);
     if fault != 0 {
         return Handling::Refused(fault);
     }
     let mut buffer = [0u8; 17];
-    script_steps::core::copy(&mut buffer, line, held as usize);
-    let begun = Progress {
-        used: progress.used,
-        held,
-        changed: progress.changed,
-    };
+    script_steps::core::copy(&mut buffer, line, begun.held as usize);
     let place = script_steps::core::take_piece(
         number,
         probes as usize,
@@ -85,7 +113,6 @@ pub fn script_piece(
         rec,
         &mut buffer,
         begun,
-        1024,
         piece,
         out,
     );
@@ -110,7 +137,7 @@ pub fn script_end(
     progress: Progress,
     out: &mut [u8],
 ) -> Output
-    ensures { λ r. ⌜ PrintsUnless
+    ensures { λ r. ⌜ Prints
         (callFault (cond (ltb (length (now (out .entry))) 16) 8 0)
         (slicesOf number probes links (now (needs .entry)) (now (lows .entry)) (now (highs .entry)) (now (costs .entry))) (now (rec .entry)))
         (endText (slicesOf number probes links (now (needs .entry)) (now (lows .entry)) (now (highs .entry)) (now (costs .entry))) (now (rec .entry)) (progress .held) (progress .changed))
@@ -119,15 +146,7 @@ pub fn script_end(
     if out.len() < 16 {
         return Output::Refused(8);
     }
-    let fault = fleet_checks::core::state_fault(
-        probes as usize,
-        links as usize,
-        needs,
-        lows,
-        highs,
-        costs,
-        rec,
-    );
+    let fault = call_fault(0, probes, links, needs, lows, highs, costs, rec);
     if fault != 0 {
         return Output::Refused(fault);
     }
@@ -147,7 +166,7 @@ pub fn script_end(
 
 // Prints what a whole text prints: a table and, behind its closing line, the script.
 pub fn script_text(text: &[u8], out: &mut [u8]) -> Output
-    ensures { λ r. ⌜ PrintsUnless (cond (ltb (length (now (out .entry))) (5 * length (now (text .entry)) + 5)) 8 0) (scriptOutput (now (text .entry)))
+    ensures { λ r. ⌜ Prints (cond (ltb (length (now (out .entry))) (5 * length (now (text .entry)) + 5)) 8 0) (scriptOutput (now (text .entry)))
         r (now (out .entry)) (now (out .exit)) ⌝ }
 {
     if out.len() / 5 < text.len() + 1 {

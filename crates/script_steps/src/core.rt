@@ -55,17 +55,16 @@ fn answer_line(
     costs: &[u16],
     rec: &mut [u8],
     line: &[u8],
-    progress: Progress,
-    room: u32,
     out: &mut [u8],
-    at: usize,
+    place: Place,
 ) -> Place
     requires { ⌜ (slicesFault (slicesOf number probes links (now needs) (now lows) (now highs) (now costs)) ≡ 0)
         × (fleetFault (tableOf (slicesOf number probes links (now needs) (now lows) (now highs) (now costs))) (now rec) ≡ 0)
-        × (at + 5 * length (now line) ≤ length (now out)) × (5 ≤ 5 * length (now line)) ⌝ }
+        × (place .at + 5 * length (now line) ≤ length (now out)) × (5 ≤ 5 * length (now line)) ⌝ }
     ensures { λ r. ⌜ Buffered (afterLine (slicesOf number probes links (now (needs .entry)) (now (lows .entry)) (now (highs .entry)) (now (costs .entry)))
-        room (underWay progress (now (rec .entry)) []) (now (line .entry))) at r (now (rec .exit)) [] (now (out .entry)) (now (out .exit)) ⌝ }
+        1024 (underWay (place .progress) (now (rec .entry)) []) (now (line .entry))) (place .at) r (now (rec .exit)) [] (now (out .entry)) (now (out .exit)) ⌝ }
 {
+    let progress = place.progress;
     let answer = fleet::core::handle_line(
         number,
         probes,
@@ -77,10 +76,10 @@ fn answer_line(
         rec,
         line,
         progress.used as usize,
-        room as usize,
+        1024,
     );
     Place {
-        at: script_lines::core::put_answer(out, at, answer),
+        at: script_lines::core::put_answer(out, place.at, answer),
         progress: Progress {
             used: add_used(progress.used, answer),
             held: 0,
@@ -110,18 +109,17 @@ fn take_byte(
     costs: &[u16],
     rec: &mut [u8],
     line: &mut [u8],
-    progress: Progress,
-    room: u32,
     byte: u8,
     out: &mut [u8],
-    at: usize,
+    place: Place,
 ) -> Place
     requires { ⌜ (slicesFault (slicesOf number probes links (now needs) (now lows) (now highs) (now costs)) ≡ 0)
         × (fleetFault (tableOf (slicesOf number probes links (now needs) (now lows) (now highs) (now costs))) (now rec) ≡ 0)
-        × (progress .held ≤ 16) × (length (now line) ≡ 17) × (at + 5 * (progress .held + 1) ≤ length (now out)) ⌝ }
+        × (place .progress .held ≤ 16) × (length (now line) ≡ 17) × (place .at + 5 * (place .progress .held + 1) ≤ length (now out)) ⌝ }
     ensures { λ r. ⌜ Buffered (afterByte (slicesOf number probes links (now (needs .entry)) (now (lows .entry)) (now (highs .entry)) (now (costs .entry)))
-        room (underWay progress (now (rec .entry)) (now (line .entry))) byte) at r (now (rec .exit)) (now (line .exit)) (now (out .entry)) (now (out .exit)) ⌝ }
+        1024 (underWay (place .progress) (now (rec .entry)) (now (line .entry))) byte) (place .at) r (now (rec .exit)) (now (line .exit)) (now (out .entry)) (now (out .exit)) ⌝ }
 {
+    let progress = place.progress;
     let held = progress.held as usize;
     line[held] = byte;
     if byte == b'\n' {
@@ -135,14 +133,12 @@ fn take_byte(
             costs,
             rec,
             &line[..held + 1],
-            progress,
-            room,
             out,
-            at,
+            place,
         );
     }
     Place {
-        at,
+        at: place.at,
         progress: Progress {
             used: progress.used,
             held: one_more(progress.held),
@@ -163,7 +159,6 @@ pub fn take_piece(
     rec: &mut [u8],
     line: &mut [u8],
     progress: Progress,
-    room: u32,
     piece: &[u8],
     out: &mut [u8],
 ) -> Place
@@ -171,13 +166,12 @@ pub fn take_piece(
         × (fleetFault (tableOf (slicesOf number probes links (now needs) (now lows) (now highs) (now costs))) (now rec) ≡ 0)
         × (progress .held ≤ 16) × (length (now line) ≡ 17) × (5 * (progress .held + length (now piece)) ≤ length (now out)) ⌝ }
     ensures { λ r. ⌜ Buffered (afterPiece (slicesOf number probes links (now (needs .entry)) (now (lows .entry)) (now (highs .entry)) (now (costs .entry)))
-        room (underWay progress (now (rec .entry)) (now (line .entry))) (now (piece .entry))) 0 r (now (rec .exit)) (now (line .exit)) (now (out .entry)) (now (out .exit))
+        1024 (underWay progress (now (rec .entry)) (now (line .entry))) (now (piece .entry))) 0 r (now (rec .exit)) (now (line .exit)) (now (out .entry)) (now (out .exit))
         × (r .at + 5 * r .progress .held ≤ 5 * (progress .held + length (now (piece .entry)))) × (r .progress .held ≤ 16) ⌝ }
 {
     let mut place = Place { at: 0, progress };
     let mut i = 0;
     while i < piece.len() {
-        let p = place.progress;
         place = take_byte(
             number,
             probes,
@@ -188,11 +182,9 @@ pub fn take_piece(
             costs,
             rec,
             line,
-            p,
-            room,
             piece[i],
             out,
-            place.at,
+            place,
         );
         i += 1;
     }
@@ -272,7 +264,6 @@ pub fn print_script(
         rec,
         &mut line,
         begun,
-        1024,
         text,
         out,
     );

@@ -1,5 +1,5 @@
 -- The round trips of `read_table` and `write_table`: they follow from the two promises.
-use Prim.Native.Nat.{ℕ, _≤_, _<_}
+use Prim.Native.Nat.{ℕ, _≤_}
 use mathlib.Core.Path.{_≡_, refl, sym, _∙_, ap}
 use mathlib.Core.Bool.{Bool, true, false, cond}
 use mathlib.Core.List.{List, _++_}
@@ -7,93 +7,40 @@ use native.Mathlib.Omega.{arith}
 use lib.Dec.{ltb, eqb}
 use lib.ListN.{length, take, drop}
 use lib.Seq.{take-at}
-use borrow.Author.Tests.{eqb-true, eq-eqb, le-ltb}
+use borrow.Author.Tests.{eqb-true, le-ltb}
 use Rattle.range.proofs.Faults.{or-none, or-right}
-use Rattle.range.proofs.Lists.{stored-at, same-length}
-use Rattle.table.specs.Table.{Table, item}
+use Rattle.table.specs.Table.{Table}
 use Rattle.table.specs.Legal.{roomFault, tableFault}
 use Rattle.table.specs.Text.{ofText, textOf, textEnd, textFault, readFault}
-use Rattle.table.proofs.Faults.{room-good}
 use Rattle.table.proofs.Accepted.{text-legal}
 use Rattle.table.proofs.Lengths.{length-text}
-use Rattle.table_read.specs.Reading.{filledOf}
 use Rattle.table_read.specs.declared.Reading.{Reading}
-use Rattle.table_read.specs.declared.Reading.the-variants.{Table as Read, Refused as Unread}
-use Rattle.table_read.proofs.Answers.{read-text, read-room}
+use Rattle.table_read.specs.declared.Reading.the-variants.{Table as Read}
 use Rattle.table_write.specs.declared.Writing.{Writing}
 use Rattle.table_write.specs.declared.Writing.the-variants.{Length, Refused as Unwritten}
 use Rattle.table_round.specs.Same.{Fits, Same}
 use Rattle.table_round.specs.Functions.{Slices, tableOf, Holds, readingFault, ReadTable, writingFault, WriteTable}
 use Rattle.table_round.proofs.Tables.{same-text, same-fault}
+use Rattle.table_round.proofs.Reading.{room-none, accepted, entries, holds, read-none, read-numbers}
 use Rattle.table_round.proofs.Round.{text-whole, table-whole}
 
 -- what an answer that is no refusal says
-
-pub answer-read : (none : Bool) (fault number probes links rest : ℕ) (t : Table)
-    → Read number probes links rest ≡ cond none (Read (t .number) (t .probes) (t .links) (textEnd t)) (Unread fault)
-    → (none ≡ true) × (number ≡ t .number) × (probes ≡ t .probes) × (links ≡ t .links)
-answer-read true fault number probes links rest t e = (refl, (cc), (cc), (cc))
-answer-read false fault number probes links rest t e = let z : _≡_ {A = ℕ} 0 1 = cc in absurd (omega arith)
-
 answer-written : (none : Bool) (fault n : ℕ) (t : Table) → Length n ≡ cond none (Length (textEnd t)) (Unwritten fault) → (none ≡ true) × (n ≡ textEnd t)
 answer-written true fault n t e = (refl, (cc))
 answer-written false fault n t e = let z : _≡_ {A = ℕ} 0 1 = cc in absurd (omega arith)
 
--- The faults of slices that are too short, and of writing them.
-module _ (probes links : ℕ) (a : Slices) where
-  abbrev short : ℕ
-  short = roomFault probes links (length (a .needs)) (length (a .lows)) (length (a .highs)) (length (a .costs))
+-- The fault of writing.
+module _ (probes links : ℕ) (a : Slices) (number out : ℕ) where
+  abbrev slices : Table
+  slices = tableOf number probes links a
 
-  short-none : Holds probes links a → short ≡ 0
-  short-none g = rw (le-ltb _ _ (g .needed), eq-eqb _ _ (g .equal), eq-eqb _ _ (g .equal₂), le-ltb _ _ (g .linked))
+  writing-none : textEnd slices ≤ out → Holds probes links a → tableFault 256 2048 slices ≡ 0 → writingFault number probes links a out ≡ 0
+  writing-none l g legal = rw (le-ltb out (textEnd slices) l, room-none probes links a g) legal
 
-  module _ (number out : ℕ) where
-    abbrev slices : Table
-    slices = tableOf number probes links a
-
-    writing-none : textEnd slices ≤ out → Holds probes links a → tableFault 256 2048 slices ≡ 0 → writingFault number probes links a out ≡ 0
-    writing-none l g legal = rw (le-ltb out (textEnd slices) l, short-none g) legal
-
-    writing-legal : writingFault number probes links a out ≡ 0 → tableFault 256 2048 slices ≡ 0
-    writing-legal e = or-right short _ (or-right (cond (ltb out (textEnd slices)) 8 0) _ e)
-
--- A call that reads without a fault.
-module _ (s : List ℕ) (r : Reading) (a b : Slices) (read : ReadTable s r a b) (none : readingFault s a ≡ 0) where
-  abbrev t : Table
-  t = ofText s
-
-  accepted : textFault 256 2048 false s ≡ 0
-  accepted = read-text 256 2048 false s (length (a .needs)) (length (a .lows)) (length (a .highs)) (length (a .costs)) none
-
-  room : Holds (t .probes) (t .links) a
-  room = room-good _ _ _ _ _ _ (read-room 256 2048 false s (length (a .needs)) (length (a .lows)) (length (a .highs)) (length (a .costs)) none)
-
-  entry : (f : ℕ → ℕ) (n : ℕ) (d e : List ℕ) → e ≡ filledOf (readingFault s a) f n d → n ≤ length d → (i : ℕ) → i < n → item e i ≡ f i
-  entry f n d e q fits i l = rw (rw none at q) (stored-at f n d i fits l)
-
-  -- the slices have the entries of the text's table
-  entries : Same (tableOf (t .number) (t .probes) (t .links) b) t
-  entries =
-      let g = room in
-      record {
-        number = refl;
-        probes = refl;
-        links = refl;
-        need = entry (t .need) (t .probes) (a .needs) (b .needs) (read .need) (omega arith);
-        low = entry (t .low) (t .links) (a .lows) (b .lows) (read .low) (omega arith);
-        high = entry (t .high) (t .links) (a .highs) (b .highs) (read .high) (omega arith);
-        cost = entry (t .cost) (t .links) (a .costs) (b .costs) (read .cost) (omega arith);
-      }
-
-  -- and the lengths that they had
-  holds : Holds (t .probes) (t .links) b
-  holds =
-      let g = room in
-      let needs = same-length (t .need) (t .probes) (a .needs) (b .needs) (rw none at (read .need)) in
-      let lows = same-length (t .low) (t .links) (a .lows) (b .lows) (rw none at (read .low)) in
-      let highs = same-length (t .high) (t .links) (a .highs) (b .highs) (rw none at (read .high)) in
-      let costs = same-length (t .cost) (t .links) (a .costs) (b .costs) (rw none at (read .cost)) in
-      record { needed = omega arith; linked = omega arith; equal = omega arith; equal₂ = omega arith }
+  writing-legal : writingFault number probes links a out ≡ 0 → tableFault 256 2048 slices ≡ 0
+  writing-legal e =
+      or-right (roomFault probes links (length (a .needs)) (length (a .lows)) (length (a .highs)) (length (a .costs))) _
+      (or-right (cond (ltb out (textEnd slices)) 8 0) _ e)
 
 -- every text that is read is what writing the table read gives
 pub read-then-write : (s out out′ : List ℕ) (a b : Slices) (number probes links rest : ℕ) (w : Writing)
@@ -103,16 +50,16 @@ pub read-then-write : (s out out′ : List ℕ) (a b : Slices) (number probes li
     → (w ≡ Length (length s)) × (out′ ≡ s ++ drop (length s) out)
 read-then-write s out out′ a b number probes links rest w read enough write =
     let t = ofText s in
-    let n = answer-read (eqb (readingFault s a) 0) (readingFault s a) number probes links rest t (read .answer) in
-    let none = eqb-true (readingFault s a) 0 (n .0) in
+    let none = read-none false s _ a b read number probes links rest refl in
+    let n = read-numbers false s _ a b read number probes links rest refl in
     let u = tableOf (t .number) (t .probes) (t .links) b in
-    let same = entries s _ a b read none in
-    let good = accepted s _ a b read none in
+    let same = entries false s _ a b read none in
+    let good = accepted false s _ a b read none in
     let text : textOf u ≡ s = same-text u t same ∙ text-whole 256 2048 s good in
     let end : textEnd u ≡ length s = sym (length-text u) ∙ ap length text in
     let legal = same-fault u t same 256 2048 ∙ text-legal 256 2048 false s good in
-    let fault = writing-none (t .probes) (t .links) b (t .number) (length out) (omega arith) (holds s _ a b read none) legal in
-    let written = rw (n .1, n .2, n .3) at write in
+    let fault = writing-none (t .probes) (t .links) b (t .number) (length out) (omega arith) (holds false s _ a b read none) legal in
+    let written = rw (n .0, n .1, n .2) at write in
     (written .answer ∙ rw (fault, end), written .out ∙ rw (fault, text))
 
 -- A text without a fault that has the entries of the table t, read into slices that hold them.
@@ -120,14 +67,14 @@ module _ (s : List ℕ) (t : Table) (r : Reading) (b b′ : Slices) (none : text
     (enough : Holds (t .probes) (t .links) b) (read : ReadTable s r b b′) where
   fault-none : readingFault s b ≡ 0
   unfolding readFault
-  fault-none = or-none (textFault 256 2048 false s) _ none ∙ rw (same .probes, same .links) (short-none (t .probes) (t .links) b enough)
+  fault-none = or-none (textFault 256 2048 false s) _ none ∙ rw (same .probes, same .links) (room-none (t .probes) (t .links) b enough)
 
   back-answer : r ≡ Read (t .number) (t .probes) (t .links) (textEnd t)
   back-answer = read .answer ∙ rw (fault-none, same .number, same .probes, same .links)
 
   back-entries : Same (tableOf (t .number) (t .probes) (t .links) b′) t
   back-entries =
-      let e = entries s r b b′ read fault-none in
+      let e = entries false s r b b′ read fault-none in
       let p = same .probes in
       let m = same .links in
       record {

@@ -1,11 +1,11 @@
 -- The round trips of document 01's table text: a text read and written, and a table written and read.
 use Prim.Native.Nat.{ℕ, _+_, _*_, _≤_, _<_}
-use mathlib.Core.Path.{_≡_, refl, sym, _∙_}
+use mathlib.Core.Path.{_≡_, refl, sym, _∙_, ap}
 use mathlib.Core.Bool.{Bool, true, false, _||_, true≢false}
 use mathlib.Core.List.{List, [], _∷_, _++_}
 use native.Mathlib.Omega.{arith}
 use lib.Dec.{eqb}
-use lib.ListN.{length, take, drop, length-append}
+use lib.ListN.{length, take, drop, length-append, length-take}
 use lib.Seq.{take-all, take-at}
 use borrow.Author.Tests.{eqb-true, eq-eqb}
 use Rattle.range.proofs.Bools.{and-left, and-right}
@@ -76,6 +76,14 @@ pub text-whole : (pmax lmax : ℕ) (s : List ℕ) → textFault pmax lmax false 
 text-whole pmax lmax s e =
     let l = eqb-true (length s) (textEnd (ofText s)) (text-good pmax lmax false s e .end) in
     text-back pmax lmax false s e ∙ take-all (textEnd (ofText s)) s (omega arith)
+
+-- the closing line stands within the text
+pub text-within : (pmax lmax : ℕ) (more : Bool) (s : List ℕ) → textFault pmax lmax more s ≡ 0 → textEnd (ofText s) ≤ length s
+text-within pmax lmax more s e =
+    let n = ap length (text-back pmax lmax more s e) in
+    let m = length-text (ofText s) in
+    let k = length-take (textEnd (ofText s)) s in
+    omega arith
 
 -- A text that starts with that of a table.
 module _ (s : List ℕ) (t : Table) (fits : Fits t) (within : textEnd t ≤ length s) (e : take (textEnd t) s ≡ textOf t) where

@@ -2,8 +2,10 @@
 use borrow.Author.Needs.{needs}
 use Rattle.plan_output.proofs.plan_text.Statement.{statement}
 use Rattle.plan_output.proofs.plan_text.Tie as tie
+use mathlib.Core.Bool.{false}
 use Rattle.table_round.specs.Functions.{Slices}
-use Rattle.plan_output.proofs.Reading.{blank, blank-local, refusal-printed, legal, room, plan-printed}
+use Rattle.table_round.proofs.Reading.{blank, read-legal, read-held}
+use Rattle.plan_output.proofs.Reading.{refusal-printed, plan-printed}
 
 slice-aggregate-read-table : tie.Need-slice-aggregate-read-table
 slice-aggregate-read-table c = search needs
@@ -47,7 +49,7 @@ print-plan-requires c κs =
     let k = c .before .before .before .before .before .before .before .before .before .before .before .before .read-table in
     let b : Slices = record { needs = k .last .1 .0; lows = k .last .1 .1 .0; highs = k .last .1 .1 .1 .0; costs = k .last .1 .1 .1 .1 .0 } in
     let e = c .before .before .before .before .before .before .read .given .1 in
-    (legal (a .text .now) _ blank b blank-local (k .ensures) _ _ _ _ e, room (a .text .now) _ blank b blank-local (k .ensures) _ _ _ _ e)
+    (read-legal false (a .text .now) _ blank b (k .ensures) _ _ _ _ e, read-held false (a .text .now) _ blank b (k .ensures) _ _ _ _ e)
 
 enum-known-read-2 : tie.Need-enum-known-read-2
 enum-known-read-2 c = search needs
@@ -63,7 +65,7 @@ returns c =
     let a = c .before .before .before .before .before .before .before .before .before .before .before .before .before .before .before .before .before .before .before .before .before .before .args in
     let k = c .before .before .before .before .before .before .before .before .before .before .before .before .before .before .before .read-table in
     let b : Slices = record { needs = k .last .1 .0; lows = k .last .1 .1 .0; highs = k .last .1 .1 .1 .0; costs = k .last .1 .1 .1 .1 .0 } in
-    plan-printed (a .text .now) _ blank b blank-local (k .ensures) _ _ _ _ (c .before .before .before .before .before .before .before .before .before .read .given .1) _ (a .out .now) _ (c .before .before .print-plan .ensures)
+    plan-printed (a .text .now) _ b (k .ensures) _ _ _ _ (c .before .before .before .before .before .before .before .before .before .read .given .1) _ (a .out .now) _ (c .before .before .print-plan .ensures)
 
 same-length-2 : tie.Need-same-length-2
 same-length-2 c = search needs
@@ -73,7 +75,7 @@ returns-2 c =
     let a = c .before .before .before .before .before .before .before .before .before .before .before .before .before .before .before .before .before .before .args in
     let k = c .before .before .before .before .before .before .before .before .before .before .before .read-table in
     let b : Slices = record { needs = k .last .1 .0; lows = k .last .1 .1 .0; highs = k .last .1 .1 .1 .0; costs = k .last .1 .1 .1 .1 .0 } in
-    refusal-printed (a .text .now) _ blank b blank-local (k .ensures) _ _ (a .out .now) _ (c .before .before .before .before .before .read2 .given .1) (c .before .before .print-refusal .ensures)
+    refusal-printed (a .text .now) _ b (k .ensures) _ _ (a .out .now) _ (c .before .before .before .before .before .read2 .given .1) (c .before .before .print-refusal .ensures)
 
 pub plan-text-spec : {M : Type 1} → statement M
 plan-text-spec =

@@ -5,7 +5,7 @@ use Rattle.script.proofs.end.Tie as tie
 use mathlib.Core.Path.{sym}
 use native.Mathlib.Omega.{arith}
 use lib.Seq.{length-take-le}
-use Rattle.script_output.proofs.Answers.{printed-within}
+use Rattle.output.proofs.Printing.{printed-within}
 
 slice-aggregate-script-end : tie.Need-slice-aggregate-script-end
 slice-aggregate-script-end c = search needs
@@ -20,14 +20,14 @@ array-share-prefix-out : tie.Need-array-share-prefix-out
 array-share-prefix-out c =
     let k = c .before .before .before .before .script-end in
     let m = k .kept .1 .1 .1 .1 .1 .1 .1 .1 .1 .0 in
-    let l = printed-within _ _ _ _ _ _ (k .ensures) (c .before .printed .given .1) m in
+    let l = printed-within _ _ _ _ _ _ (k .ensures) (c .before .printed .given .1) m .1 in
     omega (arith, m)
 
 slice-aggregate-write-all : tie.Need-slice-aggregate-write-all
 slice-aggregate-write-all c =
     let k = c .before .before .before .before .before .script-end in
     let m = k .kept .1 .1 .1 .1 .1 .1 .1 .1 .1 .0 in
-    let l = printed-within _ _ _ _ _ _ (k .ensures) (c .before .before .printed .given .1) m in
+    let l = printed-within _ _ _ _ _ _ (k .ensures) (c .before .before .printed .given .1) m .1 in
     sym (length-take-le _ (k .last .1 .1 .1 .1 .1 .1 .1 .1 .1 .0) (omega (arith, m)))
 
 write-all-requires : tie.Need-write-all-requires

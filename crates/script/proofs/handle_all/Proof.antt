@@ -2,23 +2,51 @@
 use borrow.Author.Needs.{needs}
 use Rattle.script.proofs.handle_all.Statement.{statement}
 use Rattle.script.proofs.handle_all.Tie as tie
-use mathlib.Core.Path.{_≡_, refl, _∙_}
+use Prim.Native.Nat.{_≤_}
+use mathlib.Core.Path.{_≡_, sym}
 use lib.ListN.{length}
+use native.Mathlib.Omega.{arith}
+use lib.Seq.{length-take-le}
 
 abbrev Inv-loop : tie.InvT-loop
-Inv-loop number probes links needs lows highs costs rec₀ line₀ first progress₀ more₀ turns₀ rec line progress more turns = (length rec ≡ length rec₀) × (length line ≡ length line₀)
+Inv-loop number probes links needs lows highs costs text₀ rest read rec₀ line₀ progress₀ from₀ to₀ turns₀ text rec line progress from to turns =
+    (from ≤ to) × (to ≤ length text) × (length text ≡ length text₀) × (length rec ≡ length rec₀) × (length line ≡ 16)
 
 abbrev μ-loop : tie.MeasureT-loop
-μ-loop number probes links needs lows highs costs rec₀ line₀ first progress₀ more₀ turns₀ rec line progress more turns = turns
+μ-loop number probes links needs lows highs costs text₀ rest read rec₀ line₀ progress₀ from₀ to₀ turns₀ text rec line progress from to turns = turns
+
+mul-bytes : tie.Need-mul-bytes Inv-loop μ-loop
+mul-bytes c = search needs
+
+array-borrow-prefix-bytes : tie.Need-array-borrow-prefix-bytes Inv-loop μ-loop
+array-borrow-prefix-bytes c = search needs
+
+slice-aggregate-rec : tie.Need-slice-aggregate-rec Inv-loop μ-loop
+slice-aggregate-rec c = sym (length-take-le _ _ (omega (arith, c .before .before .before .before .before .before .pre .0)))
+
+loop-holds : tie.Need-loop-holds Inv-loop μ-loop
+loop-holds c = search needs
+
+slice-aggregate-handle : tie.Need-slice-aggregate-handle Inv-loop μ-loop
+slice-aggregate-handle c = search needs
+
+sub-handle : tie.Need-sub-handle Inv-loop μ-loop
+sub-handle c = search needs
+
+part-handle-start : tie.Need-part-handle-start Inv-loop μ-loop
+part-handle-start c = search needs
+
+part-handle-end : tie.Need-part-handle-end Inv-loop μ-loop
+part-handle-end c = search needs
 
 handle-requires : tie.Need-handle-requires Inv-loop μ-loop
 handle-requires c κs = search needs
 
-loop-holds : tie.Need-loop-holds Inv-loop μ-loop
-loop-holds c = (refl, refl)
+read-requires : tie.Need-read-requires Inv-loop μ-loop
+read-requires c κs = search needs
 
-handle-next-requires : tie.Need-handle-next-requires Inv-loop μ-loop
-handle-next-requires c κs = search needs
+count-requires : tie.Need-count-requires Inv-loop μ-loop
+count-requires c κs = search needs
 
 sub-turns : tie.Need-sub-turns Inv-loop μ-loop
 sub-turns c = search needs
@@ -27,19 +55,13 @@ loop-less : tie.Need-loop-less Inv-loop μ-loop
 loop-less c = search needs
 
 loop-again : tie.Need-loop-again Inv-loop μ-loop
-loop-again c =
-    let k = c .before .before .before .before .before .handle-next in
-    let v = c .before .before .before .before .before .before .before .before .before .before .loop .inv in
-    (k .kept .1 .1 .1 .1 .1 .1 .1 .0 ∙ v .0, k .kept .1 .1 .1 .1 .1 .1 .1 .1 .0 ∙ v .1)
+loop-again c = search needs
 
 end-requires : tie.Need-end-requires Inv-loop μ-loop
 end-requires c κs = search needs
 
 same-length : tie.Need-same-length Inv-loop μ-loop
 same-length c = search needs
-
-same-length-2 : tie.Need-same-length-2 Inv-loop μ-loop
-same-length-2 c = search needs
 
 returns : tie.Need-returns Inv-loop μ-loop
 returns c = search needs
@@ -50,13 +72,20 @@ handle-all-spec =
     (tie.spec
     Inv-loop
     μ-loop
-    handle-requires
+    mul-bytes
+    array-borrow-prefix-bytes
+    slice-aggregate-rec
     loop-holds
-    handle-next-requires
+    slice-aggregate-handle
+    sub-handle
+    part-handle-start
+    part-handle-end
+    handle-requires
+    read-requires
+    count-requires
     sub-turns
     loop-less
     loop-again
     end-requires
     same-length
-    same-length-2
     returns)

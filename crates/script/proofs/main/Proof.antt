@@ -2,10 +2,7 @@
 use borrow.Author.Needs.{needs}
 use Rattle.script.proofs.main.Statement.{statement}
 use Rattle.script.proofs.main.Tie as tie
-use Prim.Native.Nat.{_≤_}
-use mathlib.Core.Path.{sym}
 use native.Mathlib.Omega.{arith}
-use lib.Seq.{length-take-le}
 use Rattle.script_output.proofs.Reading.{read-links, rest-within}
 
 slice-aggregate-read-full : tie.Need-slice-aggregate-read-full
@@ -38,24 +35,6 @@ read-table-prefix-requires c κs = search needs
 enum-known-read : tie.Need-enum-known-read
 enum-known-read c = search needs
 
-cast-bytes : tie.Need-cast-bytes
-cast-bytes c = search needs
-
-mul-bytes : tie.Need-mul-bytes
-mul-bytes c = search needs
-
-array-borrow-prefix-bytes : tie.Need-array-borrow-prefix-bytes
-array-borrow-prefix-bytes c =
-    let k = c .before .before .before .before .before .before .before .read-table-prefix in
-    let m : c .before .read .given .0 .1 .1 .0 ≤ 2048 = read-links _ _ _ _ _ _ (k .ensures) _ _ _ _ (c .before .read .given .1) in
-    omega arith
-
-slice-aggregate-rec : tie.Need-slice-aggregate-rec
-slice-aggregate-rec c =
-    let k = c .before .before .before .before .before .before .before .before .read-table-prefix in
-    let m : c .before .before .read .given .0 .1 .1 .0 ≤ 2048 = read-links _ _ _ _ _ _ (k .ensures) _ _ _ _ (c .before .before .read .given .1) in
-    sym (length-take-le _ _ (omega arith))
-
 slice-aggregate-handle-all : tie.Need-slice-aggregate-handle-all
 slice-aggregate-handle-all c = search needs
 
@@ -71,23 +50,12 @@ slice-aggregate-handle-all-4 c = search needs
 slice-aggregate-handle-all-5 : tie.Need-slice-aggregate-handle-all-5
 slice-aggregate-handle-all-5 c = search needs
 
-sub-handle-all : tie.Need-sub-handle-all
-sub-handle-all c =
-    let k = c .before .before .before .before .before .before .before .before .before .before .before .before .before .read-table-prefix in
-    let w = rest-within _ _ _ _ _ _ (k .ensures) _ _ _ _ (c .before .before .before .before .before .before .before .read .given .1) in
-    omega (arith, w .1)
-
-part-handle-all-start : tie.Need-part-handle-all-start
-part-handle-all-start c =
-    let k = c .before .before .before .before .before .before .before .before .before .before .before .before .before .before .read-table-prefix in
-    let w = rest-within _ _ _ _ _ _ (k .ensures) _ _ _ _ (c .before .before .before .before .before .before .before .before .read .given .1) in
-    omega (arith, w .1)
-
-part-handle-all-end : tie.Need-part-handle-all-end
-part-handle-all-end c = search needs
-
 handle-all-requires : tie.Need-handle-all-requires
-handle-all-requires c κs = search needs
+handle-all-requires c κs =
+    let k = c .before .before .before .before .before .before .before .before .before .before .before .before .read-table-prefix in
+    let e = c .before .before .before .before .before .before .read .given .1 in
+    let w = rest-within _ _ _ _ _ _ (k .ensures) _ _ _ _ e in
+    (read-links _ _ _ _ _ _ (k .ensures) _ _ _ _ e, omega (arith, w .1), search needs)
 
 enum-known-read-2 : tie.Need-enum-known-read-2
 enum-known-read-2 c = search needs
@@ -115,18 +83,11 @@ main-spec =
     slice-aggregate-read-table-prefix-5
     read-table-prefix-requires
     enum-known-read
-    cast-bytes
-    mul-bytes
-    array-borrow-prefix-bytes
-    slice-aggregate-rec
     slice-aggregate-handle-all
     slice-aggregate-handle-all-2
     slice-aggregate-handle-all-3
     slice-aggregate-handle-all-4
     slice-aggregate-handle-all-5
-    sub-handle-all
-    part-handle-all-start
-    part-handle-all-end
     handle-all-requires
     enum-known-read-2
     refuse-requires

@@ -17,7 +17,7 @@ enum-known-printed c = search needs
 array-share-prefix-out : tie.Need-array-share-prefix-out
 array-share-prefix-out c =
     let k = c .before .before .before .before .print-refusal in
-    let l = printed-within _ _ _ _ _ (k .ensures) (c .before .printed .given .1) .1 in
+    let l = printed-within _ _ _ _ _ _ (k .ensures) (c .before .printed .given .1) (k .kept .0) .1 in
     omega (arith, k .kept .0)
 
 slice-aggregate-write-all : tie.Need-slice-aggregate-write-all

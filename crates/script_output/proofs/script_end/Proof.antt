@@ -3,37 +3,33 @@ use borrow.Author.Needs.{needs}
 use Rattle.script_output.proofs.script_end.Statement.{statement}
 use Rattle.script_output.proofs.script_end.Tie as tie
 use mathlib.Core.Path.{_≡_, sym, _∙_}
-use mathlib.Core.List.{[]}
 use native.Mathlib.Omega.{arith}
 use lib.Dec.{eqb}
 use borrow.Author.Tests.{lt-ltb, le-ltb}
 use Rattle.range.specs.First.{orElse}
 use Rattle.range.proofs.Faults.{or-left, or-right}
 use Rattle.table.proofs.Slices.{given}
+use Rattle.output.proofs.Printing.{prints-refused, prints-done}
 use Rattle.fleet_theory.specs.Fleet.{tableOf, slicesFault, fleetFault}
 use Rattle.fleet.specs.Answers.{slicesOf}
 use Rattle.fleet_counts.proofs.Legal.{fits}
 use Rattle.fleet_checks.proofs.Checks.{fleet-good}
-use Rattle.fleet.proofs.Calls.{state-is}
 use Rattle.script_steps.proofs.Ends.{length-end, end-most}
-use Rattle.script_output.proofs.Answers.{unprinted, printed-all}
 
 returns : tie.Need-returns
-returns c = unprinted _ 8 _ _ (rw (lt-ltb _ _ (c .if1 .taken))) (λ z. omega arith)
+returns c = prints-refused _ 8 _ _ (rw (lt-ltb _ _ (c .if1 .taken))) (λ z. omega arith)
 
-state-fault-requires : tie.Need-state-fault-requires
-state-fault-requires c κs = search needs
+call-fault-requires : tie.Need-call-fault-requires
+call-fault-requires c κs = search needs
 
 returns-2 : tie.Need-returns-2
-returns-2 c =
-    let a = c .before .before .before .before .before .before .before .before .before .args in
-    unprinted _ _ _ _ (rw (le-ltb _ _ (c .before .before .if1 .left)) (state-is (a .number) (a .probes) (a .links) (a .needs .now) (a .lows .now) (a .highs .now) (a .costs .now) 0 0 [] (a .rec .now) _ (c .before .state-fault .ensures))) (c .if2 .taken)
+returns-2 c = prints-refused _ _ _ _ (rw (le-ltb _ _ (c .before .before .if1 .left)) (c .before .call-fault .ensures (c .before .before .before .before .before .before .before .before .before .args .number))) (c .if2 .taken)
 
 put-end-requires : tie.Need-put-end-requires
 put-end-requires c κs =
     let a = c .before .before .before .before .before .before .before .before .before .before .args in
     let x = slicesOf (a .number) (a .probes) (a .links) (a .needs .now) (a .lows .now) (a .highs .now) (a .costs .now) in
-    let z : orElse (slicesFault x) (fleetFault (tableOf x) (a .rec .now)) ≡ 0 = sym (state-is (a .number) (a .probes) (a .links) (a .needs .now) (a .lows .now) (a .highs .now) (a .costs .now) 0 0 [] (a .rec .now) _ (c .before .before .state-fault .ensures)) ∙ c .before .if2 .left in
+    let z : orElse (slicesFault x) (fleetFault (tableOf x) (a .rec .now)) ≡ 0 = sym (c .before .before .call-fault .ensures (a .number)) ∙ c .before .if2 .left in
     let f = fleet-good (tableOf x) (a .rec .now) (or-right (slicesFault x) (fleetFault (tableOf x) (a .rec .now)) z) in
     (fits (a .number) (a .probes) (a .links) (a .needs .now) (a .lows .now) (a .highs .now) (a .costs .now) (given 256 2048 (a .number) (a .probes) (a .links) (a .needs .now) (a .lows .now) (a .highs .now) (a .costs .now) (or-left (slicesFault x) (fleetFault (tableOf x) (a .rec .now)) z)), omega (arith, f .0), omega (arith, c .before .before .before .if1 .left))
 
@@ -44,13 +40,13 @@ returns-3 : tie.Need-returns-3
 returns-3 c =
     let a = c .before .before .before .before .before .before .before .before .before .before .before .before .before .args in
     let x = slicesOf (a .number) (a .probes) (a .links) (a .needs .now) (a .lows .now) (a .highs .now) (a .costs .now) in
-    let z : orElse (slicesFault x) (fleetFault (tableOf x) (a .rec .now)) ≡ 0 = sym (state-is (a .number) (a .probes) (a .links) (a .needs .now) (a .lows .now) (a .highs .now) (a .costs .now) 0 0 [] (a .rec .now) _ (c .before .before .before .before .before .state-fault .ensures)) ∙ c .before .before .before .before .if2 .left in
+    let z = sym (c .before .before .before .before .before .call-fault .ensures (a .number)) ∙ c .before .before .before .before .if2 .left in
     let n = length-end x (a .rec .now) (a .progress .held) (a .progress .changed) in
     let m = end-most (eqb (a .progress .held) 0) in
     let k = c .before .before .put-end .ensures in
-    printed-all _ _ _ (a .out .now) _ (rw (le-ltb _ _ (c .before .before .before .before .before .before .if1 .left)) z) (omega (arith, k .1)) (omega (arith, c .before .before .before .before .before .before .if1 .left)) (k .0 (a .number) (a .costs .now))
+    prints-done _ _ _ (a .out .now) _ (rw (le-ltb _ _ (c .before .before .before .before .before .before .if1 .left)) z) (omega (arith, k .1)) (omega (arith, k .1, c .before .before .before .before .before .before .if1 .left)) (k .0 (a .number) (a .costs .now))
 
 pub script-end-spec : {M : Type 1} → statement M
 script-end-spec =
     tie.close
-    (tie.spec returns state-fault-requires returns-2 put-end-requires same-length returns-3)
+    (tie.spec returns call-fault-requires returns-2 put-end-requires same-length returns-3)

@@ -6,7 +6,7 @@ use Prim.Native.Nat.{_+_, _*_}
 use native.Mathlib.Omega.{arith}
 use lib.ListN.{length}
 use borrow.Author.Tests.{lt-ltb, le-ltb}
-use Rattle.script_output.proofs.Answers.{unprinted}
+use Rattle.output.proofs.Printing.{prints-refused}
 use Rattle.script_output.proofs.Reading.{refusal-printed, read-fine, rest-within, behind-length, script-printed}
 
 add-if1 : tie.Need-add-if1
@@ -15,7 +15,7 @@ add-if1 c = search needs
 returns : tie.Need-returns
 returns c =
     let a = c .before .before .before .args in
-    unprinted _ 8 _ _ (rw (lt-ltb (length (a .out .now)) (5 * length (a .text .now) + 5) (omega (arith, c .if1 .taken)))) (λ z. omega arith)
+    prints-refused _ 8 _ _ (rw (lt-ltb (length (a .out .now)) (5 * length (a .text .now) + 5) (omega (arith, c .if1 .taken)))) (λ z. omega arith)
 
 slice-aggregate-read-table-prefix : tie.Need-slice-aggregate-read-table-prefix
 slice-aggregate-read-table-prefix c = search needs

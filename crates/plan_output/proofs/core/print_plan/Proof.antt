@@ -10,7 +10,7 @@ use Rattle.table.proofs.Faults.{room-good}
 use Rattle.slse.proofs.Turns.{size}
 use Rattle.cover.proofs.Answers.{numbered}
 use Rattle.plan_lines.specs.Output.{planText}
-use Rattle.output.proofs.Printing.{prints-refused, prints-done}
+use Rattle.output.proofs.Printing.{prints-refused, prints-done, too-short, long-enough}
 use Rattle.plan_lines.proofs.Printing.{length-plan, count-says, plan-then}
 
 slice-aggregate-slse-plan : tie.Need-slice-aggregate-slse-plan
@@ -57,7 +57,7 @@ returns c =
     let n = count-says t (replicate 2048 0) _ (z .within) p in
     let k = c .before .kept-count .ensures in
     let l = length-plan t in
-    prints-refused (planText t) (a .out .now) (omega (arith, c .if1 .taken))
+    prints-refused _ 8 _ (a .out .now) (too-short (length (a .out .now)) (planText t) (omega (arith, c .if1 .taken))) (λ z. omega arith)
 
 slice-aggregate-kept-cost : tie.Need-slice-aggregate-kept-cost
 slice-aggregate-kept-cost c = search needs
@@ -107,7 +107,8 @@ returns-2 c =
     let n = count-says t (replicate 2048 0) _ (z .within) p in
     let k = c .before .before .before .before .before .before .before .before .before .before .before .before .before .before .before .before .kept-count .ensures in
     let l = length-plan t in
-    prints-done (planText t) (a .out .now) _ (17 + 13 * (c .before .before .before .before .before .before .before .before .before .before .before .before .before .before .before .before .kept-count .result) + 5) (omega arith) (c .before .before .before .before .before .before .before .before .before .before .before .before .before .before .before .if1 .left)
+    let f = c .before .before .before .before .before .before .before .before .before .before .before .before .before .before .before .if1 .left in
+    prints-done _ (17 + 13 * (c .before .before .before .before .before .before .before .before .before .before .before .before .before .before .before .before .kept-count .result) + 5) _ (a .out .now) _ (long-enough (length (a .out .now)) (planText t) (omega arith)) (omega arith) f
     (plan-then t (replicate 2048 0) _ (z .within) p (c .before .before .before .before .before .before .before .before .before .before .before .before .before .before .before .before .kept-count .result) (c .before .before .before .before .before .before .before .before .before .before .before .before .before .kept-cost .result) (a .out .now) _ _ _ k (c .before .before .before .before .before .before .before .before .before .before .before .before .before .kept-cost .ensures) (c .before .before .before .before .before .before .before .before .before .before .before .put-head .ensures) (c .before .before .before .before .before .before .put-kept .ensures) (c .before .before .put-closing .ensures))
 
 pub print-plan-spec : {M : Type 1} → statement M
