@@ -5,10 +5,7 @@ use mathlib.Core.List.{List}
 use Rattle.table.specs.Table.{Table as Site}
 use Rattle.cover.specs.Planning.{Plans, PlansByTurns}
 use Rattle.cover.specs.declared.Planning.{Planning}
-use Rattle.plan_lines.specs.Output.{Outputs}
-use Rattle.output.specs.declared.Output.{Output}
-use Rattle.packing.specs.Packed.{packedOutput}
-use Rattle.plan_exports.specs.Packed.{packedPlanning, OutputsPacked, PlansPacked, TurnsPacked}
+use Rattle.plan_exports.specs.Packed.{packedPlanning, PlansPacked, TurnsPacked}
 
 pub plans-packed : (fault : ℕ) (t : Site) (a : Planning) (r : ℕ) (before after : List ℕ) → Plans fault t a before after → r ≡ packedPlanning a → PlansPacked fault t r before after
 plans-packed fault t a r before after g e =
@@ -18,6 +15,3 @@ pub turns-packed : (fault : ℕ) (t : Site) (a : Planning) (r : ℕ) (before aft
     → TurnsPacked fault t r before after work work′
 turns-packed fault t a r before after work work′ g e =
     record { answer = e ∙ ap packedPlanning (g .plans .answer); lent = record { plans = record { answer = refl; plan = g .plans .plan }; cleared = g .cleared } }
-
-pub outputs-packed : (text : List ℕ) (a : Output) (r : ℕ) (before after : List ℕ) → Outputs text a before after → r ≡ packedOutput a → OutputsPacked text r before after
-outputs-packed text a r before after g e = record { answered = a; answer = e; lent = g }

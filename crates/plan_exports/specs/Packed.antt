@@ -5,9 +5,6 @@ use mathlib.Core.Path.{_≡_}
 use mathlib.Core.List.{List}
 use Rattle.table.specs.Table.{Table as Site}
 use Rattle.cover.specs.Planning.{planningOf, Plans, PlansByTurns}
-use Rattle.plan_lines.specs.Output.{Outputs}
-use Rattle.output.specs.declared.Output.{Output}
-use Rattle.packing.specs.Packed.{packedOutput}
 use Rattle.cover.specs.declared.Planning.{Planning}
 use Rattle.cover.specs.declared.Planning.the-variants.{Plan, Refused as Unplanned}
 
@@ -23,9 +20,3 @@ pub record PlansPacked (fault : ℕ) (t : Site) (r : ℕ) (before after : List �
 pub record TurnsPacked (fault : ℕ) (t : Site) (r : ℕ) (before after work work′ : List ℕ) : Type 0 where
   pub answer : r ≡ packedPlanning (planningOf fault t)
   pub lent : PlansByTurns fault t (planningOf fault t) before after work work′
-
--- some answer of `plan_text`, packed
-pub record OutputsPacked (text : List ℕ) (r : ℕ) (before after : List ℕ) : Type 0 where
-  pub answered : Output
-  pub answer : r ≡ packedOutput answered
-  pub lent : Outputs text answered before after

@@ -1,10 +1,12 @@
 // The library of plans for C and Rust: both methods, and the plan program's output.
 ghost use mathlib.Core.Path.{_≡_};
-ghost use Prim.Native.Nat.{_+_, _*_};
 ghost use lib.ListN.{length};
 ghost use Rattle.table.specs.Table.{ofSlices};
 ghost use Rattle.cover.specs.Planning.{planFault, turnsFault};
-ghost use Rattle.plan_exports.specs.Packed.{PlansPacked, TurnsPacked, OutputsPacked, packedPlanning};
+ghost use Rattle.plan_exports.specs.Packed.{PlansPacked, TurnsPacked, packedPlanning};
+ghost use Rattle.output.specs.Output.{shortFault};
+ghost use Rattle.plan_lines.specs.Output.{outputOf};
+ghost use Rattle.packing.specs.Packed.{PrintsPacked};
 use cover::Planning;
 use packing::packed_output;
 
@@ -73,7 +75,8 @@ pub extern "C" fn planner_plan_turns(
 // `plan_output::plan_text`, its answer packed.
 #[no_mangle]
 pub extern "C" fn planner_plan_text(text: &[u8], out: &mut [u8]) -> u64
-    ensures { λ r. ⌜ OutputsPacked (now (text .entry)) r (now (out .entry)) (now (out .exit)) ⌝ }
+    ensures { λ r. ⌜ PrintsPacked (shortFault (length (now (out .entry))) (outputOf (now (text .entry)))) (outputOf (now (text .entry)))
+        r (now (out .entry)) (now (out .exit)) ⌝ }
 {
     packed_output(plan_output::plan_text(text, out))
 }

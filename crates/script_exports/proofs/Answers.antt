@@ -11,18 +11,12 @@ use borrow.Author.Tests.{lt-ltb, eqb-true, eqb-false, eq-eqb, ne-eqb}
 use Rattle.range.specs.First.{orElse}
 use Rattle.range.proofs.Bools.{decided}
 use Rattle.range.proofs.Sets.{sets-start}
-use Rattle.output.specs.declared.Output.{Output}
 use Rattle.script_theory.specs.Script.{Script}
 use Rattle.script_steps.specs.declared.Progress.{Progress}
 use Rattle.script_output.specs.declared.Handling.{Handling}
 use Rattle.script_output.specs.declared.Handling.the-variants as handling
-use Rattle.script_output.specs.Handling.{Handles, PrintsUnless}
-use Rattle.packing.specs.Packed.{packedOutput}
-use Rattle.script_exports.specs.Packed.{PrintsPacked, PiecePacked}
-
-pub prints-packed : (fault : ℕ) (printed : List ℕ) (a : Output) (r : ℕ) (before after : List ℕ) → PrintsUnless fault printed a before after → r ≡ packedOutput a
-    → PrintsPacked fault printed r before after
-prints-packed fault printed a r before after g e = record { answer = e ∙ ap packedOutput (g .answer); lent = record { answer = refl; out = g .out } }
+use Rattle.script_output.specs.Handling.{Handles}
+use Rattle.script_exports.specs.Packed.{PiecePacked}
 
 -- A piece: refused before the call, refused by it, or handled.
 pub piece-unhandled : (fault : ℕ) (q : Script) (rec line numbers out : List ℕ) → length numbers < 3

@@ -7,20 +7,9 @@ use mathlib.Core.List.{List, _∷_, _++_}
 use lib.Dec.{eqb}
 use lib.ListN.{length, drop}
 use Rattle.table.specs.Table.{item}
-use Rattle.output.specs.declared.Output.{Output}
-use Rattle.output.specs.declared.Output.the-variants.{Length, Refused}
 use Rattle.script_theory.specs.Script.{Script}
 use Rattle.script_steps.specs.declared.Progress.{Progress}
-use Rattle.script_output.specs.Handling.{PrintsUnless}
-use Rattle.packing.specs.Packed.{packedOutput}
-
--- what is printed, or the refusal
-abbrev pub printedOf : ℕ → List ℕ → Output
-printedOf fault printed = cond (eqb fault 0) (Length (length printed)) (Refused fault)
-
-pub record PrintsPacked (fault : ℕ) (printed : List ℕ) (r : ℕ) (before after : List ℕ) : Type 0 where
-  pub answer : r ≡ packedOutput (printedOf fault printed)
-  pub lent : PrintsUnless fault printed (printedOf fault printed) before after
+use Rattle.packing.specs.Packed.{packedOutput, printedOf}
 
 -- the three numbers of a script's progress: entries used, bytes held, changes
 abbrev pub progressOf : List ℕ → Progress

@@ -1,6 +1,6 @@
 // The library of scripts for C and Rust: whole, in pieces, and the end.
 ghost use mathlib.Core.Bool.{cond};
-ghost use Prim.Native.Nat.{_+_, _*_, _<_};
+ghost use Prim.Native.Nat.{_+_, _*_};
 ghost use lib.Dec.{ltb};
 ghost use lib.ListN.{length, take};
 ghost use Rattle.range.specs.First.{orElse};
@@ -8,7 +8,8 @@ ghost use Rattle.table.specs.Table.{item};
 ghost use Rattle.fleet.specs.Answers.{slicesOf};
 ghost use Rattle.script_theory.specs.Script.{afterPiece, endText, scriptOutput};
 ghost use Rattle.script_output.specs.Handling.{callFault, pieceFault, before};
-ghost use Rattle.script_exports.specs.Packed.{PrintsPacked, PiecePacked, progressOf};
+ghost use Rattle.packing.specs.Packed.{PrintsPacked};
+ghost use Rattle.script_exports.specs.Packed.{PiecePacked, progressOf};
 use packing::packed_output;
 use script_output::Handling;
 use script_steps::Progress;
