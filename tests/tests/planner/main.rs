@@ -1,11 +1,11 @@
-//! All tests, in one binary, so that the longest runs beside the others.
+//! All tests, in one binary: the longest starts first and runs beside the others.
 
+mod both_programs;
 mod definitions;
 mod documents;
 mod ends;
 mod fleet;
 mod fleet_definitions;
-mod fuzz;
 mod marked_sites;
 mod methods;
 mod named_slices;

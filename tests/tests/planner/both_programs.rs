@@ -58,7 +58,7 @@ fn tally(counts: &mut [usize; 2], output: &[u8]) {
 fn plan_texts() {
     let mut random = Random::new(71);
     let mut counts = [0, 0];
-    for case in 0..1_400_000 {
+    for case in 0..1_550_000 {
         let text = match case % 8 {
             0 => random_bytes(&mut random),
             1 => {
@@ -86,7 +86,7 @@ fn plan_texts() {
 fn script_texts() {
     let mut random = Random::new(72);
     let mut counts = [0, 0];
-    for case in 0..450_000 {
+    for case in 0..500_000 {
         let input = match case % 8 {
             0 => random_bytes(&mut random),
             1 => {
@@ -109,7 +109,7 @@ fn script_texts() {
 }
 
 #[test]
-fn both_programs() {
+fn fuzz() {
     plan_texts();
     script_texts();
 }
