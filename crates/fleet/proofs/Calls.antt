@@ -9,21 +9,20 @@ use borrow.Author.Tests.{lt-ltb, le-ltb, ne-eqb}
 use native.Mathlib.Omega.{arith}
 use Rattle.range.specs.First.{orElse}
 use Rattle.range.proofs.Faults.{or-here, or-none, or-through}
-use Rattle.table.specs.Table.{Table, ofSlices}
+use Rattle.table.specs.Table.{Table, ofSlices, between}
 use Rattle.table.specs.Legal.{sliceFault}
-use Rattle.frame.specs.Frame.{Frame, frameOf}
-use Rattle.entry.specs.declared.Entry.{Entry}
-use Rattle.entry.specs.declared.Answer.{Answer}
-use Rattle.entry.specs.declared.Answer.the-variants.{Logged, Refused}
-use Rattle.entry.specs.Entry.{answerOf}
+use Rattle.probe_frame.specs.Frame.{Frame, frameOf}
+use Rattle.wake_log.specs.declared.Entry.{Entry}
+use Rattle.wake_log.specs.declared.Answer.{Answer}
+use Rattle.wake_log.specs.declared.Answer.the-variants.{Logged, Refused}
+use Rattle.wake_log.specs.Entry.{answerOf}
 use mathlib.Core.Logic.{_⊎_, inl, inr}
 use Rattle.range.proofs.Bools.{decided}
-use Rattle.rules.specs.declared.Event.{Event}
-use Rattle.rules.specs.declared.Event.the-variants.{Opening, Offer, Refusal}
-use Rattle.rules.specs.Frames.{between}
-use Rattle.rules.specs.declared.Outcome.{Outcome}
-use Rattle.rules.specs.Rules.{befalls, entryOf}
-use Rattle.rules.proofs.Outcomes.{entry-same, befalls-same}
+use Rattle.probe_rules.specs.declared.Event.{Event}
+use Rattle.probe_rules.specs.declared.Event.the-variants.{Opening, Offer, Refusal}
+use Rattle.probe_rules.specs.declared.Outcome.{Outcome}
+use Rattle.probe_rules.specs.Rules.{befalls, entryOf}
+use Rattle.probe_rules.proofs.OutcomeLaws.{entry-same, befalls-same}
 use Rattle.fleet_theory.specs.Fleet.{Slices, tableOf, slicesFault, own, fleetFault, lineFault, eventOf, unsentFault, eventFault, outcomeOf, alterFleet, alteredBy, State, faultOf, answerTo, accepted, next}
 use Rattle.fleet.specs.declared.Finishing.the-variants as finishing
 use Rattle.fleet.specs.Answers.{slicesOf, Handled, finishingOf}

@@ -9,15 +9,15 @@ use Rattle.range.proofs.Faults.{or-left}
 use Rattle.table.specs.Table.{Table, ofSlices}
 use Rattle.table.specs.Legal.{Legal}
 use Rattle.table.proofs.Slices.{Given}
-use Rattle.cover_theory.proofs.Order.{sound}
-use Rattle.cover_theory.proofs.Settled.{Across, up, down}
-use Rattle.frame.specs.Frame.{Frame, frameOf, frameFault}
-use Rattle.rules.specs.Frames.{numberFault}
-use Rattle.rules.specs.Within.{EventWithin}
+use Rattle.plan_theory.proofs.Order.{sound}
+use Rattle.plan_theory.proofs.Settled.{Across, up, down}
+use Rattle.probe_frame.specs.Frame.{Frame, frameOf, frameFault}
+use Rattle.probe_rules.specs.Frames.{numberFault}
+use Rattle.probe_rules.specs.Within.{EventWithin}
 use Rattle.fleet_theory.specs.Fleet.{fleetFault, kindFault, endsFault, lineFault, eventOf}
 use Rattle.fleet_theory.proofs.Events.{Says, an-opening, an-offer, a-refusal, says}
-use Rattle.fleet_decisions.specs.Survey.{Ready}
-use Rattle.fleet_checks.proofs.Checks.{fleet-good}
+use Rattle.fleet_rules.specs.Survey.{Ready}
+use Rattle.fleet_state.proofs.CheckLaws.{fleet-good}
 
 module _ (number probes links : ℕ) (needs lows highs costs : List ℕ) where
   abbrev table : Table

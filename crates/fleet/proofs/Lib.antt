@@ -1,2 +1,4 @@
 pub mod Checks
 pub mod Calls
+pub mod Passing
+pub mod Changes

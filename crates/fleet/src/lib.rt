@@ -1,10 +1,13 @@
 // A fleet of ends: its record, driven by lines. Links go by their place in the table.
+// A line to a fleet: its checks, and what it says.
+// Laws of a fleet on any record: it stays usable, and an event alters as many bytes as its entry says. No function of its own.
 ghost use mathlib.Core.Path.{_≡_};
 ghost use Rattle.range.specs.First.{orElse};
 ghost use Rattle.fleet_theory.specs.Fleet.{tableOf, slicesFault, fleetFault, finished};
 ghost use Rattle.fleet.specs.Answers.{slicesOf, Handled, finishingOf, changesOf};
 
-pub mod core;
+pub mod line_checks;
+pub mod steps;
 
 // Whether the fleet is finished, or the number of the refusal.
 pub enum Finishing {
@@ -25,11 +28,11 @@ pub fn event(
     line: &[u8],
     used: usize,
     room: usize,
-) -> entry::Answer
+) -> wake_log::Answer
     ensures { λ r. ⌜ Handled (slicesOf number probes links (now (needs .entry)) (now (lows .entry)) (now (highs .entry)) (now (costs .entry)))
         used room (now (line .entry)) r (now (rec .entry)) (now (rec .exit)) ⌝ }
 {
-    let fault = fleet_checks::core::state_fault(
+    let fault = fleet_state::checks::state_fault(
         probes as usize,
         links as usize,
         needs,
@@ -39,9 +42,9 @@ pub fn event(
         rec,
     );
     if fault != 0 {
-        return entry::Answer::Refused(fault);
+        return wake_log::Answer::Refused(fault);
     }
-    core::handle_line(
+    steps::handle_line(
         number,
         probes as usize,
         links as usize,
@@ -72,7 +75,7 @@ pub fn finished(
         (fleetFault (tableOf (slicesOf number probes links (now (needs .entry)) (now (lows .entry)) (now (highs .entry)) (now (costs .entry)))) (now (rec .entry))))
         (finished (tableOf (slicesOf number probes links (now (needs .entry)) (now (lows .entry)) (now (highs .entry)) (now (costs .entry)))) (now (rec .entry))) ⌝ }
 {
-    let fault = fleet_checks::core::state_fault(
+    let fault = fleet_state::checks::state_fault(
         probes as usize,
         links as usize,
         needs,
@@ -84,7 +87,7 @@ pub fn finished(
     if fault != 0 {
         return Finishing::Refused(fault);
     }
-    Finishing::Says(fleet_finished::core::is_finished(
+    Finishing::Says(fleet_state::finishing::is_finished(
         probes as usize,
         links as usize,
         needs,
@@ -95,19 +98,25 @@ pub fn finished(
 }
 
 // How many record bytes an event altered, by its entry.
-pub fn changes_of(what: entry::What) -> u8
+pub fn changes_of(what: wake_log::What) -> u8
     ensures { λ r. ⌜ r ≡ changesOf what ⌝ }
 {
     match what {
-        entry::What::Opened(_) => 1,
-        entry::What::NothingToOpen => 0,
-        entry::What::Taken(_) => 1,
-        entry::What::TakenDisplacing {
+        wake_log::What::Opened(_) => 1,
+        wake_log::What::NothingToOpen => 0,
+        wake_log::What::Taken(_) => 1,
+        wake_log::What::TakenDisplacing {
             link: _,
             displaced: _,
         } => 2,
-        entry::What::Refused(_) => 1,
-        entry::What::RefusalLearnt(_) => 1,
-        entry::What::NoChange(_) => 0,
+        wake_log::What::Refused(_) => 1,
+        wake_log::What::RefusalLearnt(_) => 1,
+        wake_log::What::NoChange(_) => 0,
     }
+}
+
+// A refusal of a line's ends, 0 for none, and for a frame the link between them.
+pub struct Ends {
+    pub fault: u8,
+    pub link: usize,
 }

@@ -2,10 +2,10 @@
 use Prim.Native.Nat.{ℕ}
 use mathlib.Core.Path.{_≡_, refl, _∙_, ap}
 use mathlib.Core.List.{List}
-use Rattle.entry.specs.declared.Answer.{Answer}
+use Rattle.wake_log.specs.declared.Answer.{Answer}
 use Rattle.fleet_theory.specs.Fleet.{Slices}
 use Rattle.fleet.specs.Answers.{Handled}
-use Rattle.packing.specs.Packed.{packedAnswer}
+use Rattle.packed_answers.specs.Packed.{packedAnswer}
 use Rattle.fleet_exports.specs.Packed.{HandledPacked}
 
 pub handled-packed : (x : Slices) (used room : ℕ) (line : List ℕ) (a : Answer) (r : ℕ) (before after : List ℕ) → Handled x used room line a before after → r ≡ packedAnswer a

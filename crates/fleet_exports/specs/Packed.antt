@@ -4,12 +4,12 @@ use Prim.Native.Nat.{ℕ, _+_, _^_}
 use mathlib.Core.Path.{_≡_}
 use mathlib.Core.Bool.{cond}
 use mathlib.Core.List.{List}
-use Rattle.entry.specs.Entry.{answerOf}
-use Rattle.rules.specs.Rules.{entryOf}
-use Rattle.frame.specs.Frame.{frameOf}
+use Rattle.wake_log.specs.Entry.{answerOf}
+use Rattle.probe_rules.specs.Rules.{entryOf}
+use Rattle.probe_frame.specs.Frame.{frameOf}
 use Rattle.fleet_theory.specs.Fleet.{Slices, tableOf, eventFault, outcomeOf}
 use Rattle.fleet.specs.Answers.{Handled}
-use Rattle.packing.specs.Packed.{packedAnswer}
+use Rattle.packed_answers.specs.Packed.{packedAnswer}
 use Rattle.fleet.specs.declared.Finishing.{Finishing}
 use Rattle.fleet.specs.declared.Finishing.the-variants.{Says, Refused as Unsaid}
 

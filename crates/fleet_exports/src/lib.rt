@@ -5,7 +5,7 @@ ghost use Rattle.fleet_theory.specs.Fleet.{tableOf, slicesFault, fleetFault, fi
 ghost use Rattle.fleet.specs.Answers.{slicesOf, finishingOf};
 ghost use Rattle.fleet_exports.specs.Packed.{packedFinishing, HandledPacked};
 use fleet::Finishing;
-use packing::packed_answer;
+use packed_answers::packed_answer;
 
 fn packed_finishing(r: Finishing) -> u64
     ensures { λ n. ⌜ n ≡ packedFinishing r ⌝ }

@@ -11,10 +11,10 @@ use lib.Seq.{take-suc-set}
 use Rattle.range.specs.First.{orElse}
 use Rattle.range.proofs.Faults.{or-right}
 use Rattle.range.proofs.Bools.{unless-none}
-use Rattle.frame.specs.Frame.{frameOf}
-use Rattle.entry.specs.declared.Entry.{Entry}
-use Rattle.entry.specs.declared.Answer.{Answer}
-use Rattle.rules.specs.Rules.{entryOf}
+use Rattle.probe_frame.specs.Frame.{frameOf}
+use Rattle.wake_log.specs.declared.Entry.{Entry}
+use Rattle.wake_log.specs.declared.Answer.{Answer}
+use Rattle.probe_rules.specs.Rules.{entryOf}
 use Rattle.fleet_theory.specs.Fleet.{Slices, tableOf, slicesFault, fleetFault, lineFault, unsentFault, eventOf, own, outcomeOf, State, faultOf, answerTo, accepted, next}
 use Rattle.fleet.proofs.Calls.{handled-next}
 use Rattle.fleet_log.specs.Logged.{Logs}

@@ -3,10 +3,10 @@ use Prim.Native.Nat.{ℕ}
 use mathlib.Core.Path.{_≡_}
 use mathlib.Core.List.{List}
 use lib.ListN.{length, set}
-use Rattle.frame.specs.Frame.{frameOf}
-use Rattle.entry.specs.declared.Entry.{Entry}
-use Rattle.rules.specs.Rules.{entryOf}
-use Rattle.wake_log.specs.declared.core.Told.{Told}
+use Rattle.probe_frame.specs.Frame.{frameOf}
+use Rattle.wake_log.specs.declared.Entry.{Entry}
+use Rattle.probe_rules.specs.Rules.{entryOf}
+use Rattle.wake_log.specs.declared.storing.Told.{Told}
 use Rattle.wake_log.proofs.Stored as wake
 use Rattle.fleet_theory.specs.Fleet.{Slices, tableOf, eventFault, outcomeOf}
 use Rattle.fleet_log.specs.Logged.{ToldLine, Logs}

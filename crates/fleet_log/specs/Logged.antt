@@ -5,12 +5,12 @@ use mathlib.Core.Bool.{cond}
 use mathlib.Core.List.{List}
 use lib.Dec.{eqb}
 use lib.ListN.{length, set}
-use Rattle.frame.specs.Frame.{frameOf}
-use Rattle.entry.specs.declared.Entry.{Entry}
-use Rattle.entry.specs.declared.Answer.{Answer}
-use Rattle.entry.specs.Entry.{answerOf}
-use Rattle.rules.specs.Rules.{entryOf}
-use Rattle.wake_log.specs.declared.core.Told.{Told}
+use Rattle.probe_frame.specs.Frame.{frameOf}
+use Rattle.wake_log.specs.declared.Entry.{Entry}
+use Rattle.wake_log.specs.declared.Answer.{Answer}
+use Rattle.wake_log.specs.Entry.{answerOf}
+use Rattle.probe_rules.specs.Rules.{entryOf}
+use Rattle.wake_log.specs.declared.storing.Told.{Told}
 use Rattle.wake_log.specs.Log.{toldOf}
 use Rattle.fleet_theory.specs.Fleet.{Slices, tableOf, eventFault, outcomeOf, alteredBy}
 use Rattle.fleet.specs.Answers.{Handled}

@@ -1,7 +1,7 @@
 // A fleet's lines with its wake log: a lent slice of entries, and the count of its used ones.
 ghost use Rattle.fleet.specs.Answers.{slicesOf};
 ghost use Rattle.fleet_log.specs.Logged.{ToldLine, Logs};
-use wake_log::core::Told;
+use wake_log::storing::Told;
 
 fn event_told(
     number: u16,
@@ -32,7 +32,7 @@ fn event_told(
         used,
         room,
     );
-    wake_log::core::tell(answer, used, room)
+    wake_log::storing::tell(answer, used, room)
 }
 
 // A line of any bytes; the entry goes behind the used ones.
@@ -46,9 +46,9 @@ pub fn event_logged(
     costs: &[u16],
     rec: &mut [u8],
     line: &[u8],
-    log: &mut [entry::Entry],
+    log: &mut [wake_log::Entry],
     used: usize,
-) -> entry::Answer
+) -> wake_log::Answer
     ensures { λ r. ⌜ Logs (slicesOf number probes links (now (needs .entry)) (now (lows .entry)) (now (highs .entry)) (now (costs .entry)))
         used (now (line .entry)) r (now (rec .entry)) (now (rec .exit)) (now (log .entry)) (now (log .exit)) ⌝ }
 {

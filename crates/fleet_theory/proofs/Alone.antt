@@ -8,13 +8,13 @@ use native.Mathlib.Decide.{ℕ-discrete}
 use lib.ListN.{length, set, length-set}
 use lib.Seq.{getD-set-same, getD-set-other, ext-getD}
 use Rattle.table.specs.Table.{Table, item}
-use Rattle.record.specs.Record.{outbound, inbound}
-use Rattle.rules.specs.declared.Outcome.{Outcome}
-use Rattle.rules.specs.declared.Outcome.the-variants.{Opened, NothingToOpen, Taken, Displacing, Refused, Learnt, NoChange}
-use Rattle.rules.specs.Rules.{alter}
-use Rattle.rules.specs.Within.{OwnLink, OwnOutcome}
-use Rattle.bargain.proofs.State.{store}
-use Rattle.bargain.proofs.Bytes.{Cell, here, there, cell}
+use Rattle.probe_record.specs.Record.{outbound, inbound}
+use Rattle.probe_rules.specs.declared.Outcome.{Outcome}
+use Rattle.probe_rules.specs.declared.Outcome.the-variants.{Opened, NothingToOpen, Taken, Displacing, Refused, Learnt, NoChange}
+use Rattle.probe_rules.specs.Rules.{alter}
+use Rattle.probe_rules.specs.Within.{OwnLink, OwnOutcome}
+use Rattle.fleet_theory.proofs.EndState.{store}
+use Rattle.fleet_theory.proofs.EndBytes.{Cell, here, there, cell}
 use Rattle.fleet_theory.specs.Fleet.{outAt, inAt, own, alterFleet}
 use Rattle.fleet_theory.proofs.Own.{outOf, inOf, length-own}
 use Rattle.fleet_theory.proofs.Bytes.{storedOut, storedIn, out-set, out-in-set, in-set, in-out-set, altered-out, altered-in}

@@ -9,12 +9,12 @@ use native.Mathlib.Decide.{ℕ-discrete}
 use lib.ListN.{length, set, length-set}
 use borrow.Author.Tests.{eq-eqb, ne-eqb}
 use Rattle.table.specs.Table.{Table, item}
-use Rattle.cover_theory.proofs.Order.{Sound}
-use Rattle.cover_theory.proofs.Plan.{touches-low, touches-high}
-use Rattle.rules.specs.declared.Outcome.{Outcome}
-use Rattle.rules.specs.declared.Outcome.the-variants.{Opened, NothingToOpen, Taken, Displacing, Refused, Learnt, NoChange}
-use Rattle.rules.specs.Within.{OwnLink, OwnOutcome}
-use Rattle.bargain.proofs.State.{store, Same}
+use Rattle.plan_theory.proofs.Order.{Sound}
+use Rattle.plan_theory.proofs.Plan.{touches-low, touches-high}
+use Rattle.probe_rules.specs.declared.Outcome.{Outcome}
+use Rattle.probe_rules.specs.declared.Outcome.the-variants.{Opened, NothingToOpen, Taken, Displacing, Refused, Learnt, NoChange}
+use Rattle.probe_rules.specs.Within.{OwnLink, OwnOutcome}
+use Rattle.fleet_theory.proofs.EndState.{store, Same}
 use Rattle.fleet_theory.specs.Fleet.{outAt, inAt, alterFleet}
 use Rattle.fleet_theory.proofs.Own.{outOf, inOf, out-reads, in-reads, out-not-in, set-other, set-own}
 

@@ -11,10 +11,10 @@ use Rattle.range.specs.Sum.{sum}
 use Rattle.range.proofs.Sums.{sum-same, none-count}
 use Rattle.table.specs.Table.{Table, item}
 use Rattle.table.specs.Legal.{Legal}
-use Rattle.bargain.proofs.State.{Good, four}
-use Rattle.bargain.proofs.Bytes.{legal-sound}
-use Rattle.bargain.proofs.Rise.{out-rises, in-rises}
-use Rattle.bargain.proofs.Finish.{four-most}
+use Rattle.fleet_theory.proofs.EndState.{Good, four}
+use Rattle.fleet_theory.proofs.EndBytes.{legal-sound}
+use Rattle.fleet_theory.proofs.EndRise.{out-rises, in-rises}
+use Rattle.fleet_theory.proofs.EndFinish.{four-most}
 use Rattle.fleet_theory.specs.Fleet.{Slices, tableOf, slicesFault, State, start, next, run, differs, linkChanges, changes}
 use Rattle.fleet_theory.proofs.Own.{outOf, inOf}
 use Rattle.fleet_theory.proofs.Bytes.{first-byte, second-byte, third-byte, fourth-byte}

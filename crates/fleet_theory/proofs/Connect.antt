@@ -5,15 +5,15 @@ use mathlib.Core.List.{List}
 use lib.ListN.{length}
 use Rattle.table.specs.Table.{Table}
 use Rattle.table.specs.Legal.{Legal}
-use Rattle.cover_theory.proofs.Settled.{Across, near, back}
-use Rattle.rules.specs.declared.Event.{Event}
-use Rattle.rules.specs.declared.Event.the-variants.{Opening, Offer, Refusal}
-use Rattle.rules.specs.declared.Outcome.{Outcome}
-use Rattle.rules.specs.declared.Outcome.the-variants.{Opened, Taken, Displacing, Refused, Learnt}
-use Rattle.rules.specs.Rules.{befalls}
-use Rattle.rules.specs.Within.{OwnEvent, OwnOutcome}
-use Rattle.rules.proofs.Befalls.{Befell, opened, nothing-to-open, taken, displacing, refused, seen, learnt, known, befell, befell-own, own-within}
-use Rattle.bargain.proofs.State.{Step, idle, opens, takes, displaces, refuses, learns, Sent, Denied}
+use Rattle.plan_theory.proofs.Settled.{Across, near, back}
+use Rattle.probe_rules.specs.declared.Event.{Event}
+use Rattle.probe_rules.specs.declared.Event.the-variants.{Opening, Offer, Refusal}
+use Rattle.probe_rules.specs.declared.Outcome.{Outcome}
+use Rattle.probe_rules.specs.declared.Outcome.the-variants.{Opened, Taken, Displacing, Refused, Learnt}
+use Rattle.probe_rules.specs.Rules.{befalls}
+use Rattle.probe_rules.specs.Within.{OwnEvent, OwnOutcome}
+use Rattle.probe_rules.proofs.Befalls.{Befell, opened, nothing-to-open, taken, displacing, refused, seen, learnt, known, befell, befell-own, own-within}
+use Rattle.fleet_theory.proofs.EndState.{Step, idle, opens, takes, displaces, refuses, learns, Sent, Denied}
 use Rattle.fleet_theory.specs.Fleet.{own, alterFleet}
 use Rattle.fleet_theory.proofs.Own.{outOf, inOf}
 use Rattle.fleet_theory.proofs.Bytes.{altered-out, altered-in}

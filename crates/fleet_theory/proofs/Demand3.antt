@@ -4,7 +4,7 @@ use mathlib.Core.Path.{_≡_, sym, _∙_}
 use mathlib.Core.List.{List}
 use native.Mathlib.Omega.{arith}
 use Rattle.table.specs.Table.{Table}
-use Rattle.cover_theory.proofs.Plan.{touches-low, touches-high}
+use Rattle.plan_theory.proofs.Plan.{touches-low, touches-high}
 use Rattle.fleet_theory.specs.Fleet.{Slices, tableOf, slicesFault, State, start, run}
 use Rattle.fleet_theory.specs.Demand3.{moments, Demand3}
 use Rattle.fleet_theory.proofs.Run.{Holds, start-holds, run-holds}

@@ -14,18 +14,18 @@ use Rattle.range.specs.First.{orElse}
 use Rattle.range.proofs.Bools.{decided, unless-none}
 use Rattle.range.proofs.Faults.{or-left, or-right, or-none}
 use Rattle.range.proofs.Lists.{zeros-at}
-use Rattle.table.specs.Table.{Table, touches}
+use Rattle.table.specs.Table.{Table, touches, between}
 use Rattle.table.specs.Legal.{Legal}
-use Rattle.cover_theory.proofs.Settled.{back}
-use Rattle.frame.specs.Frame.{Frame, frameOf, frameFault}
-use Rattle.record.specs.Record.{fresh, recordFault}
-use Rattle.record_checks.proofs.Bytes.{record-passes}
-use Rattle.rules.specs.declared.Event.{Event}
-use Rattle.rules.specs.declared.Event.the-variants.{Opening}
-use Rattle.rules.specs.Rules.{sendable}
-use Rattle.rules.specs.Frames.{between, numberFault, heardOf}
-use Rattle.rules.specs.Within.{OwnLink, OwnOutcome}
-use Rattle.rules.proofs.Frames.{between-is}
+use Rattle.plan_theory.proofs.Settled.{back}
+use Rattle.probe_frame.specs.Frame.{Frame, frameOf, frameFault}
+use Rattle.probe_record.specs.Record.{fresh, recordFault}
+use Rattle.probe_record.proofs.Bytes.{record-passes}
+use Rattle.probe_rules.specs.declared.Event.{Event}
+use Rattle.probe_rules.specs.declared.Event.the-variants.{Opening}
+use Rattle.probe_rules.specs.Rules.{sendable}
+use Rattle.probe_rules.specs.Frames.{numberFault, heardOf}
+use Rattle.probe_rules.specs.Within.{OwnLink, OwnOutcome}
+use Rattle.probe_rules.proofs.Frames.{between-is}
 use Rattle.probe.specs.declared.Kind.{Kind}
 use Rattle.probe.specs.declared.Asked.{Asked}
 use Rattle.probe.specs.declared.Asked.the-variants as asked

@@ -12,13 +12,13 @@ use borrow.Author.Tests.{ltb-true, eqb-true, eqb-false, eq-eqb, ne-eqb}
 use Rattle.range.specs.First.{orElse}
 use Rattle.range.proofs.Bools.{and-right, unless-none, when-none}
 use Rattle.range.proofs.Faults.{or-left, or-right}
-use Rattle.table.specs.Table.{Table}
+use Rattle.table.specs.Table.{Table, between}
 use Rattle.table.specs.Legal.{Legal}
-use Rattle.cover_theory.proofs.Settled.{Across}
-use Rattle.frame.specs.Frame.{Frame, frameOf, frameFault}
-use Rattle.rules.specs.declared.Event.the-variants.{Opening, Offer, Refusal}
-use Rattle.rules.specs.Frames.{between, numberFault, heardOf}
-use Rattle.rules.proofs.Frames.{between-across}
+use Rattle.plan_theory.proofs.Settled.{Across}
+use Rattle.probe_frame.specs.Frame.{Frame, frameOf, frameFault}
+use Rattle.probe_rules.specs.declared.Event.the-variants.{Opening, Offer, Refusal}
+use Rattle.probe_rules.specs.Frames.{numberFault, heardOf}
+use Rattle.probe_rules.proofs.Frames.{between-across}
 use Rattle.fleet_theory.specs.Fleet.{own, kindFault, endsFault, lineFault, eventOf, unsentFault, outcomeOf}
 use Rattle.fleet_theory.specs.Demand3.{MaySend}
 use Rattle.fleet_theory.proofs.Own.{outOf, inOf}

@@ -12,16 +12,16 @@ use Rattle.range.proofs.Bools.{and-left, and-right, and-intro, decided, same-bo
 use Rattle.range.proofs.Sums.{weigh-same}
 use Rattle.table.specs.Table.{Table, touches}
 use Rattle.table.specs.Legal.{Legal}
-use Rattle.cover_theory.specs.Plan.{rested, kept, linksAt, costOf, Meets}
-use Rattle.cover_theory.proofs.Plan.{touches-low, plan-meets}
-use Rattle.cover_theory.proofs.Bound.{bound}
-use Rattle.frame.specs.Frame.{Frame, frameOf}
-use Rattle.rules.specs.Rules.{entryOf}
-use Rattle.bargain.proofs.State.{Same, Sent, Denied, Quiet, Live, total}
-use Rattle.bargain.proofs.Bytes.{legal-sound}
-use Rattle.bargain.proofs.Rise.{grows, total-most}
-use Rattle.bargain.proofs.Finish.{rested-in, finished-plan}
-use Rattle.bargain.proofs.Live.{live-or-quiet}
+use Rattle.plan_theory.specs.Plan.{rested, kept, linksAt, costOf, Meets}
+use Rattle.plan_theory.proofs.Plan.{touches-low, plan-meets}
+use Rattle.plan_theory.proofs.Bound.{bound}
+use Rattle.probe_frame.specs.Frame.{Frame, frameOf}
+use Rattle.probe_rules.specs.Rules.{entryOf}
+use Rattle.fleet_theory.proofs.EndState.{Same, Sent, Denied, Quiet, Live, total}
+use Rattle.fleet_theory.proofs.EndBytes.{legal-sound}
+use Rattle.fleet_theory.proofs.EndRise.{grows, total-most}
+use Rattle.fleet_theory.proofs.EndFinish.{rested-in, finished-plan}
+use Rattle.fleet_theory.proofs.EndLive.{live-or-quiet}
 use Rattle.fleet_theory.specs.Fleet.{lineFault, Slices, tableOf, slicesFault, outcomeOf, State, accepted, next, run, finished}
 use Rattle.fleet_theory.specs.Demand3.{MaySend, moments, TrulySent, endRests, LeadsOn}
 use Rattle.fleet_theory.proofs.Own.{outOf, inOf}

@@ -1,3 +1,11 @@
+pub mod EndState
+pub mod EndBytes
+pub mod EndNext
+pub mod EndKeep
+pub mod EndWipe
+pub mod EndRise
+pub mod EndFinish
+pub mod EndLive
 pub mod Own
 pub mod Bytes
 pub mod Lines

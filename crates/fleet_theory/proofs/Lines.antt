@@ -6,13 +6,13 @@ use native.Mathlib.Omega.{arith}
 use borrow.Author.Tests.{lt-ltb, eq-eqb, ne-eqb}
 use Rattle.range.specs.First.{orElse}
 use Rattle.range.proofs.Faults.{or-none}
-use Rattle.table.specs.Table.{Table}
+use Rattle.table.specs.Table.{Table, between}
 use Rattle.table.specs.Legal.{Legal}
-use Rattle.cover_theory.proofs.Settled.{Across}
-use Rattle.frame.specs.Frame.{Frame, frameLine, frameOf, frameFault}
-use Rattle.frame.proofs.Laws.{Writable, line-passes, line-says}
-use Rattle.rules.specs.Frames.{between, numberFault}
-use Rattle.rules.proofs.Frames.{between-is, ends-below, writable}
+use Rattle.plan_theory.proofs.Settled.{Across}
+use Rattle.probe_frame.specs.Frame.{Frame, frameLine, frameOf, frameFault}
+use Rattle.probe_frame.proofs.Laws.{Writable, line-passes, line-says}
+use Rattle.probe_rules.specs.Frames.{numberFault}
+use Rattle.probe_rules.proofs.Frames.{between-is, ends-below, writable}
 use Rattle.fleet_theory.specs.Fleet.{kindFault, endsFault, lineFault}
 
 -- the checks of a line after 1 and 2 are those of its frame

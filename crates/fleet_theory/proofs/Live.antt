@@ -12,17 +12,17 @@ use Rattle.range.proofs.Bools.{and-left, and-right, and-intro, decided}
 use Rattle.range.proofs.Choice.{Best, nobody, chosen}
 use Rattle.table.specs.Table.{Table, touches, spare, dearer}
 use Rattle.table.specs.Legal.{Legal}
-use Rattle.cover_theory.proofs.Plan.{at-end}
-use Rattle.cover_theory.proofs.Settled.{Across, near, back}
-use Rattle.record.specs.Record.{outbound, ownWith, standing, held, dearestUntried, cheapestHeld}
-use Rattle.record_search.proofs.Search.{dearest}
-use Rattle.frame.specs.Frame.{Frame, frameOf, frameLine}
-use Rattle.rules.specs.declared.Event.{Event}
-use Rattle.rules.specs.declared.Event.the-variants.{Opening, Offer, Refusal}
-use Rattle.rules.specs.declared.Outcome.the-variants.{Opened, Learnt}
-use Rattle.rules.specs.Rules.{offer, befalls}
-use Rattle.bargain.proofs.State.{onesAt, store, Same, Live, may-open, may-hear, may-learn}
-use Rattle.bargain.proofs.Bytes.{legal-sound, stored, Swap, gone, new, old, swap}
+use Rattle.plan_theory.proofs.Plan.{at-end}
+use Rattle.plan_theory.proofs.Settled.{Across, near, back}
+use Rattle.probe_record.specs.Record.{outbound, ownWith, standing, held, dearestUntried, cheapestHeld}
+use Rattle.probe_record.proofs.SearchLaws.{dearest}
+use Rattle.probe_frame.specs.Frame.{Frame, frameOf, frameLine}
+use Rattle.probe_rules.specs.declared.Event.{Event}
+use Rattle.probe_rules.specs.declared.Event.the-variants.{Opening, Offer, Refusal}
+use Rattle.probe_rules.specs.declared.Outcome.the-variants.{Opened, Learnt}
+use Rattle.probe_rules.specs.Rules.{offer, befalls}
+use Rattle.fleet_theory.proofs.EndState.{onesAt, store, Same, Live, may-open, may-hear, may-learn}
+use Rattle.fleet_theory.proofs.EndBytes.{legal-sound, stored, Swap, gone, new, old, swap}
 use Rattle.fleet_theory.specs.Fleet.{own, lineFault, alterFleet, alteredBy}
 use Rattle.fleet_theory.specs.Demand3.{MaySend}
 use Rattle.fleet_theory.proofs.Own.{outOf, inOf}

@@ -4,16 +4,16 @@ use mathlib.Core.Path.{_≡_, refl, sym, _∙_}
 use mathlib.Core.Logic.{_⊎_, inl, inr}
 use mathlib.Core.List.{List, [], _∷_, _++_}
 use native.Mathlib.Omega.{arith}
-use Rattle.table.specs.Table.{Table}
+use Rattle.table.specs.Table.{Table, other}
 use Rattle.table.specs.Legal.{Legal}
-use Rattle.entry.specs.declared.Entry.{Entry}
-use Rattle.rules.specs.declared.Outcome.{Outcome}
-use Rattle.rules.specs.declared.Outcome.the-variants.{Opened, NothingToOpen, Taken, Displacing, Refused, Learnt, NoChange}
-use Rattle.rules.specs.Rules.{other, whatOf}
-use Rattle.rules.specs.Within.{OwnOutcome}
-use Rattle.rules.proofs.Frames.{joins-across, across-joins, other-across, one-link}
-use Rattle.bargain.proofs.State.{store}
-use Rattle.bargain.proofs.Bytes.{Cell, here, there, cell, stored, before-store, Swap, gone, new, old, swap}
+use Rattle.wake_log.specs.declared.Entry.{Entry}
+use Rattle.probe_rules.specs.declared.Outcome.{Outcome}
+use Rattle.probe_rules.specs.declared.Outcome.the-variants.{Opened, NothingToOpen, Taken, Displacing, Refused, Learnt, NoChange}
+use Rattle.probe_rules.specs.Rules.{whatOf}
+use Rattle.probe_rules.specs.Within.{OwnOutcome}
+use Rattle.probe_rules.proofs.Frames.{joins-across, across-joins, other-across, one-link}
+use Rattle.fleet_theory.proofs.EndState.{store}
+use Rattle.fleet_theory.proofs.EndBytes.{Cell, here, there, cell, stored, before-store, Swap, gone, new, old, swap}
 use Rattle.fleet_theory.specs.Demand3.{Refuses, RefusedIn}
 use Rattle.fleet_theory.proofs.Bytes.{storedIn}
 

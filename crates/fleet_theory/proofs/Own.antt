@@ -14,10 +14,10 @@ use borrow.Author.Tests.{eqb-true}
 use Rattle.range.proofs.Bools.{decided}
 use Rattle.range.proofs.Lists.{length-joined, joined-at}
 use Rattle.table.specs.Table.{Table, item, ofSlices, touches}
-use Rattle.record.specs.Record.{outbound, inbound}
-use Rattle.rules.specs.Within.{OwnLink}
-use Rattle.bargain.proofs.State.{store, Same}
-use Rattle.bargain.proofs.Bytes.{Cell, here, there, cell}
+use Rattle.probe_record.specs.Record.{outbound, inbound}
+use Rattle.probe_rules.specs.Within.{OwnLink}
+use Rattle.fleet_theory.proofs.EndState.{store, Same}
+use Rattle.fleet_theory.proofs.EndBytes.{Cell, here, there, cell}
 use Rattle.fleet_theory.specs.Fleet.{outAt, inAt, ownPair, own, fleetFault}
 
 -- the bytes of all ends, by probe and link

@@ -14,13 +14,13 @@ use Rattle.range.proofs.Choice.{Best, nobody, chosen}
 use Rattle.range.proofs.Sums.{count-none, none-count}
 use Rattle.table.specs.Table.{Table, touches, spare, dearer}
 use Rattle.table.specs.Legal.{Legal}
-use Rattle.cover_theory.proofs.Plan.{at-end}
-use Rattle.cover_theory.proofs.Settled.{Across, up, down, back}
-use Rattle.record.specs.Record.{outbound, ownWith, standing, dearestUntried}
-use Rattle.record_search.proofs.Search.{dearest}
-use Rattle.frame.specs.Frame.{Frame, frameOf}
-use Rattle.bargain.proofs.State.{onesAt, Quiet}
-use Rattle.bargain.proofs.Bytes.{legal-sound}
+use Rattle.plan_theory.proofs.Plan.{at-end}
+use Rattle.plan_theory.proofs.Settled.{Across, up, down, back}
+use Rattle.probe_record.specs.Record.{outbound, ownWith, standing, dearestUntried}
+use Rattle.probe_record.proofs.SearchLaws.{dearest}
+use Rattle.probe_frame.specs.Frame.{Frame, frameOf}
+use Rattle.fleet_theory.proofs.EndState.{onesAt, Quiet}
+use Rattle.fleet_theory.proofs.EndBytes.{legal-sound}
 use Rattle.fleet_theory.specs.Fleet.{own, lineFault, alteredBy, opens, stirs, finished}
 use Rattle.fleet_theory.specs.Demand3.{MaySend}
 use Rattle.fleet_theory.proofs.Own.{outOf, inOf}

@@ -15,14 +15,14 @@ use Rattle.range.proofs.Faults.{or-left, or-right, or-none, none-first}
 use Rattle.range.proofs.Lists.{zeros-at}
 use Rattle.table.specs.Table.{Table, item, spare}
 use Rattle.table.specs.Legal.{Legal, tableFault, roomFault}
-use Rattle.record.specs.Record.{standing, held, spareFault}
-use Rattle.frame.specs.Frame.{frameOf}
-use Rattle.rules.specs.declared.Outcome.{Outcome}
-use Rattle.rules.specs.Rules.{whatOf, entryOf}
-use Rattle.rules.specs.Within.{OwnLink}
-use Rattle.bargain.proofs.State.{Same, Step, idle, Sent, Denied, Good}
-use Rattle.bargain.proofs.Bytes.{legal-sound}
-use Rattle.bargain.proofs.Rise.{fresh-good, in-rises, good-step}
+use Rattle.probe_record.specs.Record.{standing, held, spareFault}
+use Rattle.probe_frame.specs.Frame.{frameOf}
+use Rattle.probe_rules.specs.declared.Outcome.{Outcome}
+use Rattle.probe_rules.specs.Rules.{whatOf, entryOf}
+use Rattle.probe_rules.specs.Within.{OwnLink}
+use Rattle.fleet_theory.proofs.EndState.{Same, Step, idle, Sent, Denied, Good}
+use Rattle.fleet_theory.proofs.EndBytes.{legal-sound}
+use Rattle.fleet_theory.proofs.EndRise.{fresh-good, in-rises, good-step}
 use Rattle.fleet_theory.specs.Fleet.{outAt, inAt, own, fleetFault, lineFault, Slices, tableOf, slicesFault, outcomeOf, State, start, faultOf, accepted, next, run}
 use Rattle.fleet_theory.specs.Demand3.{RefusedIn, Refuses}
 use Rattle.fleet_theory.proofs.Own.{outOf, inOf, own-or-not, Reads, out-reads, in-reads}

@@ -4,13 +4,13 @@ use Rattle.range.specs.Sum.{sum}
 use Rattle.range.specs.First.{first}
 use Rattle.range.specs.Lists.{joined}
 use Rattle.range.specs.Choice.{lowest, best}
-use Rattle.cover_theory.proofs.Sites.{sites}
+use Rattle.plan_theory.proofs.Sites.{sites}
 use Rattle.hex.specs.Digits.{valueOf, digitOf, numberAt, digits}
 use Rattle.lines.specs.Line.{untilFeed, lineAt}
 use Rattle.lines.specs.Digits.{lineFault}
 use Rattle.table.specs.Table.{dearer}
 use Rattle.table.specs.Legal.{linkFault}
-use Rattle.frame.specs.Frame.{frameLine, frameFault}
+use Rattle.probe_frame.specs.Frame.{frameLine, frameFault}
 use Rattle.fleet_theory.specs.Fleet.{own, next, run, changes, finished}
 use Rattle.fleet_theory.specs.Samples.{Samples}
 

@@ -13,19 +13,19 @@ use Rattle.range.specs.First.{orElse}
 use Rattle.range.proofs.Faults.{or-none, or-some}
 use Rattle.table.specs.Table.{Table, item}
 use Rattle.table.specs.Legal.{Legal}
-use Rattle.cover_theory.specs.Plan.{kept}
-use Rattle.frame.specs.Frame.{Frame, frameOf}
-use Rattle.entry.specs.declared.Entry.{Entry}
-use Rattle.entry.specs.declared.Answer.{Answer}
-use Rattle.entry.specs.declared.Answer.the-variants.{Logged, Refused}
-use Rattle.entry.specs.Entry.{answerOf}
-use Rattle.rules.specs.declared.Event.the-variants.{Offer, Refusal}
-use Rattle.rules.specs.Rules.{entryOf}
-use Rattle.rules.specs.Frames.{heardOf}
-use Rattle.bargain.proofs.State.{Sent, Denied}
-use Rattle.bargain.proofs.Bytes.{legal-sound}
-use Rattle.bargain.proofs.Rise.{out-rises, in-rises, out-next}
-use Rattle.bargain.proofs.Finish.{refused-plan}
+use Rattle.plan_theory.specs.Plan.{kept}
+use Rattle.probe_frame.specs.Frame.{Frame, frameOf}
+use Rattle.wake_log.specs.declared.Entry.{Entry}
+use Rattle.wake_log.specs.declared.Answer.{Answer}
+use Rattle.wake_log.specs.declared.Answer.the-variants.{Logged, Refused}
+use Rattle.wake_log.specs.Entry.{answerOf}
+use Rattle.probe_rules.specs.declared.Event.the-variants.{Offer, Refusal}
+use Rattle.probe_rules.specs.Rules.{entryOf}
+use Rattle.probe_rules.specs.Frames.{heardOf}
+use Rattle.fleet_theory.proofs.EndState.{Sent, Denied}
+use Rattle.fleet_theory.proofs.EndBytes.{legal-sound}
+use Rattle.fleet_theory.proofs.EndRise.{out-rises, in-rises, out-next}
+use Rattle.fleet_theory.proofs.EndFinish.{refused-plan}
 use Rattle.fleet_theory.specs.Fleet.{lineFault, Slices, tableOf, slicesFault, outcomeOf, State, start, faultOf, answerTo, next, run}
 use Rattle.fleet_theory.specs.Demand3.{IsFrame, MaySend, moments, TrulySent, RefusedIn}
 use Rattle.fleet_theory.proofs.Own.{outOf, inOf}

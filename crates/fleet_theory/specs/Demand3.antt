@@ -5,15 +5,15 @@ use mathlib.Core.Logic.{_↔_, _⊎_}
 use mathlib.Core.Bool.{Bool, true, not}
 use mathlib.Core.List.{List, [], _∷_, _++_}
 use lib.ListN.{length}
-use Rattle.table.specs.Table.{Table, item, touches}
-use Rattle.cover_theory.specs.Plan.{rested, kept, linksAt, costOf, Meets}
-use Rattle.frame.specs.Frame.{Frame, frameOf}
-use Rattle.entry.specs.declared.Entry.{Entry}
-use Rattle.entry.specs.declared.What.{What}
-use Rattle.entry.specs.declared.What.the-variants as what
-use Rattle.entry.specs.declared.Answer.the-variants.{Logged, Refused}
-use Rattle.rules.specs.Rules.{sendable, rests}
-use Rattle.rules.specs.Frames.{joins, heardOf}
+use Rattle.table.specs.Table.{Table, item, touches, joins}
+use Rattle.plan_theory.specs.Plan.{rested, kept, linksAt, costOf, Meets}
+use Rattle.probe_frame.specs.Frame.{Frame, frameOf}
+use Rattle.wake_log.specs.declared.Entry.{Entry}
+use Rattle.wake_log.specs.declared.What.{What}
+use Rattle.wake_log.specs.declared.What.the-variants as what
+use Rattle.wake_log.specs.declared.Answer.the-variants.{Logged, Refused}
+use Rattle.probe_rules.specs.Rules.{sendable, rests}
+use Rattle.probe_rules.specs.Frames.{heardOf}
 use Rattle.fleet_theory.specs.Fleet.{Slices, tableOf, State, start, own, lineFault, answerTo, next, run, changes, finished}
 
 -- "a frame": a line's frame that is no opening

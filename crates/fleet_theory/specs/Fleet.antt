@@ -7,18 +7,18 @@ use lib.ListN.{length, replicate}
 use Rattle.range.specs.Sum.{sum, count}
 use Rattle.range.specs.First.{orElse, first}
 use Rattle.range.specs.Lists.{joined}
-use Rattle.table.specs.Table.{Table, item, ofSlices, touches, spare}
+use Rattle.table.specs.Table.{Table, item, ofSlices, touches, spare, between}
 use Rattle.table.specs.Legal.{sliceFault}
-use Rattle.frame.specs.Frame.{Frame, frameOf, frameFault}
-use Rattle.record.specs.Record.{outbound, inbound, standing, dearestUntried, spareFault}
-use Rattle.entry.specs.declared.Entry.{Entry}
-use Rattle.entry.specs.declared.Answer.{Answer}
-use Rattle.entry.specs.Entry.{answerOf}
-use Rattle.rules.specs.declared.Event.{Event}
-use Rattle.rules.specs.declared.Event.the-variants.{Opening, Offer, Refusal}
-use Rattle.rules.specs.declared.Outcome.{Outcome}
-use Rattle.rules.specs.Rules.{befalls, alterAt, entryOf}
-use Rattle.rules.specs.Frames.{between, numberFault, heardOf}
+use Rattle.probe_frame.specs.Frame.{Frame, frameOf, frameFault}
+use Rattle.probe_record.specs.Record.{outbound, inbound, standing, dearestUntried, spareFault}
+use Rattle.wake_log.specs.declared.Entry.{Entry}
+use Rattle.wake_log.specs.declared.Answer.{Answer}
+use Rattle.wake_log.specs.Entry.{answerOf}
+use Rattle.probe_rules.specs.declared.Event.{Event}
+use Rattle.probe_rules.specs.declared.Event.the-variants.{Opening, Offer, Refusal}
+use Rattle.probe_rules.specs.declared.Outcome.{Outcome}
+use Rattle.probe_rules.specs.Rules.{befalls, alterAt, entryOf}
+use Rattle.probe_rules.specs.Frames.{numberFault, heardOf}
 
 -- "A fleet's record has four bytes a link: outbound from low, inbound at high, outbound from high, inbound at low."
 abbrev pub outAt : Table → ℕ → ℕ → ℕ

@@ -4,12 +4,12 @@ use mathlib.Core.Path.{_≡_}
 use mathlib.Core.Bool.{true}
 use mathlib.Core.List.{List, [], _∷_, _++_}
 use lib.ListN.{length, take}
-use Rattle.cover_theory.specs.Sites.{site, row, Sites}
-use Rattle.frame.specs.Frame.{frameLine}
-use Rattle.entry.specs.declared.Entry.{Entry}
-use Rattle.entry.specs.declared.What.{What}
-use Rattle.entry.specs.declared.What.the-variants as what
-use Rattle.entry.specs.declared.Answer.the-variants.{Refused}
+use Rattle.plan_theory.specs.Sites.{site, row, Sites}
+use Rattle.probe_frame.specs.Frame.{frameLine}
+use Rattle.wake_log.specs.declared.Entry.{Entry}
+use Rattle.wake_log.specs.declared.What.{What}
+use Rattle.wake_log.specs.declared.What.the-variants as what
+use Rattle.wake_log.specs.declared.Answer.the-variants.{Refused}
 use Rattle.fleet_theory.specs.Fleet.{Slices, tableOf, slicesFault, State, start, answerTo, run, allChanges, finished}
 
 -- table 1 by its needs and its links' low ends, high ends and costs

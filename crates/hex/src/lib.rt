@@ -2,7 +2,7 @@
 ghost use mathlib.Core.Path.{_≡_};
 ghost use Rattle.hex.specs.Digits.{valueOf};
 
-pub mod core;
+pub mod fields;
 mod values;
 
 // The digit value of a byte, or 255 where it is no digit.

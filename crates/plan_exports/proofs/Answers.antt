@@ -3,8 +3,8 @@ use Prim.Native.Nat.{ℕ}
 use mathlib.Core.Path.{_≡_, refl, _∙_, ap}
 use mathlib.Core.List.{List}
 use Rattle.table.specs.Table.{Table as Site}
-use Rattle.cover.specs.Planning.{Plans, PlansByTurns}
-use Rattle.cover.specs.declared.Planning.{Planning}
+use Rattle.plan_methods.specs.Planning.{Plans, PlansByTurns}
+use Rattle.plan_methods.specs.declared.Planning.{Planning}
 use Rattle.plan_exports.specs.Packed.{packedPlanning, PlansPacked, TurnsPacked}
 
 pub plans-packed : (fault : ℕ) (t : Site) (a : Planning) (r : ℕ) (before after : List ℕ) → Plans fault t a before after → r ≡ packedPlanning a → PlansPacked fault t r before after

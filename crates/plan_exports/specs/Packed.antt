@@ -4,9 +4,9 @@ use Prim.Native.Nat.{ℕ, _+_, _*_, _^_}
 use mathlib.Core.Path.{_≡_}
 use mathlib.Core.List.{List}
 use Rattle.table.specs.Table.{Table as Site}
-use Rattle.cover.specs.Planning.{planningOf, Plans, PlansByTurns}
-use Rattle.cover.specs.declared.Planning.{Planning}
-use Rattle.cover.specs.declared.Planning.the-variants.{Plan, Refused as Unplanned}
+use Rattle.plan_methods.specs.Planning.{planningOf, Plans, PlansByTurns}
+use Rattle.plan_methods.specs.declared.Planning.{Planning}
+use Rattle.plan_methods.specs.declared.Planning.the-variants.{Plan, Refused as Unplanned}
 
 -- the kept count, 16 bits, above the cost, 32 bits
 abbrev pub packedPlanning : Planning → ℕ

@@ -2,13 +2,13 @@
 ghost use mathlib.Core.Path.{_≡_};
 ghost use lib.ListN.{length};
 ghost use Rattle.table.specs.Table.{ofSlices};
-ghost use Rattle.cover.specs.Planning.{planFault, turnsFault};
+ghost use Rattle.plan_methods.specs.Planning.{planFault, turnsFault};
 ghost use Rattle.plan_exports.specs.Packed.{PlansPacked, TurnsPacked, packedPlanning};
 ghost use Rattle.output.specs.Output.{shortFault};
-ghost use Rattle.plan_lines.specs.Output.{outputOf};
-ghost use Rattle.packing.specs.Packed.{PrintsPacked};
-use cover::Planning;
-use packing::packed_output;
+ghost use Rattle.plan_output.specs.Output.{outputOf};
+ghost use Rattle.packed_answers.specs.Packed.{PrintsPacked};
+use packed_answers::printed::packed_output;
+use plan_methods::Planning;
 
 fn packed_planning(r: Planning) -> u64
     ensures { λ n. ⌜ n ≡ packedPlanning r ⌝ }
@@ -38,7 +38,16 @@ pub extern "C" fn planner_plan_slse(
         (ofSlices number probes links (now (needs .entry)) (now (lows .entry)) (now (highs .entry)) (now (costs .entry)))
         r (now (plan .entry)) (now (plan .exit)) ⌝ }
 {
-    packed_planning(cover::plan_by_slse(number, probes, links, needs, lows, highs, costs, plan))
+    packed_planning(plan_methods::plan_by_slse(
+        number,
+        probes,
+        links,
+        needs,
+        lows,
+        highs,
+        costs,
+        plan,
+    ))
 }
 
 // `cover::plan_by_turns`, its answer packed.
@@ -59,7 +68,7 @@ pub extern "C" fn planner_plan_turns(
         (ofSlices number probes links (now (needs .entry)) (now (lows .entry)) (now (highs .entry)) (now (costs .entry)))
         r (now (plan .entry)) (now (plan .exit)) (now (work .entry)) (now (work .exit)) ⌝ }
 {
-    packed_planning(cover::plan_by_turns(
+    packed_planning(plan_methods::plan_by_turns(
         number,
         probes,
         links,

@@ -1,3 +1,4 @@
+pub mod Printing
 pub mod Same
 pub mod Reading
 pub mod Most

@@ -8,9 +8,9 @@ use lib.ListN.{length, take}
 use borrow.Author.Tests.{eqb-true, ne-eqb}
 use Rattle.table.specs.Text.{ofText, textFault, textEnd}
 use Rattle.table.proofs.Accepted.{text-good}
-use Rattle.text_lines.proofs.Good.{text-head}
-use Rattle.table_round.proofs.Long.{long-text}
-use Rattle.plan_lines.specs.Output.{outputOf}
+use Rattle.table_text.proofs.Good.{text-head}
+use Rattle.table_laws.proofs.Long.{long-text}
+use Rattle.plan_output.specs.Output.{outputOf}
 
 module _ (s : List ℕ) (l : 27922 < length s) where
   refused : textFault 256 2048 false s ≡ 0 → ⊥

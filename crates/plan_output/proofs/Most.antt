@@ -9,14 +9,14 @@ use lib.ListN.{length}
 use borrow.Author.Tests.{eq-eqb, ne-eqb}
 use Rattle.range.proofs.Sums.{count-le}
 use Rattle.table.specs.Text.{ofText, textFault}
-use Rattle.text_lines.proofs.Good.{text-head}
-use Rattle.cover_theory.specs.Plan.{kept}
-use Rattle.plan_lines.specs.Output.{outputOf}
+use Rattle.table_text.proofs.Good.{text-head}
+use Rattle.plan_theory.specs.Plan.{kept}
+use Rattle.plan_output.specs.Output.{outputOf}
 use Rattle.output.specs.Output.{shortFault, Prints}
 use Rattle.output.specs.declared.Output.{Output}
 use Rattle.output.specs.declared.Output.the-variants.{Length}
 use Rattle.output.proofs.Printing.{long-enough}
-use Rattle.plan_lines.proofs.Printing.{length-plan}
+use Rattle.plan_output.proofs.Printing.{length-plan}
 
 pub most : (s : List ℕ) → length (outputOf s) ≤ 26646
 most s = go (ℕ-discrete (textFault 256 2048 false s) 0)

@@ -8,11 +8,11 @@ use borrow.Author.Tests.{eq-eqb, ne-eqb}
 use Rattle.table.specs.Text.{ofText, textFault}
 use Rattle.table_read.specs.declared.Reading.{Reading}
 use Rattle.table_read.specs.declared.Reading.the-variants.{Table as Read, Refused as Unread}
-use Rattle.table_round.specs.Functions.{Slices, tableOf, ReadTable}
-use Rattle.table_round.proofs.Reading.{blank, blank-found, accepted, refusal-is, read-none, read-same, read-legal}
+use Rattle.table_laws.specs.Functions.{Slices, tableOf, ReadTable}
+use Rattle.table_laws.proofs.Reading.{blank, blank-found, accepted, refusal-is, read-none, read-same, read-legal}
 use Rattle.output.specs.Output.{refusalLine, shortFault, Prints}
 use Rattle.output.specs.declared.Output.{Output}
-use Rattle.plan_lines.specs.Output.{planText, outputOf}
+use Rattle.plan_output.specs.Output.{planText, outputOf}
 use Rattle.plan_output.proofs.Same.{same-plan}
 
 module _ (s : List ℕ) (r : Reading) (b : Slices) (read : ReadTable s r blank b) where

@@ -12,11 +12,11 @@ use Rattle.table.specs.Table.{Table, touches, degree, dearer}
 use Rattle.table.specs.Legal.{tableFault}
 use Rattle.table.specs.Text.{closingLine, tripleLine}
 use Rattle.table.proofs.Same.{degree-same}
-use Rattle.table_round.specs.Same.{Same}
-use Rattle.cover_theory.specs.Pass.{passAfter, pass}
-use Rattle.cover_theory.specs.Plan.{linksAt, hasMore, rested, kept, keptCount, costOf}
-use Rattle.cover_theory.proofs.Order.{sound}
-use Rattle.plan_lines.specs.Output.{headLine, keptLines, planText}
+use Rattle.table_laws.specs.Same.{Same}
+use Rattle.plan_theory.specs.Pass.{passAfter, pass}
+use Rattle.plan_theory.specs.Plan.{linksAt, hasMore, rested, kept, keptCount, costOf}
+use Rattle.plan_theory.proofs.Order.{sound}
+use Rattle.plan_output.specs.Output.{headLine, keptLines, planText}
 
 -- two passes whose order and tests agree below m
 pass-same : (m : ℕ) (before before′ : ℕ → ℕ → Bool) (test test′ : (ℕ → Bool) → ℕ → Bool) → ((g i : ℕ) → g < m → i < m → before g i ≡ before′ g i)

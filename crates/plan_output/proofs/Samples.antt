@@ -9,10 +9,10 @@ use Rattle.lines.specs.Digits.{lineFault}
 use Rattle.table.specs.Table.{dearer}
 use Rattle.table.specs.Legal.{linkFault}
 use Rattle.table.specs.Text.{begins, textFault}
-use Rattle.table_round.specs.Samples.{bytes, m2Text}
-use Rattle.cover_theory.specs.Pass.{passAfter}
-use Rattle.cover_theory.specs.Plan.{rested}
-use Rattle.plan_lines.specs.Output.{planText, outputOf}
+use Rattle.table_laws.specs.Samples.{bytes, m2Text}
+use Rattle.plan_theory.specs.Pass.{passAfter}
+use Rattle.plan_theory.specs.Plan.{rested}
+use Rattle.plan_output.specs.Output.{planText, outputOf}
 
 pub m2-output : outputOf m2Text ≡ bytes "000100020000000a\n000000010005\n000200030005\nffff\n"
 unfolding planText textFault lineFault lineAt untilFeed first numberAt valueOf linkFault begins sum joined digits digitOf dearer passAfter rested

@@ -1,10 +1,12 @@
 // The plan of a table's text, as the plan program prints it.
+// A plan's lines: its first line, and those of the kept links.
 use output::Output;
 ghost use lib.ListN.{length};
 ghost use Rattle.output.specs.Output.{shortFault, Prints};
-ghost use Rattle.plan_lines.specs.Output.{outputOf};
+ghost use Rattle.plan_output.specs.Output.{outputOf};
 
-pub mod core;
+pub mod plan_lines;
+pub mod text;
 
 // Prints the plan of the table that a text gives, or the text's refusal.
 pub fn plan_text(text: &[u8], out: &mut [u8]) -> Output
@@ -21,7 +23,7 @@ pub fn plan_text(text: &[u8], out: &mut [u8]) -> Output
             probes,
             links,
             rest: _,
-        } => core::print_plan(
+        } => text::print_plan(
             out,
             number,
             probes as usize,
@@ -31,6 +33,6 @@ pub fn plan_text(text: &[u8], out: &mut [u8]) -> Output
             &highs,
             &costs,
         ),
-        table_read::Reading::Refused(fault) => output::core::print_refusal(out, fault),
+        table_read::Reading::Refused(fault) => output::refusals::print_refusal(out, fault),
     }
 }

@@ -3,17 +3,17 @@ use Prim.Native.Nat.{ℕ}
 use mathlib.Core.Path.{_≡_, sym, _∙_, ap}
 use mathlib.Core.List.{List}
 use borrow.Author.Tests.{ne-eqb}
-use Rattle.table.specs.Table.{Table, ofSlices}
+use Rattle.table.specs.Table.{Table, ofSlices, other}
 use Rattle.table.specs.Legal.{Legal}
-use Rattle.entry.specs.declared.Entry.{Entry}
-use Rattle.entry.specs.declared.Answer.the-variants.{Logged, Refused}
-use Rattle.rules.specs.declared.Event.{Event}
-use Rattle.rules.specs.declared.Outcome.{Outcome}
-use Rattle.rules.specs.Rules.{befalls, alter, entryOf, other}
-use Rattle.rules.specs.Frames.{heardOf}
-use Rattle.rules.specs.Within.{OwnLink}
-use Rattle.rules.proofs.Frames.{other-across, between-is}
-use Rattle.rules.proofs.Outcomes.{entry-same, befalls-same}
+use Rattle.wake_log.specs.declared.Entry.{Entry}
+use Rattle.wake_log.specs.declared.Answer.the-variants.{Logged, Refused}
+use Rattle.probe_rules.specs.declared.Event.{Event}
+use Rattle.probe_rules.specs.declared.Outcome.{Outcome}
+use Rattle.probe_rules.specs.Rules.{befalls, alter, entryOf}
+use Rattle.probe_rules.specs.Frames.{heardOf}
+use Rattle.probe_rules.specs.Within.{OwnLink}
+use Rattle.probe_rules.proofs.Frames.{other-across, between-is}
+use Rattle.probe_rules.proofs.OutcomeLaws.{entry-same, befalls-same}
 use Rattle.probe.specs.declared.Kind.{Kind}
 use Rattle.probe.specs.declared.Kind.the-variants as kind
 use Rattle.probe.specs.Answers.{Befallen, askedEvent, askedFrame}

@@ -5,13 +5,13 @@ use mathlib.Core.Bool.{Bool, cond, _&&_}
 use mathlib.Core.List.{List}
 use lib.Dec.{ltb, eqb}
 use lib.Seq.{sets}
-use Rattle.table.specs.Table.{Table}
-use Rattle.frame.specs.Frame.{Frame, frameLine}
-use Rattle.entry.specs.declared.Answer.{Answer}
-use Rattle.entry.specs.Entry.{answerOf}
-use Rattle.rules.specs.declared.Event.{Event}
-use Rattle.rules.specs.declared.Event.the-variants.{Offer, Refusal}
-use Rattle.rules.specs.Rules.{befalls, alter, entryOf, other, sendable}
+use Rattle.table.specs.Table.{Table, other}
+use Rattle.probe_frame.specs.Frame.{Frame, frameLine}
+use Rattle.wake_log.specs.declared.Answer.{Answer}
+use Rattle.wake_log.specs.Entry.{answerOf}
+use Rattle.probe_rules.specs.declared.Event.{Event}
+use Rattle.probe_rules.specs.declared.Event.the-variants.{Offer, Refusal}
+use Rattle.probe_rules.specs.Rules.{befalls, alter, entryOf, sendable}
 use Rattle.probe.specs.declared.Kind.{Kind}
 use Rattle.probe.specs.declared.Kind.the-variants as kind
 use Rattle.probe.specs.declared.Asked.{Asked}

@@ -4,14 +4,14 @@ ghost use lib.ListN.{length};
 ghost use Rattle.range.specs.First.{orElse};
 ghost use Rattle.table.specs.Table.{ofSlices};
 ghost use Rattle.table.specs.Legal.{sliceFault};
-ghost use Rattle.frame.specs.Frame.{frameOf};
-ghost use Rattle.rules.specs.declared.Event.the-variants.{Opening};
-ghost use Rattle.rules.specs.Rules.{rests};
-ghost use Rattle.rules.specs.Frames.{heardOf};
+ghost use Rattle.probe_frame.specs.Frame.{frameOf};
+ghost use Rattle.probe_rules.specs.declared.Event.the-variants.{Opening};
+ghost use Rattle.probe_rules.specs.Rules.{rests};
+ghost use Rattle.probe_rules.specs.Frames.{heardOf};
 ghost use Rattle.probe_checks.specs.Checks.{hearFault, openFault, linkCallFault};
 ghost use Rattle.probe.specs.Answers.{Befallen, Asks, lentFault, restingOf};
 
-pub mod core;
+pub mod steps;
 
 // A kind of frame to ask for.
 pub enum Kind {
@@ -44,14 +44,14 @@ pub fn open(
     probe: u16,
     rec: &mut [u8],
     free: usize,
-) -> entry::Answer
+) -> wake_log::Answer
     ensures { λ r. ⌜ Befallen
         (openFault (sliceFault 256 2048 number probes links (now (needs .entry)) (now (lows .entry)) (now (highs .entry)) (now (costs .entry)))
         (ofSlices number probes links (now (needs .entry)) (now (lows .entry)) (now (highs .entry)) (now (costs .entry))) probe (now (rec .entry)) free)
         (ofSlices number probes links (now (needs .entry)) (now (lows .entry)) (now (highs .entry)) (now (costs .entry))) probe Opening
         r (now (rec .entry)) (now (rec .exit)) ⌝ }
 {
-    let fault = probe_checks::core::open_fault(
+    let fault = probe_checks::faults::open_fault(
         probes as usize,
         links as usize,
         needs,
@@ -63,10 +63,10 @@ pub fn open(
         free,
     );
     if fault != 0 {
-        return entry::Answer::Refused(fault);
+        return wake_log::Answer::Refused(fault);
     }
-    let e = core::apply(
-        rules::Event::Opening,
+    let e = steps::apply(
+        probe_rules::Event::Opening,
         probes as usize,
         links as usize,
         needs,
@@ -76,7 +76,7 @@ pub fn open(
         probe,
         rec,
     );
-    entry::Answer::Logged(e)
+    wake_log::Answer::Logged(e)
 }
 
 // The probe hears a frame, of any bytes.
@@ -92,7 +92,7 @@ pub fn hear(
     rec: &mut [u8],
     frame: &[u8],
     free: usize,
-) -> entry::Answer
+) -> wake_log::Answer
     ensures { λ r. ⌜ Befallen
         (hearFault (sliceFault 256 2048 number probes links (now (needs .entry)) (now (lows .entry)) (now (highs .entry)) (now (costs .entry)))
         (ofSlices number probes links (now (needs .entry)) (now (lows .entry)) (now (highs .entry)) (now (costs .entry))) probe (now (rec .entry)) (now (frame .entry)) free)
@@ -100,7 +100,7 @@ pub fn hear(
         (heardOf (ofSlices number probes links (now (needs .entry)) (now (lows .entry)) (now (highs .entry)) (now (costs .entry))) (frameOf (now (frame .entry))))
         r (now (rec .entry)) (now (rec .exit)) ⌝ }
 {
-    let fault = probe_checks::core::hear_fault(
+    let fault = probe_checks::faults::hear_fault(
         number,
         probes as usize,
         links as usize,
@@ -114,10 +114,10 @@ pub fn hear(
         free,
     );
     if fault != 0 {
-        return entry::Answer::Refused(fault);
+        return wake_log::Answer::Refused(fault);
     }
-    let event = probe_checks::core::event_of(links as usize, lows, highs, frame);
-    let e = core::apply(
+    let event = probe_checks::faults::event_of(links as usize, lows, highs, frame);
+    let e = steps::apply(
         event,
         probes as usize,
         links as usize,
@@ -128,7 +128,7 @@ pub fn hear(
         probe,
         rec,
     );
-    entry::Answer::Logged(e)
+    wake_log::Answer::Logged(e)
 }
 
 // The probe is asked for a frame on a link.
@@ -155,7 +155,7 @@ pub fn ask(
     if out.len() < 15 {
         return Asked::Refused(8);
     }
-    let fault = probe_checks::core::link_call_fault(
+    let fault = probe_checks::faults::link_call_fault(
         probes as usize,
         links as usize,
         needs,
@@ -169,11 +169,11 @@ pub fn ask(
     if fault != 0 {
         return Asked::Refused(fault);
     }
-    if !core::is_sendable(kind, rec, link as usize) {
+    if !steps::is_sendable(kind, rec, link as usize) {
         return Asked::NotNow;
     }
-    let to = rules::core::other(lows, highs, probe, link as usize);
-    frame::core::write_frame(out, core::kind_of(kind), number, probe, to);
+    let to = table_links::ends::other(lows, highs, probe, link as usize);
+    probe_frame::frame_line::write_frame(out, steps::kind_of(kind), number, probe, to);
     Asked::Written
 }
 
@@ -195,7 +195,7 @@ pub fn rests(
         (ofSlices number probes links (now (needs .entry)) (now (lows .entry)) (now (highs .entry)) (now (costs .entry))) probe (now (rec .entry)) link)
         (rests (now (rec .entry)) link) ⌝ }
 {
-    let fault = probe_checks::core::link_call_fault(
+    let fault = probe_checks::faults::link_call_fault(
         probes as usize,
         links as usize,
         needs,
@@ -209,5 +209,5 @@ pub fn rests(
     if fault != 0 {
         return Resting::Refused(fault);
     }
-    Resting::Rests(core::both_one(rec, link as usize))
+    Resting::Rests(steps::both_one(rec, link as usize))
 }

@@ -11,11 +11,11 @@ use borrow.Author.Tests.{ltb-true, eqb-true, ne-eqb}
 use Rattle.range.specs.First.{orElse}
 use Rattle.range.proofs.Bools.{and-left, and-right, unless-none, decided}
 use Rattle.range.proofs.Faults.{or-left, or-right, or-through, or-past}
-use Rattle.table.specs.Table.{Table, touches}
-use Rattle.frame.specs.Frame.{Frame, frameOf, frameFault}
-use Rattle.record.specs.Record.{recordFault}
-use Rattle.rules.specs.Frames.{between, numberFault, heardOf}
-use Rattle.rules.specs.Within.{EventWithin}
+use Rattle.table.specs.Table.{Table, touches, between}
+use Rattle.probe_frame.specs.Frame.{Frame, frameOf, frameFault}
+use Rattle.probe_record.specs.Record.{recordFault}
+use Rattle.probe_rules.specs.Frames.{numberFault, heardOf}
+use Rattle.probe_rules.specs.Within.{EventWithin}
 use Rattle.probe_checks.specs.Checks.{kindFault, toFault, probeFault, linkFault, untriedFault, fullFault, heardFault, hearFault, openFault, linkCallFault}
 
 module _ (t : Table) (p : ℕ) (l : List ℕ) (e : heardFault t p l ≡ 0) where

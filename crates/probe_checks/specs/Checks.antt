@@ -4,12 +4,12 @@ use mathlib.Core.Bool.{cond, _&&_, _||_}
 use mathlib.Core.List.{List}
 use lib.Dec.{ltb, eqb}
 use Rattle.range.specs.First.{orElse}
-use Rattle.table.specs.Table.{Table, touches}
-use Rattle.frame.specs.Frame.{Frame, frameOf, frameFault}
-use Rattle.record.specs.Record.{outbound, recordFault}
-use Rattle.rules.specs.declared.Event.{Event}
-use Rattle.rules.specs.declared.Event.the-variants.{Opening, Offer, Refusal}
-use Rattle.rules.specs.Frames.{between, numberFault, heardOf}
+use Rattle.table.specs.Table.{Table, touches, between}
+use Rattle.probe_frame.specs.Frame.{Frame, frameOf, frameFault}
+use Rattle.probe_record.specs.Record.{outbound, recordFault}
+use Rattle.probe_rules.specs.declared.Event.{Event}
+use Rattle.probe_rules.specs.declared.Event.the-variants.{Opening, Offer, Refusal}
+use Rattle.probe_rules.specs.Frames.{numberFault, heardOf}
 
 -- 9: "Kind 01 is an offer, 02 a refusal"; an end alone knows no other
 abbrev pub kindFault : Frame → ℕ

@@ -1,2 +1,3 @@
 // The checks of an end's calls, and what a frame says.
-pub mod core;
+
+pub mod faults;

@@ -3,12 +3,12 @@ use Prim.Native.Nat.{ℕ}
 use mathlib.Core.Path.{_≡_, refl, _∙_, ap}
 use mathlib.Core.List.{List}
 use Rattle.table.specs.Table.{Table as Site}
-use Rattle.entry.specs.declared.Answer.{Answer}
-use Rattle.rules.specs.declared.Event.{Event}
+use Rattle.wake_log.specs.declared.Answer.{Answer}
+use Rattle.probe_rules.specs.declared.Event.{Event}
 use Rattle.probe.specs.Answers.{Befallen, Asks}
 use Rattle.probe.specs.declared.Kind.{Kind}
 use Rattle.probe.specs.declared.Asked.{Asked}
-use Rattle.packing.specs.Packed.{packedAnswer}
+use Rattle.packed_answers.specs.Packed.{packedAnswer}
 use Rattle.probe_exports.specs.Packed.{packedAsked, BefallenPacked, AsksPacked}
 
 pub befallen-packed : (fault : ℕ) (t : Site) (p : ℕ) (event : Event) (a : Answer) (r : ℕ) (before after : List ℕ) → Befallen fault t p event a before after → r ≡ packedAnswer a

@@ -6,14 +6,14 @@ use mathlib.Core.Bool.{Bool, cond}
 use mathlib.Core.List.{List}
 use lib.Dec.{eqb}
 use Rattle.table.specs.Table.{Table as Site}
-use Rattle.entry.specs.Entry.{answerOf}
-use Rattle.rules.specs.declared.Event.{Event}
-use Rattle.rules.specs.Rules.{befalls, entryOf, sendable}
+use Rattle.wake_log.specs.Entry.{answerOf}
+use Rattle.probe_rules.specs.declared.Event.{Event}
+use Rattle.probe_rules.specs.Rules.{befalls, entryOf, sendable}
 use Rattle.probe.specs.Answers.{Befallen, Asks, askedEvent}
 use Rattle.probe.specs.declared.Kind.{Kind}
 use Rattle.probe.specs.declared.Asked.{Asked}
 use Rattle.probe.specs.declared.Asked.the-variants.{Written, NotNow, Refused as Unasked}
-use Rattle.packing.specs.Packed.{packedAnswer}
+use Rattle.packed_answers.specs.Packed.{packedAnswer}
 use Rattle.probe.specs.declared.Resting.{Resting}
 use Rattle.probe.specs.declared.Resting.the-variants.{Rests, Refused as Untold}
 

@@ -4,10 +4,10 @@ use mathlib.Core.Path.{_≡_}
 use mathlib.Core.List.{List}
 use lib.ListN.{length, set}
 use Rattle.table.specs.Table.{Table}
-use Rattle.entry.specs.declared.Entry.{Entry}
-use Rattle.rules.specs.declared.Event.{Event}
-use Rattle.rules.specs.Rules.{befalls, entryOf}
-use Rattle.wake_log.specs.declared.core.Told.{Told}
+use Rattle.wake_log.specs.declared.Entry.{Entry}
+use Rattle.probe_rules.specs.declared.Event.{Event}
+use Rattle.probe_rules.specs.Rules.{befalls, entryOf}
+use Rattle.wake_log.specs.declared.storing.Told.{Told}
 use Rattle.wake_log.proofs.Stored as wake
 use Rattle.probe_log.specs.Logged.{ToldCall, Logs}
 

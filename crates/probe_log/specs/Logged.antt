@@ -6,13 +6,13 @@ use mathlib.Core.List.{List}
 use lib.Dec.{eqb}
 use lib.ListN.{set}
 use Rattle.table.specs.Table.{Table}
-use Rattle.entry.specs.declared.Entry.{Entry}
-use Rattle.entry.specs.declared.Answer.{Answer}
-use Rattle.rules.specs.declared.Event.{Event}
-use Rattle.entry.specs.Entry.{answerOf}
-use Rattle.rules.specs.Rules.{befalls, alter, entryOf}
+use Rattle.wake_log.specs.declared.Entry.{Entry}
+use Rattle.wake_log.specs.declared.Answer.{Answer}
+use Rattle.probe_rules.specs.declared.Event.{Event}
+use Rattle.wake_log.specs.Entry.{answerOf}
+use Rattle.probe_rules.specs.Rules.{befalls, alter, entryOf}
 use Rattle.probe.specs.Answers.{Befallen}
-use Rattle.wake_log.specs.declared.core.Told.{Told}
+use Rattle.wake_log.specs.declared.storing.Told.{Told}
 use Rattle.wake_log.specs.Log.{toldOf}
 
 -- the call's answer and record as without a log; the log has the entry behind its used ones, or is unchanged

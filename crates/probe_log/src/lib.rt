@@ -3,12 +3,12 @@ ghost use Prim.Native.Nat.{_-_};
 ghost use lib.ListN.{length};
 ghost use Rattle.table.specs.Table.{ofSlices};
 ghost use Rattle.table.specs.Legal.{sliceFault};
-ghost use Rattle.frame.specs.Frame.{frameOf};
-ghost use Rattle.rules.specs.declared.Event.the-variants.{Opening};
-ghost use Rattle.rules.specs.Frames.{heardOf};
+ghost use Rattle.probe_frame.specs.Frame.{frameOf};
+ghost use Rattle.probe_rules.specs.declared.Event.the-variants.{Opening};
+ghost use Rattle.probe_rules.specs.Frames.{heardOf};
 ghost use Rattle.probe_checks.specs.Checks.{hearFault, openFault};
 ghost use Rattle.probe_log.specs.Logged.{ToldCall, Logs};
-use wake_log::core::Told;
+use wake_log::storing::Told;
 
 fn open_told(
     number: u16,
@@ -39,9 +39,9 @@ fn open_told(
         costs,
         probe,
         rec,
-        wake_log::core::free(used, room),
+        wake_log::storing::free(used, room),
     );
-    wake_log::core::tell(answer, used, room)
+    wake_log::storing::tell(answer, used, room)
 }
 
 fn hear_told(
@@ -76,9 +76,9 @@ fn hear_told(
         probe,
         rec,
         frame,
-        wake_log::core::free(used, room),
+        wake_log::storing::free(used, room),
     );
-    wake_log::core::tell(answer, used, room)
+    wake_log::storing::tell(answer, used, room)
 }
 
 // The probe opens; the entry goes behind the used ones.
@@ -92,9 +92,9 @@ pub fn open_logged(
     costs: &[u16],
     probe: u16,
     rec: &mut [u8],
-    log: &mut [entry::Entry],
+    log: &mut [wake_log::Entry],
     used: usize,
-) -> entry::Answer
+) -> wake_log::Answer
     ensures { λ r. ⌜ Logs
         (openFault (sliceFault 256 2048 number probes links (now (needs .entry)) (now (lows .entry)) (now (highs .entry)) (now (costs .entry)))
         (ofSlices number probes links (now (needs .entry)) (now (lows .entry)) (now (highs .entry)) (now (costs .entry))) probe (now (rec .entry)) (length (now (log .entry)) - used))
@@ -130,9 +130,9 @@ pub fn hear_logged(
     probe: u16,
     rec: &mut [u8],
     frame: &[u8],
-    log: &mut [entry::Entry],
+    log: &mut [wake_log::Entry],
     used: usize,
-) -> entry::Answer
+) -> wake_log::Answer
     ensures { λ r. ⌜ Logs
         (hearFault (sliceFault 256 2048 number probes links (now (needs .entry)) (now (lows .entry)) (now (highs .entry)) (now (costs .entry)))
         (ofSlices number probes links (now (needs .entry)) (now (lows .entry)) (now (highs .entry)) (now (costs .entry))) probe (now (rec .entry)) (now (frame .entry)) (length (now (log .entry)) - used))

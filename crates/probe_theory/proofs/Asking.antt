@@ -13,14 +13,14 @@ use Rattle.range.specs.First.{orElse}
 use Rattle.range.proofs.Bools.{and-left, when-none, decided}
 use Rattle.range.proofs.Faults.{or-left, or-none}
 use Rattle.range.proofs.Sets.{sets-start}
-use Rattle.table.specs.Table.{Table}
+use Rattle.table.specs.Table.{Table, other, between}
 use Rattle.table.specs.Legal.{Legal}
-use Rattle.frame.specs.Frame.{Frame, frameOf, frameFault}
-use Rattle.frame.proofs.Laws.{Writable, length-frame, line-passes, line-says}
-use Rattle.rules.specs.Rules.{other, sendable}
-use Rattle.rules.specs.Frames.{between, numberFault, heardOf}
-use Rattle.rules.specs.Within.{OwnLink}
-use Rattle.rules.proofs.Frames.{other-across, between-is, ends-below, writable}
+use Rattle.probe_frame.specs.Frame.{Frame, frameOf, frameFault}
+use Rattle.probe_frame.proofs.Laws.{Writable, length-frame, line-passes, line-says}
+use Rattle.probe_rules.specs.Rules.{sendable}
+use Rattle.probe_rules.specs.Frames.{numberFault, heardOf}
+use Rattle.probe_rules.specs.Within.{OwnLink}
+use Rattle.probe_rules.proofs.Frames.{other-across, between-is, ends-below, writable}
 use Rattle.probe.specs.declared.Kind.{Kind}
 use Rattle.probe.specs.declared.Kind.the-variants as kind
 use Rattle.probe.specs.declared.Asked.{Asked}

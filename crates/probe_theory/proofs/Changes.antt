@@ -15,11 +15,11 @@ use Rattle.range.specs.Sum.{count}
 use Rattle.range.proofs.Sums.{none-count}
 use Rattle.range.proofs.Counts.{count-except}
 use Rattle.table.specs.Table.{Table, item}
-use Rattle.record.specs.Record.{outbound, inbound}
-use Rattle.rules.specs.declared.Outcome.{Outcome}
-use Rattle.rules.specs.declared.Outcome.the-variants.{Opened, NothingToOpen, Taken, Displacing, Refused, Learnt, NoChange}
-use Rattle.rules.specs.Rules.{alter}
-use Rattle.rules.specs.Within.{OwnLink, OwnOutcome}
+use Rattle.probe_record.specs.Record.{outbound, inbound}
+use Rattle.probe_rules.specs.declared.Outcome.{Outcome}
+use Rattle.probe_rules.specs.declared.Outcome.the-variants.{Opened, NothingToOpen, Taken, Displacing, Refused, Learnt, NoChange}
+use Rattle.probe_rules.specs.Rules.{alter}
+use Rattle.probe_rules.specs.Within.{OwnLink, OwnOutcome}
 use Rattle.probe_theory.specs.EndLaws.{changed, FewChanges}
 use Rattle.probe_theory.proofs.Stores.{out-else, out-kept, in-else, in-kept}
 

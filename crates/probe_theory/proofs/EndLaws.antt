@@ -6,18 +6,18 @@ use mathlib.Core.Bool.{true, false}
 use mathlib.Core.List.{List}
 use lib.Dec.{eqb}
 use Rattle.range.proofs.Bools.{decided}
-use Rattle.table.specs.Table.{Table}
+use Rattle.table.specs.Table.{Table, between}
 use Rattle.table.specs.Legal.{Legal}
-use Rattle.cover_theory.proofs.Settled.{near, back}
-use Rattle.frame.specs.Frame.{Frame, frameOf}
-use Rattle.record.specs.Record.{fresh}
-use Rattle.record_checks.proofs.Bytes.{good-record, record-passes}
-use Rattle.rules.specs.declared.Event.{Event}
-use Rattle.rules.specs.Rules.{befalls}
-use Rattle.rules.specs.Frames.{between, heardOf}
-use Rattle.rules.specs.Within.{OwnLink, OwnEvent, OwnOutcome}
-use Rattle.rules.proofs.Frames.{between-across}
-use Rattle.rules.proofs.Befalls.{Befell, befell, befell-own, own-within}
+use Rattle.plan_theory.proofs.Settled.{near, back}
+use Rattle.probe_frame.specs.Frame.{Frame, frameOf}
+use Rattle.probe_record.specs.Record.{fresh}
+use Rattle.probe_record.proofs.Bytes.{good-record, record-passes}
+use Rattle.probe_rules.specs.declared.Event.{Event}
+use Rattle.probe_rules.specs.Rules.{befalls}
+use Rattle.probe_rules.specs.Frames.{heardOf}
+use Rattle.probe_rules.specs.Within.{OwnLink, OwnEvent, OwnOutcome}
+use Rattle.probe_rules.proofs.Frames.{between-across}
+use Rattle.probe_rules.proofs.Befalls.{Befell, befell, befell-own, own-within}
 use Rattle.probe_checks.specs.Checks.{heardFault, linkCallFault}
 use Rattle.probe_checks.proofs.Accepted.{heard-link, heard-to}
 use Rattle.probe_theory.specs.EndLaws.{EndLaws, after}

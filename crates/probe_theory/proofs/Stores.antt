@@ -5,7 +5,7 @@ use mathlib.Core.List.{List}
 use native.Mathlib.Omega.{arith}
 use lib.ListN.{length, set}
 use lib.Seq.{getD-set-same, getD-set-other}
-use Rattle.record.specs.Record.{outbound, inbound}
+use Rattle.probe_record.specs.Record.{outbound, inbound}
 
 module _ (e : List ℕ) (i v : ℕ) where
   pub out-here : 2 * i < length e → outbound (set e (2 * i) v) i ≡ v

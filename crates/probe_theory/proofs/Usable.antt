@@ -14,13 +14,13 @@ use Rattle.range.proofs.Lists.{zeros-at}
 use Rattle.range.proofs.Sums.{weigh-le, weigh-same, none-count}
 use Rattle.range.proofs.Counts.{count-except, count-swap}
 use Rattle.table.specs.Table.{Table, item, touches, spare}
-use Rattle.record.specs.Record.{outbound, inbound, fresh, ownWith, standing, held}
-use Rattle.record_checks.proofs.Bytes.{Passes, GoodRecord}
-use Rattle.rules.specs.declared.Event.{Event}
-use Rattle.rules.specs.declared.Outcome.{Outcome}
-use Rattle.rules.specs.Rules.{alter}
-use Rattle.rules.specs.Within.{OwnLink, OwnEvent}
-use Rattle.rules.proofs.Befalls.{Befell, opened, nothing-to-open, taken, displacing, refused, seen, learnt, known}
+use Rattle.probe_record.specs.Record.{outbound, inbound, fresh, ownWith, standing, held}
+use Rattle.probe_record.proofs.Bytes.{Passes, GoodRecord}
+use Rattle.probe_rules.specs.declared.Event.{Event}
+use Rattle.probe_rules.specs.declared.Outcome.{Outcome}
+use Rattle.probe_rules.specs.Rules.{alter}
+use Rattle.probe_rules.specs.Within.{OwnLink, OwnEvent}
+use Rattle.probe_rules.proofs.Befalls.{Befell, opened, nothing-to-open, taken, displacing, refused, seen, learnt, known}
 use Rattle.probe_theory.proofs.Stores.{out-here, out-else, out-kept, in-here, in-else, in-kept}
 
 -- how many own links have the byte 1, before and after

@@ -8,13 +8,13 @@ use lib.Dec.{eqb}
 use lib.ListN.{length}
 use Rattle.range.specs.Sum.{count}
 use Rattle.range.specs.First.{orElse}
-use Rattle.table.specs.Table.{Table, item}
-use Rattle.frame.specs.Frame.{frameOf}
-use Rattle.record.specs.Record.{outbound, inbound, fresh, recordFault}
-use Rattle.rules.specs.declared.Event.{Event}
-use Rattle.rules.specs.Rules.{befalls, alter, other}
-use Rattle.rules.specs.Frames.{heardOf}
-use Rattle.rules.specs.Within.{OwnLink, OwnEvent}
+use Rattle.table.specs.Table.{Table, item, other}
+use Rattle.probe_frame.specs.Frame.{frameOf}
+use Rattle.probe_record.specs.Record.{outbound, inbound, fresh, recordFault}
+use Rattle.probe_rules.specs.declared.Event.{Event}
+use Rattle.probe_rules.specs.Rules.{befalls, alter}
+use Rattle.probe_rules.specs.Frames.{heardOf}
+use Rattle.probe_rules.specs.Within.{OwnLink, OwnEvent}
 use Rattle.probe.specs.declared.Kind.{Kind}
 use Rattle.probe.specs.declared.Asked.{Asked}
 use Rattle.probe_checks.specs.Checks.{heardFault, linkCallFault}

@@ -82,7 +82,7 @@ fn end(
 // Prints the refusal of the table.
 fn refuse(fault: u8) {
     let mut out = [0u8; 5];
-    let printed = output::core::print_refusal(&mut out, fault);
+    let printed = output::refusals::print_refusal(&mut out, fault);
     match printed {
         Output::Length(length) => {
             io::write_all(1, &out[..length]);

@@ -9,7 +9,7 @@ use lib.ListN.{length, drop}
 use Rattle.table.specs.Table.{item}
 use Rattle.script_theory.specs.Script.{Script}
 use Rattle.script_steps.specs.declared.Progress.{Progress}
-use Rattle.packing.specs.Packed.{packedOutput, printedOf}
+use Rattle.packed_answers.specs.Packed.{packedOutput, printedOf}
 
 -- the three numbers of a script's progress: entries used, bytes held, changes
 abbrev pub progressOf : List ℕ → Progress

@@ -8,9 +8,9 @@ ghost use Rattle.table.specs.Table.{item};
 ghost use Rattle.fleet.specs.Answers.{slicesOf};
 ghost use Rattle.script_theory.specs.Script.{afterPiece, endText, scriptOutput};
 ghost use Rattle.script_output.specs.Handling.{callFault, pieceFault, before};
-ghost use Rattle.packing.specs.Packed.{PrintsPacked};
+ghost use Rattle.packed_answers.specs.Packed.{PrintsPacked};
 ghost use Rattle.script_exports.specs.Packed.{PiecePacked, progressOf};
-use packing::packed_output;
+use packed_answers::printed::packed_output;
 use script_output::Handling;
 use script_steps::Progress;
 

@@ -9,8 +9,8 @@ use lib.Seq.{sets}
 use Rattle.range.proofs.Sets.{sets-then}
 use Rattle.hex.specs.Digits.{digits}
 use Rattle.hex.proofs.Laws.{length-digits}
-use Rattle.entry.specs.declared.Entry.{Entry}
-use Rattle.entry.specs.Entry.{codeOf, linkOf, displacedOf}
+use Rattle.wake_log.specs.declared.Entry.{Entry}
+use Rattle.wake_log.specs.Entry.{codeOf, linkOf, displacedOf}
 use Rattle.script_theory.specs.Script.{entryLine, lastLine}
 
 pub length-entry : (e : Entry) → length (entryLine e) ≡ 15

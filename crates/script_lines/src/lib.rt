@@ -1,2 +1,3 @@
 // The lines that the script program prints.
-pub mod core;
+
+pub mod answers;

@@ -17,7 +17,7 @@ use Rattle.output.proofs.Printing.{filled-within}
 use Rattle.fleet_theory.specs.Fleet.{Slices, tableOf, slicesFault, fleetFault}
 use Rattle.script_theory.specs.Script.{Script}
 use Rattle.script_steps.specs.declared.Progress.{Progress}
-use Rattle.script_steps.specs.declared.core.Place.{Place}
+use Rattle.script_steps.specs.declared.pieces.Place.{Place}
 use Rattle.script_steps.specs.Within.{underWay, Buffered}
 use Rattle.script_output.specs.declared.Handling.{Handling}
 use Rattle.script_output.specs.declared.Handling.the-variants as handling

@@ -14,10 +14,10 @@ use Rattle.table.specs.Text.{ofText, textEnd, textFault, readFault}
 use Rattle.table_read.specs.Reading.{Reads}
 use Rattle.table_read.specs.declared.Reading.{Reading}
 use Rattle.table_read.specs.declared.Reading.the-variants.{Table as Read, Refused as Unread}
-use Rattle.text_lines.proofs.Good.{text-head}
-use Rattle.table_round.specs.Functions.{Slices as Lent}
-use Rattle.table_round.proofs.Round.{text-within}
-use Rattle.table_round.proofs.Reading.{blank, blank-found, accepted, refusal-is, read-none, read-numbers, read-legal, read-held}
+use Rattle.table_text.proofs.Good.{text-head}
+use Rattle.table_laws.specs.Functions.{Slices as Lent}
+use Rattle.table_laws.proofs.Round.{text-within}
+use Rattle.table_laws.proofs.Reading.{blank, blank-found, accepted, refusal-is, read-none, read-numbers, read-legal, read-held}
 use Rattle.output.specs.Output.{refusalLine, shortFault, Prints}
 use Rattle.output.specs.declared.Output.{Output}
 use Rattle.output.specs.declared.Output.the-variants.{Length}

@@ -61,7 +61,7 @@ fn call_fault(
     if short != 0 {
         return short;
     }
-    fleet_checks::core::state_fault(
+    fleet_state::checks::state_fault(
         probes as usize,
         links as usize,
         needs,
@@ -101,8 +101,8 @@ pub fn script_piece(
         return Handling::Refused(fault);
     }
     let mut buffer = [0u8; 17];
-    script_steps::core::copy(&mut buffer, line, begun.held as usize);
-    let place = script_steps::core::take_piece(
+    script_steps::pieces::copy(&mut buffer, line, begun.held as usize);
+    let place = script_steps::pieces::take_piece(
         number,
         probes as usize,
         links as usize,
@@ -117,7 +117,7 @@ pub fn script_piece(
         out,
     );
     let p = place.progress;
-    script_steps::core::copy(line, &buffer, p.held as usize);
+    script_steps::pieces::copy(line, &buffer, p.held as usize);
     Handling::Printed {
         length: place.at,
         progress: p,
@@ -150,7 +150,7 @@ pub fn script_end(
     if fault != 0 {
         return Output::Refused(fault);
     }
-    Output::Length(script_steps::core::put_end(
+    Output::Length(script_steps::pieces::put_end(
         probes as usize,
         links as usize,
         needs,
@@ -183,7 +183,7 @@ pub fn script_text(text: &[u8], out: &mut [u8]) -> Output
             probes,
             links,
             rest,
-        } => Output::Length(script_steps::core::print_script(
+        } => Output::Length(script_steps::pieces::print_script(
             number,
             probes as usize,
             links as usize,
@@ -194,6 +194,6 @@ pub fn script_text(text: &[u8], out: &mut [u8]) -> Output
             &text[rest..],
             out,
         )),
-        table_read::Reading::Refused(fault) => output::core::print_refusal(out, fault),
+        table_read::Reading::Refused(fault) => output::refusals::print_refusal(out, fault),
     }
 }

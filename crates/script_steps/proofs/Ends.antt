@@ -11,13 +11,13 @@ use Rattle.range.proofs.Sets.{sets-then}
 use Rattle.output.specs.Output.{refusalLine}
 use Rattle.fleet_theory.specs.Fleet.{Slices, tableOf, slicesFault, fleetFault, start, finished}
 use Rattle.fleet_theory.proofs.Run.{slices-legal, start-holds, fleet-passes}
-use Rattle.fleet_counts.proofs.Legal.{legal-size}
+use Rattle.fleet_state.proofs.Legal.{legal-size}
 use Rattle.script_lines.proofs.Lines.{length-last}
 use Rattle.script_theory.specs.Script.{Script, lastLine, endText, scriptText, afterPiece, begun}
 use Rattle.script_theory.proofs.Pieces.{whole}
 use Rattle.script_steps.specs.Within.{underWay, Buffered}
 use Rattle.script_steps.specs.declared.Progress.{Progress}
-use Rattle.script_steps.specs.declared.core.Place.{Place}
+use Rattle.script_steps.specs.declared.pieces.Place.{Place}
 
 module _ (x : Slices) (bytes : List ℕ) (held changed : ℕ) where
   abbrev unclosed : List ℕ

@@ -1,4 +1,4 @@
 pub mod Printing
 pub mod Bytes
-pub mod Pieces
+pub mod PieceLaws
 pub mod Ends

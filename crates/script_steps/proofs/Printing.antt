@@ -14,19 +14,19 @@ use Rattle.range.specs.First.{orElse}
 use Rattle.range.proofs.Bools.{unless-none}
 use Rattle.range.proofs.Faults.{or-right}
 use Rattle.table.specs.Table.{Table}
-use Rattle.frame.specs.Frame.{frameOf}
-use Rattle.frame.proofs.Laws.{frame-good}
-use Rattle.entry.specs.declared.Entry.{Entry}
-use Rattle.entry.specs.declared.Answer.{Answer}
-use Rattle.entry.specs.declared.Answer.the-variants.{Logged, Refused}
-use Rattle.entry.specs.Entry.{answerOf}
-use Rattle.rules.specs.Rules.{entryOf}
+use Rattle.probe_frame.specs.Frame.{frameOf}
+use Rattle.probe_frame.proofs.Laws.{frame-good}
+use Rattle.wake_log.specs.declared.Entry.{Entry}
+use Rattle.wake_log.specs.declared.Answer.{Answer}
+use Rattle.wake_log.specs.declared.Answer.the-variants.{Logged, Refused}
+use Rattle.wake_log.specs.Entry.{answerOf}
+use Rattle.probe_rules.specs.Rules.{entryOf}
 use Rattle.fleet_theory.specs.Fleet.{Slices, tableOf, slicesFault, fleetFault, lineFault, eventFault, outcomeOf, linkChanges}
 use Rattle.fleet_theory.proofs.Events.{unsentOf}
 use Rattle.fleet.specs.Answers.{Handled, changesBy}
 use Rattle.fleet.proofs.Checks.{line-frame}
-use Rattle.fleet_laws.proofs.Passing.{passed-line}
-use Rattle.fleet_laws.proofs.Changes.{line-changes}
+use Rattle.fleet.proofs.Passing.{passed-line}
+use Rattle.fleet.proofs.Changes.{line-changes}
 use Rattle.script_lines.proofs.Lines.{length-entry}
 use Rattle.script_theory.specs.Script.{answerLine, afterLine}
 use Rattle.script_steps.specs.Within.{acceptedBy, underWay, Buffered}

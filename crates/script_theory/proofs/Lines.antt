@@ -15,7 +15,7 @@ use Rattle.hex.specs.Digits.{digits}
 use Rattle.lines.specs.Line.{untilFeed, lineAt}
 use Rattle.lines.specs.declared.Line.the-variants.{Missing}
 use Rattle.lines.proofs.Lines.{fault-of-missing}
-use Rattle.frame.specs.Frame.{frameFault}
+use Rattle.probe_frame.specs.Frame.{frameFault}
 
 -- 16 ^ w times q
 abbrev shifted : ℕ → ℕ → ℕ

@@ -10,12 +10,12 @@ use Rattle.hex.specs.Digits.{digits}
 use Rattle.table.specs.Table.{Table}
 use Rattle.table.specs.Text.{ofText, textFault, textEnd}
 use Rattle.output.specs.Output.{refusalLine}
-use Rattle.entry.specs.declared.Entry.{Entry}
-use Rattle.entry.specs.declared.Answer.{Answer}
-use Rattle.entry.specs.declared.Answer.the-variants.{Logged, Refused}
-use Rattle.entry.specs.Entry.{answerOf, codeOf, linkOf, displacedOf}
-use Rattle.frame.specs.Frame.{frameOf}
-use Rattle.rules.specs.Rules.{entryOf}
+use Rattle.wake_log.specs.declared.Entry.{Entry}
+use Rattle.wake_log.specs.declared.Answer.{Answer}
+use Rattle.wake_log.specs.declared.Answer.the-variants.{Logged, Refused}
+use Rattle.wake_log.specs.Entry.{answerOf, codeOf, linkOf, displacedOf}
+use Rattle.probe_frame.specs.Frame.{frameOf}
+use Rattle.probe_rules.specs.Rules.{entryOf}
 use Rattle.fleet_theory.specs.Fleet.{Slices, tableOf, eventFault, outcomeOf, alteredBy, State, start, answerTo, next, run, linkChanges, allChanges, finished}
 
 -- "the entry: probe, what (two digits), link's place in the table from 0, displaced probe; four digits each but for the second"

@@ -1,5 +1,5 @@
 pub mod Faults
-pub mod Degrees
+pub mod DegreeLaws
 pub mod Same
 pub mod Accepted
 pub mod Lengths

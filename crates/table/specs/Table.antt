@@ -1,10 +1,11 @@
 -- A site and the order of its links. The sentences are those of document 01, "Table and order".
 use Prim.Native.Nat.{ℕ, _-_}
-use mathlib.Core.Bool.{Bool, _&&_, _||_}
+use mathlib.Core.Bool.{Bool, cond, _&&_, _||_}
 use mathlib.Core.List.{List}
 use lib.Dec.{ltb, eqb}
 use lib.ListN.{getD}
 use Rattle.range.specs.Sum.{count}
+use Rattle.range.specs.Choice.{lowest}
 
 -- "A site has .. probes, numbered from 0, and .. links. A link joins a low probe to a higher one and has a cost .. Each probe has a need."
 -- Links are known by their place in the table, from 0.
@@ -57,3 +58,15 @@ dearer t i j =
 -- '"Cheaper" is the exact reverse.'
 abbrev pub cheaper : Table → ℕ → ℕ → Bool
 cheaper t i j = dearer t j i
+
+-- the other end of a link
+abbrev pub other : Table → ℕ → ℕ → ℕ
+other t p i = cond (eqb p (t .low i)) (t .high i) (t .low i)
+
+-- the link joins the two probes
+abbrev pub joins : Table → ℕ → ℕ → ℕ → Bool
+joins t a b i = (eqb a (t .low i) && eqb b (t .high i)) || (eqb b (t .low i) && eqb a (t .high i))
+
+-- the link between two probes; the number of links where there is none
+abbrev pub between : Table → ℕ → ℕ → ℕ
+between t a b = lowest (joins t a b) (t .links)

@@ -3,7 +3,9 @@ ghost use mathlib.Core.Path.{_≡_};
 ghost use Rattle.table.specs.Legal.{sliceFault};
 ghost use Rattle.table.specs.Checking.{checkingOf};
 
-pub mod core;
+pub mod checks;
+pub mod degrees;
+pub mod numbers;
 
 // A table's answer: fine, or the number of its refusal.
 pub enum Checking {
@@ -23,7 +25,7 @@ pub fn check_table(
 ) -> Checking
     ensures { λ r. ⌜ r ≡ checkingOf (sliceFault 256 2048 number probes links (now (needs .entry)) (now (lows .entry)) (now (highs .entry)) (now (costs .entry))) ⌝ }
 {
-    let fault = core::slice_fault(
+    let fault = checks::slice_fault(
         256,
         2048,
         probes as usize,
@@ -39,3 +41,6 @@ pub fn check_table(
         Checking::Refused(fault)
     }
 }
+
+// The closing line: the text's reader compares with it, and the writers write it.
+pub const CLOSING: [u8; 5] = *b"ffff\n";

@@ -4,7 +4,7 @@ ghost use lib.ListN.{length};
 ghost use Rattle.table.specs.Text.{ofText, readFault};
 ghost use Rattle.table_read.specs.Reading.{Reads};
 
-pub mod core;
+pub mod limited;
 
 // The answer: the table's number, probe count and link count and where the rest of the text starts, or the number of the refusal.
 pub enum Reading {
@@ -31,7 +31,7 @@ pub fn read_table(
         (now (needs .entry)) (now (needs .exit)) (now (lows .entry)) (now (lows .exit))
         (now (highs .entry)) (now (highs .exit)) (now (costs .entry)) (now (costs .exit)) ⌝ }
 {
-    core::read_limited(text, needs, lows, highs, costs, 256, 2048, false)
+    limited::read_limited(text, needs, lows, highs, costs, 256, 2048, false)
 }
 
 // Reads a text that may go on behind its closing line.
@@ -48,5 +48,5 @@ pub fn read_table_prefix(
         (now (needs .entry)) (now (needs .exit)) (now (lows .entry)) (now (lows .exit))
         (now (highs .entry)) (now (highs .exit)) (now (costs .entry)) (now (costs .exit)) ⌝ }
 {
-    core::read_limited(text, needs, lows, highs, costs, 256, 2048, true)
+    limited::read_limited(text, needs, lows, highs, costs, 256, 2048, true)
 }

@@ -1,9 +1,13 @@
 // A table in slices, written as text.
+// The lines of a table's text, written one by one. The writers of a table, of a frame and of a plan call these, within the bounds that they ask.
+// A table's text, written as a whole.
 ghost use lib.ListN.{length};
 ghost use Rattle.table.specs.Table.{ofSlices};
 ghost use Rattle.table_write.specs.Writing.{writeFault, Writes};
 
-pub mod core;
+pub mod limited;
+pub mod line;
+pub mod text;
 
 // The answer of writing: the text's length, or the number of the refusal.
 pub enum Writing {
@@ -27,7 +31,7 @@ pub fn write_table(
         (ofSlices number probes links (now (needs .entry)) (now (lows .entry)) (now (highs .entry)) (now (costs .entry)))
         r (now (out .entry)) (now (out .exit)) ⌝ }
 {
-    core::write_limited(
+    limited::write_limited(
         256,
         2048,
         number,

@@ -28,9 +28,9 @@ use denote.Triple.Call.{calls-at}
 use denote.Triple.Clauses.{ensured, lasts}
 use denote.Triple.Spec.{tripleOf}
 use denote.Triple.Statement.{Contract, Triple}
-use Rattle.entry.specs.declared.Entry.{Entry}
-use Rattle.entry.proofs.Entry as T
-use Rattle.entry.proofs.Entry.Laws as T′
+use Rattle.wake_log.specs.declared.Entry.{Entry}
+use Rattle.wake_log.proofs.Entry as T
+use Rattle.wake_log.proofs.Entry.Laws as T′
 use Rattle.wake_log.proofs.Walk.{spelled}
 use Rattle.wake_log.proofs.append as append
 

@@ -7,10 +7,10 @@ use native.Mathlib.Omega.{arith}
 use lib.Dec.{eqb}
 use lib.ListN.{length, set}
 use lib.Seq.{set-out}
-use Rattle.entry.specs.declared.Entry.{Entry}
-use Rattle.entry.specs.declared.Answer.the-variants.{Logged, Refused}
-use Rattle.entry.specs.Entry.{answerOf}
-use Rattle.wake_log.specs.declared.core.Told.{Told}
+use Rattle.wake_log.specs.declared.Entry.{Entry}
+use Rattle.wake_log.specs.declared.Answer.the-variants.{Logged, Refused}
+use Rattle.wake_log.specs.Entry.{answerOf}
+use Rattle.wake_log.specs.declared.storing.Told.{Told}
 use Rattle.wake_log.specs.Log.{toldOf}
 
 pub stored : (fault used : ℕ) (e : Entry) (r : Told) (log log′ : List Entry) → r ≡ toldOf used (length log) (answerOf fault e) → log′ ≡ set log (r .at) (r .entry)

@@ -13,9 +13,9 @@ use types.Kit.{Given, Item, Post, anyQ, post, prop, runs, Seq, Step, step, _$_}
 use types.Run.{Opd, first, branches, skips}
 use denote.Slice.{Room}
 use denote.Struct.Laws as LL
-use Rattle.entry.specs.declared.Entry.{Entry}
-use Rattle.entry.proofs.Entry as T
-use Rattle.entry.proofs.Entry.Laws as T′
+use Rattle.wake_log.specs.declared.Entry.{Entry}
+use Rattle.wake_log.proofs.Entry as T
+use Rattle.wake_log.proofs.Entry.Laws as T′
 
 -- an entry's machine value
 abbrev pub spelled : Entry → Val

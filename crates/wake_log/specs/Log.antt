@@ -1,10 +1,10 @@
 -- The wake log: document 01, "The wake log is a lent list of entries, one for each accepted event."
 use Prim.Native.Nat.{ℕ}
-use Rattle.entry.specs.declared.Entry.{Entry}
-use Rattle.entry.specs.declared.What.the-variants.{NothingToOpen}
-use Rattle.entry.specs.declared.Answer.{Answer}
-use Rattle.entry.specs.declared.Answer.the-variants.{Logged, Refused}
-use Rattle.wake_log.specs.declared.core.Told.{Told}
+use Rattle.wake_log.specs.declared.Entry.{Entry}
+use Rattle.wake_log.specs.declared.What.the-variants.{NothingToOpen}
+use Rattle.wake_log.specs.declared.Answer.{Answer}
+use Rattle.wake_log.specs.declared.Answer.the-variants.{Logged, Refused}
+use Rattle.wake_log.specs.declared.storing.Told.{Told}
 
 -- what reading past the log's end gives
 abbrev pub noEntry : Entry

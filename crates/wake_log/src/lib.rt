@@ -1,12 +1,14 @@
 // The wake log in a lent slice of entries. The count of used entries goes beside it.
+// The entries of the wake log, and the answer to an event.
 ghost use mathlib.Core.Path.{_≡_};
 ghost use lib.ListN.{getD, set};
 ghost use Rattle.wake_log.specs.Log.{noEntry};
 
-pub mod core;
+pub mod codes;
+pub mod storing;
 
 // Stores an entry at its place; past the log's end nothing is stored.
-pub fn append(log: &mut [entry::Entry], used: usize, e: entry::Entry)
+pub fn append(log: &mut [Entry], used: usize, e: Entry)
     ensures { λ _. ⌜ now (log .exit) ≡ set (now (log .entry)) used e ⌝ }
 {
     if used < log.len() {
@@ -15,14 +17,36 @@ pub fn append(log: &mut [entry::Entry], used: usize, e: entry::Entry)
 }
 
 // The entry at a place; past the log's end the entry of probe 0 with nothing to open.
-pub fn entry_at(log: &[entry::Entry], i: usize) -> entry::Entry
+pub fn entry_at(log: &[Entry], i: usize) -> Entry
     ensures { λ r. ⌜ r ≡ getD (now (log .entry)) i noEntry ⌝ }
 {
     if i < log.len() {
         return log[i];
     }
-    entry::Entry {
+    Entry {
         probe: 0,
-        what: entry::What::NothingToOpen,
+        what: What::NothingToOpen,
     }
+}
+
+// What befell a probe, with the link where there is one, by its place in the table.
+pub enum What {
+    Opened(u16),
+    NothingToOpen,
+    Taken(u16),
+    TakenDisplacing { link: u16, displaced: u16 },
+    Refused(u16),
+    RefusalLearnt(u16),
+    NoChange(u16),
+}
+
+pub struct Entry {
+    pub probe: u16,
+    pub what: What,
+}
+
+// The entry of an accepted event, or the number of the refusal.
+pub enum Answer {
+    Logged(Entry),
+    Refused(u8),
 }

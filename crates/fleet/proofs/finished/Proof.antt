@@ -10,8 +10,8 @@ use Rattle.range.proofs.Faults.{or-left, or-right}
 use Rattle.table.proofs.Slices.{given}
 use Rattle.fleet_theory.specs.Fleet.{Slices, tableOf, slicesFault, fleetFault}
 use Rattle.fleet.specs.Answers.{slicesOf}
-use Rattle.fleet_counts.proofs.Legal.{fits}
-use Rattle.fleet_checks.proofs.Checks.{fleet-good}
+use Rattle.fleet_state.proofs.Legal.{fits}
+use Rattle.fleet_state.proofs.CheckLaws.{fleet-good}
 use Rattle.fleet.proofs.Calls.{state-is, finishing-refused, finishing-says}
 
 state-fault-requires : tie.Need-state-fault-requires

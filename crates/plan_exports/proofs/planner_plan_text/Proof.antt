@@ -4,7 +4,7 @@ use Rattle.plan_exports.proofs.planner_plan_text.Statement.{statement}
 use Rattle.plan_exports.proofs.planner_plan_text.Tie as tie
 use native.Mathlib.Omega.{arith}
 use Rattle.output.proofs.Printing.{printed-within}
-use Rattle.packing.proofs.Answers.{prints-packed}
+use Rattle.packed_answers.proofs.Answers.{prints-packed}
 
 plan-text-requires : tie.Need-plan-text-requires
 plan-text-requires c κs = search needs

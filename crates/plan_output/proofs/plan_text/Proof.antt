@@ -3,8 +3,8 @@ use borrow.Author.Needs.{needs}
 use Rattle.plan_output.proofs.plan_text.Statement.{statement}
 use Rattle.plan_output.proofs.plan_text.Tie as tie
 use mathlib.Core.Bool.{false}
-use Rattle.table_round.specs.Functions.{Slices}
-use Rattle.table_round.proofs.Reading.{blank, read-legal, read-held}
+use Rattle.table_laws.specs.Functions.{Slices}
+use Rattle.table_laws.proofs.Reading.{blank, read-legal, read-held}
 use Rattle.plan_output.proofs.Reading.{refusal-printed, plan-printed}
 
 slice-aggregate-read-table : tie.Need-slice-aggregate-read-table

@@ -8,7 +8,7 @@ use borrow.Author.Tests.{eq-eqb, ne-eqb, lt-ltb, le-ltb, not-true, not-false}
 use Rattle.table.specs.Table.{Table, ofSlices}
 use Rattle.table.specs.Legal.{sliceFault}
 use Rattle.table.proofs.Slices.{given}
-use Rattle.record_checks.proofs.Bytes.{record-good}
+use Rattle.probe_record.proofs.Bytes.{record-good}
 use Rattle.probe_checks.specs.Checks.{linkCallFault}
 use Rattle.probe_checks.proofs.Accepted.{link-parts}
 

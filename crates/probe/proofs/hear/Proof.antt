@@ -6,10 +6,10 @@ use mathlib.Core.Path.{sym, _∙_}
 use Rattle.table.specs.Table.{Table, ofSlices}
 use Rattle.table.specs.Legal.{sliceFault}
 use Rattle.table.proofs.Slices.{given}
-use Rattle.link_between.proofs.Search.{ordered}
-use Rattle.rules.specs.Frames.{heardOf}
-use Rattle.rules.proofs.Ready.{ready}
-use Rattle.frame.specs.Frame.{frameOf}
+use Rattle.table_links.proofs.Search.{ordered}
+use Rattle.probe_rules.specs.Frames.{heardOf}
+use Rattle.probe_rules.proofs.Ready.{ready}
+use Rattle.probe_frame.specs.Frame.{frameOf}
 use Rattle.probe_checks.proofs.Accepted.{hear-parts, heard-frame, heard-within}
 use Rattle.probe.proofs.Calls.{refused-call, accepted-call}
 

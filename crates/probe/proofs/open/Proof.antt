@@ -6,8 +6,8 @@ use mathlib.Core.Path.{sym, _∙_}
 use Rattle.table.specs.Table.{Table, ofSlices}
 use Rattle.table.specs.Legal.{sliceFault}
 use Rattle.table.proofs.Slices.{given}
-use Rattle.rules.specs.declared.Event.the-variants.{Opening}
-use Rattle.rules.proofs.Ready.{ready}
+use Rattle.probe_rules.specs.declared.Event.the-variants.{Opening}
+use Rattle.probe_rules.proofs.Ready.{ready}
 use Rattle.probe_checks.specs.Checks.{openFault}
 use Rattle.probe_checks.proofs.Accepted.{open-parts}
 use Rattle.probe.proofs.Calls.{refused-call, accepted-call}

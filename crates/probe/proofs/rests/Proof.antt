@@ -7,7 +7,7 @@ use native.Mathlib.Omega.{arith}
 use borrow.Author.Tests.{eq-eqb, ne-eqb}
 use Rattle.table.specs.Table.{Table, ofSlices}
 use Rattle.table.specs.Legal.{sliceFault}
-use Rattle.record_checks.proofs.Bytes.{record-good}
+use Rattle.probe_record.proofs.Bytes.{record-good}
 use Rattle.probe_checks.specs.Checks.{linkCallFault}
 use Rattle.probe_checks.proofs.Accepted.{link-parts}
 

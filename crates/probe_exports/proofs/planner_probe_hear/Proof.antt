@@ -3,8 +3,8 @@ use borrow.Author.Needs.{needs}
 use Rattle.probe_exports.proofs.planner_probe_hear.Statement.{statement}
 use Rattle.probe_exports.proofs.planner_probe_hear.Tie as tie
 use Rattle.table.specs.Table.{Table, ofSlices}
-use Rattle.frame.specs.Frame.{frameOf}
-use Rattle.rules.specs.Frames.{heardOf}
+use Rattle.probe_frame.specs.Frame.{frameOf}
+use Rattle.probe_rules.specs.Frames.{heardOf}
 use Rattle.probe_exports.proofs.Answers.{befallen-packed}
 
 hear-requires : tie.Need-hear-requires

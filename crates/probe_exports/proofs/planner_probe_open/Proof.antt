@@ -3,7 +3,7 @@ use borrow.Author.Needs.{needs}
 use Rattle.probe_exports.proofs.planner_probe_open.Statement.{statement}
 use Rattle.probe_exports.proofs.planner_probe_open.Tie as tie
 use Rattle.table.specs.Table.{ofSlices}
-use Rattle.rules.specs.declared.Event.the-variants.{Opening}
+use Rattle.probe_rules.specs.declared.Event.the-variants.{Opening}
 use Rattle.probe_exports.proofs.Answers.{befallen-packed}
 
 open-requires : tie.Need-open-requires

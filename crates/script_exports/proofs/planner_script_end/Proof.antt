@@ -4,7 +4,7 @@ use Rattle.script_exports.proofs.planner_script_end.Statement.{statemen
 use Rattle.script_exports.proofs.planner_script_end.Tie as tie
 use native.Mathlib.Omega.{arith}
 use Rattle.output.proofs.Printing.{printed-within}
-use Rattle.packing.proofs.Answers.{prints-packed}
+use Rattle.packed_answers.proofs.Answers.{prints-packed}
 
 script-end-requires : tie.Need-script-end-requires
 script-end-requires c κs = search needs

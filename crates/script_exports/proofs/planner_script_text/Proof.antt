@@ -4,7 +4,7 @@ use Rattle.script_exports.proofs.planner_script_text.Statement.{stateme
 use Rattle.script_exports.proofs.planner_script_text.Tie as tie
 use native.Mathlib.Omega.{arith}
 use Rattle.output.proofs.Printing.{printed-within}
-use Rattle.packing.proofs.Answers.{prints-packed}
+use Rattle.packed_answers.proofs.Answers.{prints-packed}
 
 script-text-requires : tie.Need-script-text-requires
 script-text-requires c κs = search needs

@@ -12,8 +12,8 @@ use Rattle.table.proofs.Slices.{given}
 use Rattle.output.proofs.Printing.{prints-refused, prints-done}
 use Rattle.fleet_theory.specs.Fleet.{tableOf, slicesFault, fleetFault}
 use Rattle.fleet.specs.Answers.{slicesOf}
-use Rattle.fleet_counts.proofs.Legal.{fits}
-use Rattle.fleet_checks.proofs.Checks.{fleet-good}
+use Rattle.fleet_state.proofs.Legal.{fits}
+use Rattle.fleet_state.proofs.CheckLaws.{fleet-good}
 use Rattle.script_steps.proofs.Ends.{length-end, end-most}
 
 returns : tie.Need-returns

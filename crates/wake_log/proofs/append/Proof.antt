@@ -38,9 +38,9 @@ use denote.Triple.Entry.{Vals, onEntry}
 use denote.Triple.Spec.{Meets, tripleOf}
 use denote.Triple.Table.{entered}
 use denote.Triple.Walked.{says, Stays, stay-slice, stay-dropped, walkOf, ends-at, walked, goes-slice, goes-dropped, walk-meets}
-use Rattle.entry.specs.declared.Entry.{Entry}
-use Rattle.entry.proofs.Entry as T
-use Rattle.entry.proofs.Entry.Laws as T′
+use Rattle.wake_log.specs.declared.Entry.{Entry}
+use Rattle.wake_log.proofs.Entry as T
+use Rattle.wake_log.proofs.Entry.Laws as T′
 use Rattle.wake_log.proofs.Walk.{spelled, scaled, ifs}
 use Rattle.wake_log.proofs.append.Key.{name as #wake-log·append}
 use Rattle.wake_log.proofs.append as append

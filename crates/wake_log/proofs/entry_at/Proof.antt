@@ -36,12 +36,12 @@ use denote.Triple.Entry.{Vals, onEntry}
 use denote.Triple.Spec.{Meets, tripleOf}
 use denote.Triple.Table.{entered}
 use denote.Triple.Walked.{says, Stays, stay-dropped, walkOf, ends-at, walked, goes-dropped, walk-meets}
-use Rattle.entry.specs.declared.Entry.{Entry}
-use Rattle.entry.specs.declared.What.the-variants.{NothingToOpen}
-use Rattle.entry.proofs.Entry as T
-use Rattle.entry.proofs.Entry.Laws as T′
-use Rattle.entry.proofs.What as E
-use Rattle.entry.proofs.What.Laws as E′
+use Rattle.wake_log.specs.declared.Entry.{Entry}
+use Rattle.wake_log.specs.declared.What.the-variants.{NothingToOpen}
+use Rattle.wake_log.proofs.Entry as T
+use Rattle.wake_log.proofs.Entry.Laws as T′
+use Rattle.wake_log.proofs.What as E
+use Rattle.wake_log.proofs.What.Laws as E′
 use Rattle.wake_log.specs.Log.{noEntry}
 use Rattle.wake_log.proofs.Walk.{spelled, scaled, ifs}
 use Rattle.wake_log.proofs.entry_at.Key.{name as #wake-log·entry-at}

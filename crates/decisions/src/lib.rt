@@ -1,2 +1,0 @@
-// What befalls an end, by its rules.
-pub mod core;

@@ -1,0 +1,78 @@
+-- `fleet::line_checks::check_line` meets its contract.
+use borrow.Author.Needs.{needs}
+use Rattle.fleet.proofs.line_checks.check_line.Statement.{statement}
+use Rattle.fleet.proofs.line_checks.check_line.Tie as tie
+use mathlib.Core.Path.{sym, _∙_}
+use native.Mathlib.Omega.{arith}
+use borrow.Author.Tests.{eq-eqb, ne-eqb, le-ltb, lt-ltb}
+use Rattle.range.proofs.Faults.{or-here}
+
+frame-fault-requires : tie.Need-frame-fault-requires
+frame-fault-requires c κs = search needs
+
+refused-requires : tie.Need-refused-requires
+refused-requires c κs = search needs
+
+returns : tie.Need-returns
+returns c = rw (c .refused .ensures) (or-here _ _ _ (c .before .before .frame-fault .ensures) (c .before .if1 .taken), λ z k. absurd (c .before .if1 .taken z))
+
+field-requires : tie.Need-field-requires
+field-requires c κs = (sym (c .before .frame-fault .ensures) ∙ c .if1 .left, search needs, search needs)
+
+refused-requires-2 : tie.Need-refused-requires-2
+refused-requires-2 c κs = search needs
+
+returns-2 : tie.Need-returns-2
+returns-2 c =
+    let z = sym (c .before .before .before .before .frame-fault .ensures) ∙ c .before .before .before .if1 .left in
+    let k = c .before .if2 .taken in
+    rw (c .refused2 .ensures) (rw (z, ← c .before .before .field .ensures, le-ltb (c .before .before .field .result) 3 (omega arith)), λ y m. absurd (omega arith))
+
+field-requires-2 : tie.Need-field-requires-2
+field-requires-2 c κs = (sym (c .before .before .before .frame-fault .ensures) ∙ c .before .before .if1 .left, search needs, search needs)
+
+wide-requires : tie.Need-wide-requires
+wide-requires c κs = search needs
+
+refused-requires-3 : tie.Need-refused-requires-3
+refused-requires-3 c κs = search needs
+
+returns-3 : tie.Need-returns-3
+returns-3 c =
+    let z = sym (c .before .before .before .before .before .before .before .frame-fault .ensures) ∙ c .before .before .before .before .before .before .if1 .left in
+    let k = c .before .before .before .before .if2 .left in
+    rw (c .refused3 .ensures) (rw (z, ← c .before .before .before .before .before .field .ensures, lt-ltb (c .before .before .before .before .before .field .result) 3 (omega arith), ← c .before .before .before .field2 .ensures, ne-eqb _ _ (λ q. c .before .if3 .taken (q ∙ sym (c .before .before .wide .ensures)))), λ y m. absurd (omega arith))
+
+field-requires-3 : tie.Need-field-requires-3
+field-requires-3 c κs = (sym (c .before .before .before .before .before .before .frame-fault .ensures) ∙ c .before .before .before .before .before .if1 .left, search needs, search needs)
+
+field-requires-4 : tie.Need-field-requires-4
+field-requires-4 c κs = (sym (c .before .before .before .before .before .before .before .frame-fault .ensures) ∙ c .before .before .before .before .before .before .if1 .left, search needs, search needs)
+
+find-ends-requires : tie.Need-find-ends-requires
+find-ends-requires c κs = search needs
+
+returns-4 : tie.Need-returns-4
+returns-4 c =
+    let z = sym (c .before .before .before .before .before .before .before .before .before .frame-fault .ensures) ∙ c .before .before .before .before .before .before .before .before .if1 .left in
+    let k = c .before .before .before .before .before .before .if2 .left in
+    (rw (z, ← c .before .before .before .before .before .before .before .field .ensures, lt-ltb (c .before .before .before .before .before .before .before .field .result) 3 (omega arith), ← c .before .before .before .before .before .field2 .ensures, eq-eqb _ _ (c .before .before .before .if3 .left ∙ c .before .before .before .before .wide .ensures), ← c .before .before .field3 .ensures, ← c .before .field4 .ensures) (c .find-ends .ensures .0), λ y m. rw (← c .before .before .field3 .ensures, ← c .before .field4 .ensures) (c .find-ends .ensures .1 y (rw (c .before .before .before .before .before .before .before .field .ensures) m)))
+
+pub check-line-spec : {M : Type 1} → statement M
+check-line-spec =
+    tie.close
+    (tie.spec
+    frame-fault-requires
+    refused-requires
+    returns
+    field-requires
+    refused-requires-2
+    returns-2
+    field-requires-2
+    wide-requires
+    refused-requires-3
+    returns-3
+    field-requires-3
+    field-requires-4
+    find-ends-requires
+    returns-4)

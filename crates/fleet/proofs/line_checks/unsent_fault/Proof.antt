@@ -1,0 +1,81 @@
+-- `fleet::line_checks::unsent_fault` meets its contract.
+use borrow.Author.Needs.{needs}
+use Rattle.fleet.proofs.line_checks.unsent_fault.Statement.{statement}
+use Rattle.fleet.proofs.line_checks.unsent_fault.Tie as tie
+use Prim.Native.Nat.{ℕ}
+use mathlib.Core.Path.{sym, _∙_}
+use mathlib.Core.List.{List, []}
+use native.Mathlib.Omega.{arith}
+use borrow.Author.Tests.{eq-eqb, ne-eqb}
+use Rattle.table.specs.Table.{Table, ofSlices}
+use Rattle.fleet_theory.proofs.Own.{out-is, in-is}
+
+abbrev table : ℕ → List ℕ → List ℕ → Table
+table links lows highs = ofSlices 0 0 links [] lows highs []
+
+enum-told : tie.Need-enum-told
+enum-told c = search needs
+
+enum-known-event : tie.Need-enum-known-event
+enum-known-event c = search needs
+
+out-byte-requires : tie.Need-out-byte-requires
+out-byte-requires c κs =
+    let p = c .before .before .before .before .before .before .pre in
+    let w = rw (c .before .event .given .1) at (p .0) in
+    (omega (arith, p .2), omega (arith, p .3), omega (arith, p .4), omega (arith, p .1))
+
+returns : tie.Need-returns
+returns c =
+    let a = c .before .before .before .before .before .before .before .before .args in
+    let w = rw (c .before .before .before .event .given .1) at (c .before .before .before .before .before .before .before .before .pre .0) in
+    let b = out-is (table (a .links) (a .lows .now) (a .highs .now)) (a .from) (a .rec .now) _ w in
+    rw (c .before .before .before .event .given .1, b ∙ sym (c .before .out-byte .ensures), eq-eqb _ _ (c .if1 .taken))
+
+enum-known-event-2 : tie.Need-enum-known-event-2
+enum-known-event-2 c = search needs
+
+in-byte-requires : tie.Need-in-byte-requires
+in-byte-requires c κs =
+    let p = c .before .before .before .before .before .before .pre in
+    let w = rw (c .before .event2 .given .1) at (p .0) in
+    (omega (arith, p .2), omega (arith, p .3), omega (arith, p .4), omega (arith, p .1))
+
+returns-2 : tie.Need-returns-2
+returns-2 c =
+    let a = c .before .before .before .before .before .before .before .before .args in
+    let w = rw (c .before .before .before .event2 .given .1) at (c .before .before .before .before .before .before .before .before .pre .0) in
+    let b = in-is (table (a .links) (a .lows .now) (a .highs .now)) (a .from) (a .rec .now) _ w in
+    rw (c .before .before .before .event2 .given .1, b ∙ sym (c .before .in-byte .ensures), eq-eqb _ _ (c .if2 .taken))
+
+returns-3 : tie.Need-returns-3
+returns-3 c = rw (c .enum-told .given .1)
+
+returns-4 : tie.Need-returns-4
+returns-4 c =
+    let a = c .before .before .before .before .before .before .before .before .args in
+    let w = rw (c .before .before .before .event .given .1) at (c .before .before .before .before .before .before .before .before .pre .0) in
+    let b = out-is (table (a .links) (a .lows .now) (a .highs .now)) (a .from) (a .rec .now) _ w in
+    rw (c .before .before .before .event .given .1, b ∙ sym (c .before .out-byte .ensures), ne-eqb _ _ (c .if1 .left))
+
+returns-5 : tie.Need-returns-5
+returns-5 c =
+    let a = c .before .before .before .before .before .before .before .before .args in
+    let w = rw (c .before .before .before .event2 .given .1) at (c .before .before .before .before .before .before .before .before .pre .0) in
+    let b = in-is (table (a .links) (a .lows .now) (a .highs .now)) (a .from) (a .rec .now) _ w in
+    rw (c .before .before .before .event2 .given .1, b ∙ sym (c .before .in-byte .ensures), ne-eqb _ _ (c .if2 .left))
+
+pub unsent-fault-spec : {M : Type 1} → statement M
+unsent-fault-spec =
+    tie.close
+    (tie.spec
+    enum-told
+    enum-known-event
+    out-byte-requires
+    returns
+    enum-known-event-2
+    in-byte-requires
+    returns-2
+    returns-3
+    returns-4
+    returns-5)

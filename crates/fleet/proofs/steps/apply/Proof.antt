@@ -1,0 +1,52 @@
+-- `fleet::steps::apply` meets its contract.
+use borrow.Author.Needs.{needs}
+use Rattle.fleet.proofs.steps.apply.Statement.{statement}
+use Rattle.fleet.proofs.steps.apply.Tie as tie
+use Prim.Native.Nat.{_/_, _≤_}
+use mathlib.Core.Path.{_∙_, ap}
+use native.Mathlib.Omega.{arith}
+use lib.ListN.{length}
+use Rattle.table.specs.Table.{Table, ofSlices}
+use Rattle.probe_rules.specs.declared.Outcome.{Outcome}
+use Rattle.probe_rules.specs.Rules.{befalls, entryOf}
+use Rattle.probe_rules.proofs.OutcomeLaws.{befalls-within, within-wider, entry-same}
+use Rattle.fleet_theory.specs.Fleet.{own, alterFleet}
+use Rattle.fleet_state.proofs.Legal.{legal-size}
+
+decide-requires : tie.Need-decide-requires
+decide-requires c κs = search needs
+
+alter-fleet-requires : tie.Need-alter-fleet-requires
+alter-fleet-requires c κs =
+    let a = c .before .before .before .before .before .before .before .before .args in
+    let p = c .before .before .before .before .before .before .before .before .pre in
+    let t : Table = (ofSlices 0 (a .probes) (a .links) (a .needs .now) (a .lows .now) (a .highs .now) (a .costs .now)) in
+    let o : Outcome = befalls t (a .probe) (a .event) (own t (a .probe) (a .rec .now)) in
+    let w = befalls-within t (a .probe) (a .event) (own t (a .probe) (a .rec .now)) (p .1) in
+    let s = legal-size t (p .0 .legal) in
+    let l : a .links ≤ length (a .rec .now) / 4 = omega (arith, p .0 .long) in
+    rw (c .before .decide .ensures) (within-wider (a .links) (length (a .rec .now) / 4) o l w, within-wider (a .links) (length (a .lows .now)) o (p .0 .in-lows) w, within-wider (a .links) 65536 o (omega (arith, s .within)) w)
+
+entry-of-requires : tie.Need-entry-of-requires
+entry-of-requires c κs =
+    let a = c .before .before .before .before .before .before .before .before .before .before .before .args in
+    let p = c .before .before .before .before .before .before .before .before .before .before .before .pre in
+    let t : Table = (ofSlices 0 (a .probes) (a .links) (a .needs .now) (a .lows .now) (a .highs .now) (a .costs .now)) in
+    let o : Outcome = befalls t (a .probe) (a .event) (own t (a .probe) (a .rec .now)) in
+    let w = befalls-within t (a .probe) (a .event) (own t (a .probe) (a .rec .now)) (p .1) in
+    let s = legal-size t (p .0 .legal) in
+    rw (c .before .before .before .before .decide .ensures) (within-wider (a .links) 65536 o (omega (arith, s .within)) w, within-wider (a .links) (length (a .lows .now)) o (p .0 .in-lows) w, within-wider (a .links) (length (a .highs .now)) o (p .0 .in-highs) w)
+
+same-length : tie.Need-same-length
+same-length c = search needs
+
+returns : tie.Need-returns
+returns c =
+    let a = c .before .before .before .before .before .before .before .before .before .before .before .before .args in
+    let t : Table = (ofSlices 0 (a .probes) (a .links) (a .needs .now) (a .lows .now) (a .highs .now) (a .costs .now)) in
+    let o = c .before .before .before .before .before .decide .ensures in
+    (c .entry-of .ensures ∙ entry-same 0 (a .probes) (a .links) (a .needs .now) (a .lows .now) (a .highs .now) (a .costs .now) (a .probe) (c .before .before .before .before .before .decide .result) ∙ ap (entryOf t (a .probe)) o, c .before .before .before .alter-fleet .ensures ∙ ap (λ (k : Outcome). alterFleet t (a .probe) k (a .rec .now)) o)
+
+pub apply-spec : {M : Type 1} → statement M
+apply-spec =
+    tie.close (tie.spec decide-requires alter-fleet-requires entry-of-requires same-length returns)

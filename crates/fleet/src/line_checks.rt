@@ -1,0 +1,123 @@
+// The functions, each within the bounds that it asks.
+use super::Ends;
+ghost use mathlib.Core.Path.{_≡_};
+ghost use mathlib.Core.Bool.{false, cond};
+ghost use mathlib.Core.List.{[]};
+ghost use Prim.Native.Nat.{_*_, _<_, _≤_};
+ghost use lib.Dec.{eqb};
+ghost use lib.ListN.{length};
+ghost use Rattle.table.specs.Table.{ofSlices, between};
+ghost use Rattle.probe_frame.specs.Frame.{frameOf, frameFault};
+ghost use Rattle.probe_rules.specs.declared.Event.the-variants.{Opening, Offer, Refusal};
+ghost use Rattle.probe_rules.specs.Within.{EventWithin};
+ghost use Rattle.table_links.specs.Ordered.{Ordered};
+ghost use Rattle.fleet_theory.specs.Fleet.{own, endsFault, lineFault, unsentFault};
+
+fn refused(fault: u8) -> Ends
+    ensures { λ r. ⌜ r ≡ record { fault = fault; link = 0 } ⌝ }
+{
+    Ends { fault, link: 0 }
+}
+
+// 24, of a line's kind and ends.
+fn find_ends(
+    probes: usize,
+    links: usize,
+    lows: &[u16],
+    highs: &[u16],
+    kind: usize,
+    from: usize,
+    to: usize,
+) -> Ends
+    requires { ⌜ Ordered links (now lows) (now highs) ⌝ }
+    ensures { λ r. ⌜ (r .fault ≡ endsFault (ofSlices 0 probes links [] (now (lows .entry)) (now (highs .entry)) []) (record { kind = kind; number = 0; from = from; to = to }))
+        × (r .fault ≡ 0 → eqb kind 0 ≡ false → r .link ≡ between (ofSlices 0 probes links [] (now (lows .entry)) (now (highs .entry)) []) from to) ⌝ }
+{
+    if kind == 0 {
+        if from != to {
+            return refused(24);
+        }
+        if probes <= to {
+            return refused(24);
+        }
+        return refused(0);
+    }
+    let link = table_links::pairs::between(links, lows, highs, from, to);
+    if links <= link {
+        return refused(24);
+    }
+    Ends { fault: 0, link }
+}
+
+// 1, 2, 9, 23, 24 of a line.
+pub fn check_line(
+    number: u16,
+    probes: usize,
+    links: usize,
+    lows: &[u16],
+    highs: &[u16],
+    line: &[u8],
+) -> Ends
+    requires { ⌜ Ordered links (now lows) (now highs) ⌝ }
+    ensures { λ r. ⌜ (r .fault ≡ lineFault (ofSlices number probes links [] (now (lows .entry)) (now (highs .entry)) []) (now (line .entry)))
+        × (r .fault ≡ 0 → eqb (frameOf (now (line .entry)) .kind) 0 ≡ false → r .link ≡ between (ofSlices 0 probes links [] (now (lows .entry)) (now (highs .entry)) []) (frameOf (now (line .entry)) .from) (frameOf (now (line .entry)) .to)) ⌝ }
+{
+    let fault = probe_frame::frame_line::frame_fault(line);
+    if fault != 0 {
+        return refused(fault);
+    }
+    let kind = probe_frame::frame_line::field(line, 0, 2);
+    if 2 < kind {
+        return refused(9);
+    }
+    if probe_frame::frame_line::field(line, 2, 4) != table::numbers::wide(number) {
+        return refused(23);
+    }
+    let from = probe_frame::frame_line::field(line, 6, 4);
+    let to = probe_frame::frame_line::field(line, 10, 4);
+    find_ends(probes, links, lows, highs, kind, from, to)
+}
+
+// What a line that was not turned down says, by the link between a frame's ends.
+pub fn line_event(line: &[u8], link: usize) -> probe_rules::Event
+    requires { ⌜ frameFault (now line) ≡ 0 ⌝ }
+    ensures { λ r. ⌜ r ≡ cond (eqb (frameOf (now (line .entry)) .kind) 0) Opening (cond (eqb (frameOf (now (line .entry)) .kind) 1) (Offer link) (Refusal link)) ⌝ }
+{
+    let kind = probe_frame::frame_line::field(line, 0, 2);
+    if kind == 0 {
+        return probe_rules::Event::Opening;
+    }
+    if kind == 1 {
+        return probe_rules::Event::Offer(link);
+    }
+    probe_rules::Event::Refusal(link)
+}
+
+// 27.
+pub fn unsent_fault(
+    event: probe_rules::Event,
+    links: usize,
+    lows: &[u16],
+    highs: &[u16],
+    rec: &[u8],
+    from: usize,
+) -> u8
+    requires { ⌜ (EventWithin links event) × (4 * links ≤ length (now rec)) × (links ≤ length (now lows)) × (links ≤ length (now highs)) × (links ≤ 65536) ⌝ }
+    ensures { λ r. ⌜ r ≡ unsentFault event (own (ofSlices 0 0 links [] (now (lows .entry)) (now (highs .entry)) []) from (now (rec .entry))) ⌝ }
+{
+    match event {
+        probe_rules::Event::Opening => 0,
+        probe_rules::Event::Offer(i) => {
+            if fleet_rules::own_bytes::out_byte(rec, lows, highs, from, i) == 0 {
+                return 27;
+            }
+            0
+        }
+        probe_rules::Event::Refusal(i) => {
+            if fleet_rules::own_bytes::in_byte(rec, lows, highs, from, i) == 2 {
+                return 0;
+            }
+            27
+        }
+    }
+}

@@ -1,0 +1,89 @@
+// The steps of a fleet. Its public functions and the script program call these, within the bounds that they ask.
+ghost use mathlib.Core.Path.{_≡_};
+ghost use lib.ListN.{length};
+ghost use Rattle.table.specs.Table.{ofSlices};
+ghost use Rattle.probe_rules.specs.Rules.{befalls, entryOf};
+ghost use Rattle.probe_rules.specs.Within.{EventWithin};
+ghost use Rattle.fleet_theory.specs.Fleet.{own, fleetFault, slicesFault, tableOf, alterFleet};
+ghost use Rattle.fleet_rules.specs.Survey.{Ready};
+ghost use Rattle.fleet.specs.Answers.{slicesOf, Handled};
+
+// Lets the event befall the probe: the fleet's record altered, and the entry.
+fn apply(
+    event: probe_rules::Event,
+    probes: usize,
+    links: usize,
+    needs: &[u16],
+    lows: &[u16],
+    highs: &[u16],
+    costs: &[u16],
+    probe: u16,
+    rec: &mut [u8],
+) -> wake_log::Entry
+    requires { ⌜ Ready (ofSlices 0 probes links (now needs) (now lows) (now highs) (now costs)) (now rec) (length (now lows)) (length (now highs)) (length (now costs)) × EventWithin links event ⌝ }
+    ensures { λ r. ⌜ (r ≡ entryOf (ofSlices 0 probes links (now (needs .entry)) (now (lows .entry)) (now (highs .entry)) (now (costs .entry))) probe
+        (befalls (ofSlices 0 probes links (now (needs .entry)) (now (lows .entry)) (now (highs .entry)) (now (costs .entry))) probe event (own (ofSlices 0 probes links (now (needs .entry)) (now (lows .entry)) (now (highs .entry)) (now (costs .entry))) probe (now (rec .entry)))))
+        × (now (rec .exit) ≡ alterFleet (ofSlices 0 probes links (now (needs .entry)) (now (lows .entry)) (now (highs .entry)) (now (costs .entry))) probe
+        (befalls (ofSlices 0 probes links (now (needs .entry)) (now (lows .entry)) (now (highs .entry)) (now (costs .entry))) probe event (own (ofSlices 0 probes links (now (needs .entry)) (now (lows .entry)) (now (highs .entry)) (now (costs .entry))) probe (now (rec .entry)))) (now (rec .entry))) ⌝ }
+{
+    let outcome = fleet_rules::decisions::decide(
+        event,
+        rec,
+        probes,
+        links,
+        needs,
+        lows,
+        highs,
+        costs,
+        probe as usize,
+    );
+    fleet_rules::own_bytes::alter_fleet(rec, outcome, lows, probe as usize);
+    probe_rules::outcomes::entry_of(outcome, lows, highs, probe)
+}
+
+// A line to a fleet whose table and record are already checked. `used` of the log's `room` entries are used.
+pub fn handle_line(
+    number: u16,
+    probes: usize,
+    links: usize,
+    needs: &[u16],
+    lows: &[u16],
+    highs: &[u16],
+    costs: &[u16],
+    rec: &mut [u8],
+    line: &[u8],
+    used: usize,
+    room: usize,
+) -> wake_log::Answer
+    requires { ⌜ (slicesFault (slicesOf number probes links (now needs) (now lows) (now highs) (now costs)) ≡ 0)
+        × (fleetFault (tableOf (slicesOf number probes links (now needs) (now lows) (now highs) (now costs))) (now rec) ≡ 0) ⌝ }
+    ensures { λ r. ⌜ Handled (slicesOf number probes links (now (needs .entry)) (now (lows .entry)) (now (highs .entry)) (now (costs .entry)))
+        used room (now (line .entry)) r (now (rec .entry)) (now (rec .exit)) ⌝ }
+{
+    let ends = super::line_checks::check_line(number, probes, links, lows, highs, line);
+    if ends.fault != 0 {
+        return wake_log::Answer::Refused(ends.fault);
+    }
+    let event = super::line_checks::line_event(line, ends.link);
+    let from = probe_frame::frame_line::field(line, 6, 4);
+    let unsent = super::line_checks::unsent_fault(event, links, lows, highs, rec, from);
+    if unsent != 0 {
+        return wake_log::Answer::Refused(unsent);
+    }
+    if room <= used {
+        return wake_log::Answer::Refused(26);
+    }
+    let to = probe_frame::frame_line::field(line, 10, 4);
+    let e = apply(
+        event,
+        probes,
+        links,
+        needs,
+        lows,
+        highs,
+        costs,
+        to as u16,
+        rec,
+    );
+    wake_log::Answer::Logged(e)
+}

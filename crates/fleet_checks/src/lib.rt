@@ -1,3 +1,0 @@
-// The checks of a fleet's record.
-
-pub mod core;

@@ -1,2 +1,0 @@
-// Whether a fleet is finished.
-pub mod core;

@@ -1,0 +1,89 @@
+-- `fleet_rules::decisions::decide` meets its contract.
+use borrow.Author.Needs.{needs}
+use Rattle.fleet_rules.proofs.decisions.decide.Statement.{statement}
+use Rattle.fleet_rules.proofs.decisions.decide.Tie as tie
+use mathlib.Core.Path.{sym, _∙_}
+use native.Mathlib.Omega.{arith}
+use borrow.Author.Tests.{eq-eqb, ne-eqb}
+use Rattle.table.specs.Table.{Table, ofSlices}
+use Rattle.fleet_theory.proofs.Own.{out-is, in-is}
+use Rattle.fleet_state.proofs.Legal.{legal-size}
+
+enum-told : tie.Need-enum-told
+enum-told c = search needs
+
+decide-opening-requires : tie.Need-decide-opening-requires
+decide-opening-requires c κs = search needs
+
+enum-known-event : tie.Need-enum-known-event
+enum-known-event c = search needs
+
+in-byte-requires : tie.Need-in-byte-requires
+in-byte-requires c κs =
+    let a = c .before .before .before .before .before .before .before .before .args in
+    let p = c .before .before .before .before .before .before .before .before .pre in
+    let w = rw (c .before .event .given .1) at (p .1) in
+    let z = legal-size (ofSlices 0 (a .probes) (a .links) (a .needs .now) (a .lows .now) (a .highs .now) (a .costs .now)) (p .0 .legal) .within in
+    (omega (arith, p .0 .in-lows), omega (arith, p .0 .in-highs), omega arith, omega (arith, p .0 .long))
+
+returns : tie.Need-returns
+returns c =
+    let a = c .before .before .before .before .before .before .before .before .before .before .args in
+    let t : Table = (ofSlices 0 (a .probes) (a .links) (a .needs .now) (a .lows .now) (a .highs .now) (a .costs .now)) in
+    let w = rw (c .before .before .before .event .given .1) at (c .before .before .before .before .before .before .before .before .before .before .pre .1) in
+    rw (c .before .before .before .event .given .1, in-is t (a .probe) (a .rec .now) _ w ∙ sym (c .before .in-byte .ensures), ne-eqb _ _ (c .if1 .taken))
+
+decide-offer-requires : tie.Need-decide-offer-requires
+decide-offer-requires c κs = (c .before .before .before .before .before .before .before .before .before .before .pre .0, rw (c .before .before .before .event .given .1) at (c .before .before .before .before .before .before .before .before .before .before .pre .1))
+
+enum-known-event-2 : tie.Need-enum-known-event-2
+enum-known-event-2 c = search needs
+
+out-byte-requires : tie.Need-out-byte-requires
+out-byte-requires c κs =
+    let a = c .before .before .before .before .before .before .before .before .args in
+    let p = c .before .before .before .before .before .before .before .before .pre in
+    let w = rw (c .before .event2 .given .1) at (p .1) in
+    let z = legal-size (ofSlices 0 (a .probes) (a .links) (a .needs .now) (a .lows .now) (a .highs .now) (a .costs .now)) (p .0 .legal) .within in
+    (omega (arith, p .0 .in-lows), omega (arith, p .0 .in-highs), omega arith, omega (arith, p .0 .long))
+
+returns-2 : tie.Need-returns-2
+returns-2 c =
+    let a = c .before .before .before .before .before .before .before .before .before .before .args in
+    let t : Table = (ofSlices 0 (a .probes) (a .links) (a .needs .now) (a .lows .now) (a .highs .now) (a .costs .now)) in
+    let w = rw (c .before .before .before .event2 .given .1) at (c .before .before .before .before .before .before .before .before .before .before .pre .1) in
+    rw (c .before .before .before .event2 .given .1, out-is t (a .probe) (a .rec .now) _ w ∙ sym (c .before .out-byte .ensures), eq-eqb _ _ (c .if2 .taken))
+
+returns-3 : tie.Need-returns-3
+returns-3 c = rw (c .before .enum-told .given .1) (c .decide-opening .ensures)
+
+returns-4 : tie.Need-returns-4
+returns-4 c =
+    let a = c .before .before .before .before .before .before .before .before .before .before .before .args in
+    let t : Table = (ofSlices 0 (a .probes) (a .links) (a .needs .now) (a .lows .now) (a .highs .now) (a .costs .now)) in
+    let w = rw (c .before .before .before .before .event .given .1) at (c .before .before .before .before .before .before .before .before .before .before .before .pre .1) in
+    rw (c .before .before .before .before .event .given .1, in-is t (a .probe) (a .rec .now) _ w ∙ sym (c .before .before .in-byte .ensures), eq-eqb _ _ (c .before .if1 .left)) (c .decide-offer .ensures)
+
+returns-5 : tie.Need-returns-5
+returns-5 c =
+    let a = c .before .before .before .before .before .before .before .before .before .before .args in
+    let t : Table = (ofSlices 0 (a .probes) (a .links) (a .needs .now) (a .lows .now) (a .highs .now) (a .costs .now)) in
+    let w = rw (c .before .before .before .event2 .given .1) at (c .before .before .before .before .before .before .before .before .before .before .pre .1) in
+    rw (c .before .before .before .event2 .given .1, out-is t (a .probe) (a .rec .now) _ w ∙ sym (c .before .out-byte .ensures), ne-eqb _ _ (c .if2 .left))
+
+pub decide-spec : {M : Type 1} → statement M
+decide-spec =
+    tie.close
+    (tie.spec
+    enum-told
+    decide-opening-requires
+    enum-known-event
+    in-byte-requires
+    returns
+    decide-offer-requires
+    enum-known-event-2
+    out-byte-requires
+    returns-2
+    returns-3
+    returns-4
+    returns-5)

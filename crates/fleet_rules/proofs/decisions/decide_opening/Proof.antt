@@ -1,0 +1,35 @@
+-- `fleet_rules::decisions::decide_opening` meets its contract.
+use borrow.Author.Needs.{needs}
+use Rattle.fleet_rules.proofs.decisions.decide_opening.Statement.{statement}
+use Rattle.fleet_rules.proofs.decisions.decide_opening.Tie as tie
+use Rattle.table.specs.Table.{Table, ofSlices}
+use Rattle.fleet_theory.specs.Fleet.{own}
+use Rattle.fleet_rules.proofs.Outcomes.{opening-full, opening-none, opening-one}
+
+survey-requires : tie.Need-survey-requires
+survey-requires c κs = search needs
+
+spare-of-requires : tie.Need-spare-of-requires
+spare-of-requires c κs = search needs
+
+returns : tie.Need-returns
+returns c =
+    let a = c .before .before .before .before .before .before .before .before .before .args in
+    let t : Table = (ofSlices 0 (a .probes) (a .links) (a .needs .now) (a .lows .now) (a .highs .now) (a .costs .now)) in
+    opening-full t (a .probe) (own t (a .probe) (a .rec .now)) (c .before .before .before .survey .result) _ (c .before .before .spare-of .ensures) (c .before .before .before .survey .ensures) (c .if1 .taken)
+
+returns-2 : tie.Need-returns-2
+returns-2 c =
+    let a = c .before .before .before .before .before .before .before .before .before .before .before .args in
+    let t : Table = (ofSlices 0 (a .probes) (a .links) (a .needs .now) (a .lows .now) (a .highs .now) (a .costs .now)) in
+    opening-none t (a .probe) (own t (a .probe) (a .rec .now)) (c .before .before .before .before .before .survey .result) _ (c .before .before .before .before .spare-of .ensures) (c .before .before .before .before .before .survey .ensures) (c .before .before .if1 .left) (c .if2 .taken)
+
+returns-3 : tie.Need-returns-3
+returns-3 c =
+    let a = c .before .before .before .before .before .before .before .before .before .before .before .args in
+    let t : Table = (ofSlices 0 (a .probes) (a .links) (a .needs .now) (a .lows .now) (a .highs .now) (a .costs .now)) in
+    opening-one t (a .probe) (own t (a .probe) (a .rec .now)) (c .before .before .before .before .before .survey .result) _ (c .before .before .before .before .spare-of .ensures) (c .before .before .before .before .before .survey .ensures) (c .before .before .if1 .left) (c .if2 .left)
+
+pub decide-opening-spec : {M : Type 1} → statement M
+decide-opening-spec =
+    tie.close (tie.spec survey-requires spare-of-requires returns returns-2 returns-3)

@@ -1,0 +1,33 @@
+-- `fleet_rules::own_bytes::out_byte` meets its contract.
+use borrow.Author.Needs.{needs}
+use Rattle.fleet_rules.proofs.own_bytes.out_byte.Statement.{statement}
+use Rattle.fleet_rules.proofs.own_bytes.out_byte.Tie as tie
+use mathlib.Core.Path.{sym, _∙_}
+use mathlib.Core.List.{[]}
+use native.Mathlib.Omega.{arith}
+use borrow.Author.Tests.{not-true, not-false}
+use Rattle.table.specs.Table.{ofSlices}
+use Rattle.fleet_rules.proofs.Own.{out-below}
+
+touches-requires : tie.Need-touches-requires
+touches-requires c κs = search needs
+
+returns : tie.Need-returns
+returns c = rw (sym (c .before .touches .ensures) ∙ not-true _ (c .if1 .taken))
+
+out-at-requires : tie.Need-out-at-requires
+out-at-requires c κs = search needs
+
+shared-slice-read-result : tie.Need-shared-slice-read-result
+shared-slice-read-result c =
+    let a = c .before .before .before .before .before .before .before .args in
+    let p = c .before .before .before .before .before .before .before .pre in
+    rw (c .before .out-at .ensures) (out-below (ofSlices 0 0 0 [] (a .lows .now) [] []) (a .probe) (a .i) _ (omega (arith, p .3)))
+
+returns-2 : tie.Need-returns-2
+returns-2 c = rw (sym (c .before .before .before .touches .ensures) ∙ not-false _ (c .before .before .if1 .left), ← c .before .out-at .ensures)
+
+pub out-byte-spec : {M : Type 1} → statement M
+out-byte-spec =
+    tie.close
+    (tie.spec touches-requires returns out-at-requires shared-slice-read-result returns-2)

@@ -1,0 +1,202 @@
+// What befalls an end of a fleet, found in one pass over the links. The fleet calls `decide`, within the bounds that it asks.
+use super::Survey;
+use probe_rules::Event;
+use probe_rules::Outcome;
+ghost use mathlib.Core.Path.{_≡_};
+ghost use mathlib.Core.Bool.{cond, _&&_, _||_};
+ghost use mathlib.Core.List.{[]};
+ghost use Prim.Native.Nat.{_*_, _-_, _<_, _≤_};
+ghost use lib.Dec.{ltb, leb, eqb};
+ghost use lib.ListN.{length};
+ghost use Rattle.table.specs.Table.{item, ofSlices};
+ghost use Rattle.probe_rules.specs.Rules.{opening, offer, befalls};
+ghost use Rattle.probe_rules.specs.Within.{EventWithin};
+ghost use Rattle.fleet_theory.specs.Fleet.{own};
+ghost use Rattle.fleet_rules.specs.Survey.{Ready, sideByte, sideBetter, Surveyed};
+
+fn one_if(byte: u8) -> usize
+    ensures { λ r. ⌜ r ≡ cond (eqb byte 1) 1 0 ⌝ }
+{
+    if byte == 1 {
+        return 1;
+    }
+    0
+}
+
+// The end's byte on the link k: with value 0 the outbound byte, with value 1 the inbound one.
+fn side_byte(
+    value: u8,
+    rec: &[u8],
+    links: usize,
+    lows: &[u16],
+    highs: &[u16],
+    probe: usize,
+    k: usize,
+) -> u8
+    requires { ⌜ (k < links) × (links ≤ 2048) × (links ≤ length (now lows)) × (links ≤ length (now highs)) × (length (now rec) ≡ 4 * links) ⌝ }
+    ensures { λ r. ⌜ r ≡ sideByte value (own (ofSlices 0 0 links [] (now (lows .entry)) (now (highs .entry)) []) probe (now (rec .entry))) k ⌝ }
+{
+    if value == 1 {
+        return super::own_bytes::in_byte(rec, lows, highs, probe, k);
+    }
+    super::own_bytes::out_byte(rec, lows, highs, probe, k)
+}
+
+// Whether the link k goes before the best so far, which stands earlier in the table.
+fn goes_before(value: u8, costs: &[u16], links: usize, k: usize, best: usize) -> bool
+    requires { ⌜ (links ≤ length (now costs)) × (k < links) ⌝ }
+    ensures { λ r. ⌜ r ≡ (leb links best || cond (eqb value 1) (ltb (item (now (costs .entry)) k) (item (now (costs .entry)) best)) (leb (item (now (costs .entry)) best) (item (now (costs .entry)) k))) ⌝ }
+{
+    if value == 1 {
+        return table_links::order::cheaper_later(costs, links, k, best);
+    }
+    table_links::order::dearer_later(costs, links, k, best)
+}
+
+// The best link so far, with the link k.
+fn best_with(value: u8, byte: u8, costs: &[u16], links: usize, k: usize, best: usize) -> usize
+    requires { ⌜ (links ≤ length (now costs)) × (k < links) ⌝ }
+    ensures { λ r. ⌜ r ≡ cond (eqb byte value && (leb links best || cond (eqb value 1) (ltb (item (now (costs .entry)) k) (item (now (costs .entry)) best)) (leb (item (now (costs .entry)) best) (item (now (costs .entry)) k)))) k best ⌝ }
+{
+    if byte != value {
+        return best;
+    }
+    if goes_before(value, costs, links, k, best) {
+        return k;
+    }
+    best
+}
+
+// The end's links; with value 0 its offers standing and its dearest untried link, with value 1 its offers held and the cheapest of them.
+fn survey(
+    value: u8,
+    rec: &[u8],
+    probes: usize,
+    links: usize,
+    needs: &[u16],
+    lows: &[u16],
+    highs: &[u16],
+    costs: &[u16],
+    probe: usize,
+) -> Survey
+    requires { ⌜ Ready (ofSlices 0 probes links (now needs) (now lows) (now highs) (now costs)) (now rec) (length (now lows)) (length (now highs)) (length (now costs)) ⌝ }
+    ensures { λ r. ⌜ Surveyed (ofSlices 0 probes links (now (needs .entry)) (now (lows .entry)) (now (highs .entry)) (now (costs .entry))) probe (sideByte value (own (ofSlices 0 probes links (now (needs .entry)) (now (lows .entry)) (now (highs .entry)) (now (costs .entry))) probe (now (rec .entry)))) (sideBetter value (ofSlices 0 probes links (now (needs .entry)) (now (lows .entry)) (now (highs .entry)) (now (costs .entry)))) value links r ⌝ }
+{
+    let mut s = Survey {
+        degree: 0,
+        count: 0,
+        best: links,
+    };
+    let mut i = 0;
+    while i < links {
+        let k = i;
+        i += 1;
+        if !table_links::ends::touches(lows, highs, probe, k) {
+            continue;
+        }
+        let byte = side_byte(value, rec, links, lows, highs, probe, k);
+        s = Survey {
+            degree: s.degree + 1,
+            count: s.count + one_if(byte),
+            best: best_with(value, byte, costs, links, k, s.best),
+        };
+    }
+    s
+}
+
+// An end's spare, by its number of links.
+fn spare_of(degree: usize, needs: &[u16], probe: usize) -> usize
+    ensures { λ r. ⌜ r ≡ degree - item (now (needs .entry)) probe ⌝ }
+{
+    if needs.len() <= probe {
+        return degree;
+    }
+    let need = table::numbers::wide(needs[probe]);
+    if degree < need {
+        return 0;
+    }
+    degree - need
+}
+
+fn decide_opening(
+    rec: &[u8],
+    probes: usize,
+    links: usize,
+    needs: &[u16],
+    lows: &[u16],
+    highs: &[u16],
+    costs: &[u16],
+    probe: usize,
+) -> Outcome
+    requires { ⌜ Ready (ofSlices 0 probes links (now needs) (now lows) (now highs) (now costs)) (now rec) (length (now lows)) (length (now highs)) (length (now costs)) ⌝ }
+    ensures { λ r. ⌜ r ≡ opening (ofSlices 0 probes links (now (needs .entry)) (now (lows .entry)) (now (highs .entry)) (now (costs .entry))) probe (own (ofSlices 0 probes links (now (needs .entry)) (now (lows .entry)) (now (highs .entry)) (now (costs .entry))) probe (now (rec .entry))) ⌝ }
+{
+    let s = survey(0, rec, probes, links, needs, lows, highs, costs, probe);
+    if spare_of(s.degree, needs, probe) <= s.count {
+        return Outcome::NothingToOpen;
+    }
+    if links <= s.best {
+        return Outcome::NothingToOpen;
+    }
+    Outcome::Opened(s.best)
+}
+
+fn decide_offer(
+    rec: &[u8],
+    probes: usize,
+    links: usize,
+    needs: &[u16],
+    lows: &[u16],
+    highs: &[u16],
+    costs: &[u16],
+    probe: usize,
+    i: usize,
+) -> Outcome
+    requires { ⌜ Ready (ofSlices 0 probes links (now needs) (now lows) (now highs) (now costs)) (now rec) (length (now lows)) (length (now highs)) (length (now costs)) × (i < links) ⌝ }
+    ensures { λ r. ⌜ r ≡ offer (ofSlices 0 probes links (now (needs .entry)) (now (lows .entry)) (now (highs .entry)) (now (costs .entry))) probe (own (ofSlices 0 probes links (now (needs .entry)) (now (lows .entry)) (now (highs .entry)) (now (costs .entry))) probe (now (rec .entry))) i ⌝ }
+{
+    let s = survey(1, rec, probes, links, needs, lows, highs, costs, probe);
+    if s.count < spare_of(s.degree, needs, probe) {
+        return Outcome::Taken(i);
+    }
+    let displaced = s.best;
+    if links <= displaced {
+        return Outcome::Refused(i);
+    }
+    if table_links::order::dearer(costs, i, displaced) {
+        return Outcome::Displacing { link: i, displaced };
+    }
+    Outcome::Refused(i)
+}
+
+// What befalls the probe.
+pub fn decide(
+    event: Event,
+    rec: &[u8],
+    probes: usize,
+    links: usize,
+    needs: &[u16],
+    lows: &[u16],
+    highs: &[u16],
+    costs: &[u16],
+    probe: usize,
+) -> Outcome
+    requires { ⌜ Ready (ofSlices 0 probes links (now needs) (now lows) (now highs) (now costs)) (now rec) (length (now lows)) (length (now highs)) (length (now costs)) × EventWithin links event ⌝ }
+    ensures { λ r. ⌜ r ≡ befalls (ofSlices 0 probes links (now (needs .entry)) (now (lows .entry)) (now (highs .entry)) (now (costs .entry))) probe event (own (ofSlices 0 probes links (now (needs .entry)) (now (lows .entry)) (now (highs .entry)) (now (costs .entry))) probe (now (rec .entry))) ⌝ }
+{
+    match event {
+        Event::Opening => decide_opening(rec, probes, links, needs, lows, highs, costs, probe),
+        Event::Offer(i) => {
+            if super::own_bytes::in_byte(rec, lows, highs, probe, i) != 0 {
+                return Outcome::NoChange(i);
+            }
+            decide_offer(rec, probes, links, needs, lows, highs, costs, probe, i)
+        }
+        Event::Refusal(i) => {
+            if super::own_bytes::out_byte(rec, lows, highs, probe, i) == 2 {
+                return Outcome::NoChange(i);
+            }
+            Outcome::Learnt(i)
+        }
+    }
+}

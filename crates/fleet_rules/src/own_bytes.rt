@@ -1,0 +1,88 @@
+// The functions, each within the bounds that it asks.
+ghost use mathlib.Core.Path.{_≡_};
+ghost use mathlib.Core.Bool.{cond};
+ghost use mathlib.Core.List.{[]};
+ghost use Prim.Native.Nat.{_+_, _*_, _/_, _<_};
+ghost use lib.ListN.{length};
+ghost use Rattle.table.specs.Table.{item, ofSlices, touches};
+ghost use Rattle.probe_rules.specs.Within.{Within};
+ghost use Rattle.fleet_theory.specs.Fleet.{outAt, inAt, alterFleet};
+
+// Where the probe's outbound byte on a link stands.
+fn out_at(lows: &[u16], probe: usize, i: usize) -> usize
+    requires { ⌜ (i < length (now lows)) × (i < 65536) ⌝ }
+    ensures { λ r. ⌜ r ≡ outAt (ofSlices 0 0 0 [] (now (lows .entry)) [] []) probe i ⌝ }
+{
+    if probe == table::numbers::wide(lows[i]) {
+        return 4 * i;
+    }
+    4 * i + 2
+}
+
+// Where its inbound byte stands.
+fn in_at(lows: &[u16], probe: usize, i: usize) -> usize
+    requires { ⌜ (i < length (now lows)) × (i < 65536) ⌝ }
+    ensures { λ r. ⌜ r ≡ inAt (ofSlices 0 0 0 [] (now (lows .entry)) [] []) probe i ⌝ }
+{
+    if probe == table::numbers::wide(lows[i]) {
+        return 4 * i + 3;
+    }
+    4 * i + 1
+}
+
+// The probe's outbound byte on a link, 0 where the link is not its own.
+pub fn out_byte(rec: &[u8], lows: &[u16], highs: &[u16], probe: usize, i: usize) -> u8
+    requires { ⌜ (i < length (now lows)) × (i < length (now highs)) × (i < 65536) × (4 * i + 3 < length (now rec)) ⌝ }
+    ensures { λ r. ⌜ r ≡ cond (touches (ofSlices 0 0 0 [] (now (lows .entry)) (now (highs .entry)) []) probe i) (item (now (rec .entry)) (outAt (ofSlices 0 0 0 [] (now (lows .entry)) [] []) probe i)) 0 ⌝ }
+{
+    if !table_links::ends::touches(lows, highs, probe, i) {
+        return 0;
+    }
+    let at = out_at(lows, probe, i);
+    rec[at]
+}
+
+// Its inbound byte.
+pub fn in_byte(rec: &[u8], lows: &[u16], highs: &[u16], probe: usize, i: usize) -> u8
+    requires { ⌜ (i < length (now lows)) × (i < length (now highs)) × (i < 65536) × (4 * i + 3 < length (now rec)) ⌝ }
+    ensures { λ r. ⌜ r ≡ cond (touches (ofSlices 0 0 0 [] (now (lows .entry)) (now (highs .entry)) []) probe i) (item (now (rec .entry)) (inAt (ofSlices 0 0 0 [] (now (lows .entry)) [] []) probe i)) 0 ⌝ }
+{
+    if !table_links::ends::touches(lows, highs, probe, i) {
+        return 0;
+    }
+    let at = in_at(lows, probe, i);
+    rec[at]
+}
+
+// Alters the fleet's record by what befell the probe.
+pub fn alter_fleet(rec: &mut [u8], outcome: probe_rules::Outcome, lows: &[u16], probe: usize)
+    requires { ⌜ (Within (length (now rec) / 4) outcome) × (Within (length (now lows)) outcome) × (Within 65536 outcome) ⌝ }
+    ensures { λ _. ⌜ now (rec .exit) ≡ alterFleet (ofSlices 0 0 0 [] (now (lows .entry)) [] []) probe outcome (now (rec .entry)) ⌝ }
+{
+    match outcome {
+        probe_rules::Outcome::Opened(i) => {
+            let at = out_at(lows, probe, i);
+            rec[at] = 1;
+        }
+        probe_rules::Outcome::NothingToOpen => {}
+        probe_rules::Outcome::Taken(i) => {
+            let at = in_at(lows, probe, i);
+            rec[at] = 1;
+        }
+        probe_rules::Outcome::Displacing { link, displaced } => {
+            let at = in_at(lows, probe, link);
+            let next = in_at(lows, probe, displaced);
+            rec[at] = 1;
+            rec[next] = 2;
+        }
+        probe_rules::Outcome::Refused(i) => {
+            let at = in_at(lows, probe, i);
+            rec[at] = 2;
+        }
+        probe_rules::Outcome::Learnt(i) => {
+            let at = out_at(lows, probe, i);
+            rec[at] = 2;
+        }
+        probe_rules::Outcome::NoChange(_) => {}
+    }
+}

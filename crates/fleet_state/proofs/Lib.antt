@@ -1,0 +1,5 @@
+pub mod Legal
+pub mod CountLaws
+pub mod CheckLaws
+pub mod Spares
+pub mod Finished

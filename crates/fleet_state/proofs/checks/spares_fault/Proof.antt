@@ -1,0 +1,87 @@
+-- `fleet_state::checks::spares_fault` meets its contract.
+use borrow.Author.Needs.{needs}
+use Rattle.fleet_state.proofs.checks.spares_fault.Statement.{statement}
+use Rattle.fleet_state.proofs.checks.spares_fault.Tie as tie
+use mathlib.Core.Path.{_≡_, _∙_}
+use mathlib.Core.List.{[]}
+use native.Mathlib.Omega.{arith}
+use lib.ListN.{length}
+use Rattle.range.proofs.Faults.{first-same}
+use Rattle.range.proofs.Lists.{zeros-at}
+use Rattle.table.specs.Table.{Table, ofSlices}
+use Rattle.fleet_state.proofs.Legal.{legal-size, legal-links, fits-ends}
+use Rattle.fleet_state.proofs.Spares.{over-counted}
+
+slice-aggregate-count-degrees : tie.Need-slice-aggregate-count-degrees
+slice-aggregate-count-degrees c = search needs
+
+count-degrees-requires : tie.Need-count-degrees-requires
+count-degrees-requires c κs =
+    let a = c .before .before .before .before .before .args in
+    let p = c .before .before .before .before .before .pre .0 in
+    let t = ofSlices 0 (a .probes) (a .links) (a .needs .now) (a .lows .now) (a .highs .now) [] in
+    let s = legal-size t (p .legal) in
+    (p .in-lows, p .in-highs, omega (arith, s .within), omega (arith, s .few), legal-links t (p .legal), zeros-at 256)
+
+slice-aggregate-count-bytes : tie.Need-slice-aggregate-count-bytes
+slice-aggregate-count-bytes c = search needs
+
+count-bytes-requires : tie.Need-count-bytes-requires
+count-bytes-requires c κs =
+    let a = c .before .before .before .before .before .before .before .before .args in
+    let p = c .before .before .before .before .before .before .before .before .pre .0 in
+    let s = legal-size (ofSlices 0 (a .probes) (a .links) (a .needs .now) (a .lows .now) (a .highs .now) []) (p .legal) in
+    let ends = fits-ends (a .probes) (a .links) (a .needs .now) (a .lows .now) (a .highs .now) p in
+    (p .in-lows, p .in-highs, omega (arith, s .within), c .before .before .before .before .before .before .before .before .pre .1, search needs, search needs, ends, zeros-at 256)
+
+slice-aggregate-count-bytes-2 : tie.Need-slice-aggregate-count-bytes-2
+slice-aggregate-count-bytes-2 c = search needs
+
+count-bytes-requires-2 : tie.Need-count-bytes-requires-2
+count-bytes-requires-2 c κs =
+    let a = c .before .before .before .before .before .before .before .before .before .before .before .args in
+    let p = c .before .before .before .before .before .before .before .before .before .before .before .pre .0 in
+    let s = legal-size (ofSlices 0 (a .probes) (a .links) (a .needs .now) (a .lows .now) (a .highs .now) []) (p .legal) in
+    let ends = fits-ends (a .probes) (a .links) (a .needs .now) (a .lows .now) (a .highs .now) p in
+    (p .in-lows, p .in-highs, omega (arith, s .within), c .before .before .before .before .before .before .before .before .before .before .before .pre .1, search needs, search needs, ends, zeros-at 256)
+
+slice-aggregate-counted-fault : tie.Need-slice-aggregate-counted-fault
+slice-aggregate-counted-fault c = search needs
+
+slice-aggregate-counted-fault-2 : tie.Need-slice-aggregate-counted-fault-2
+slice-aggregate-counted-fault-2 c = search needs
+
+slice-aggregate-counted-fault-3 : tie.Need-slice-aggregate-counted-fault-3
+slice-aggregate-counted-fault-3 c = search needs
+
+counted-fault-requires : tie.Need-counted-fault-requires
+counted-fault-requires c κs =
+    let a = c .before .before .before .before .before .before .before .before .before .before .before .before .before .before .before .before .args in
+    let p = c .before .before .before .before .before .before .before .before .before .before .before .before .before .before .before .before .pre .0 in
+    let s = legal-size (ofSlices 0 (a .probes) (a .links) (a .needs .now) (a .lows .now) (a .highs .now) []) (p .legal) in
+    let d : length (c .before .before .before .before .before .before .before .before .before .before .count-degrees .last .0) ≡ 256 = c .before .before .before .before .before .before .before .before .before .before .count-degrees .kept .0 in
+    let e : length (c .before .before .before .before .before .before .before .count-bytes .last .0) ≡ 256 = c .before .before .before .before .before .before .before .count-bytes .kept .0 in
+    let f : length (c .before .before .before .before .count-bytes2 .last .0) ≡ 256 = c .before .before .before .before .count-bytes2 .kept .0 in
+    (p .in-needs, omega (arith, s .few), omega (arith, s .few), omega (arith, s .few))
+
+returns : tie.Need-returns
+returns c =
+    let a = c .before .before .before .before .before .before .before .before .before .before .before .before .before .before .before .before .before .args in
+    let t : Table = ofSlices 0 (a .probes) (a .links) (a .needs .now) (a .lows .now) (a .highs .now) [] in
+    c .counted-fault .ensures ∙ first-same _ _ (a .probes) (λ v l. over-counted t (a .rec .now) v _ _ _ (c .before .before .before .before .before .before .before .before .before .before .before .count-degrees .ensures v) (c .before .before .before .before .before .before .before .before .count-bytes .ensures v) (c .before .before .before .before .before .count-bytes2 .ensures v))
+
+pub spares-fault-spec : {M : Type 1} → statement M
+spares-fault-spec =
+    tie.close
+    (tie.spec
+    slice-aggregate-count-degrees
+    count-degrees-requires
+    slice-aggregate-count-bytes
+    count-bytes-requires
+    slice-aggregate-count-bytes-2
+    count-bytes-requires-2
+    slice-aggregate-counted-fault
+    slice-aggregate-counted-fault-2
+    slice-aggregate-counted-fault-3
+    counted-fault-requires
+    returns)

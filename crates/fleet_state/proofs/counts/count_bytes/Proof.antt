@@ -1,0 +1,138 @@
+-- `fleet_state::counts::count_bytes` meets its contract.
+use borrow.Author.Needs.{needs}
+use Rattle.fleet_state.proofs.counts.count_bytes.Statement.{statement}
+use Rattle.fleet_state.proofs.counts.count_bytes.Tie as tie
+use Prim.Native.Nat.{ℕ, _-_, _≤_}
+use mathlib.Core.Path.{_≡_, refl, _∙_, ap}
+use native.Mathlib.Omega.{arith}
+use lib.ListN.{length, getD, length-set}
+use lib.Seq.{getD-set-other}
+use Rattle.range.specs.Sum.{sum}
+use Rattle.range.proofs.Sums.{count-le}
+use Rattle.table.specs.Table.{item}
+use Rattle.fleet_state.specs.Within.{endWith}
+use Rattle.fleet_state.proofs.CountLaws.{countedAt, counted-next}
+
+abbrev Inv-loop : tie.InvT-loop
+Inv-loop counts₀ rec links lows highs k m value i₀ counts i = (i ≤ links) × ((v : ℕ) → getD counts v 0 ≡ countedAt (item lows) (item highs) rec k m value i v) × (length counts ≡ length counts₀)
+
+abbrev μ-loop : tie.MeasureT-loop
+μ-loop counts₀ rec links lows highs k m value i₀ counts i = links - i
+
+loop-holds : tie.Need-loop-holds Inv-loop μ-loop
+unfolding sum
+loop-holds c = (search needs, c .before .before .before .before .pre .7, refl)
+
+mul-wide : tie.Need-mul-wide Inv-loop μ-loop
+mul-wide c = search needs
+
+shared-slice-read-wide : tie.Need-shared-slice-read-wide Inv-loop μ-loop
+shared-slice-read-wide c = search needs
+
+wide-requires : tie.Need-wide-requires Inv-loop μ-loop
+wide-requires c κs = search needs
+
+mul-wide-2 : tie.Need-mul-wide-2 Inv-loop μ-loop
+mul-wide-2 c = search needs
+
+shared-slice-read-wide-2 : tie.Need-shared-slice-read-wide-2 Inv-loop μ-loop
+shared-slice-read-wide-2 c = search needs
+
+wide-requires-2 : tie.Need-wide-requires-2 Inv-loop μ-loop
+wide-requires-2 c κs = search needs
+
+mul-add-if : tie.Need-mul-add-if Inv-loop μ-loop
+mul-add-if c = search needs
+
+add-add-if : tie.Need-add-add-if Inv-loop μ-loop
+add-add-if c = search needs
+
+shared-slice-read-add-if : tie.Need-shared-slice-read-add-if Inv-loop μ-loop
+shared-slice-read-add-if c = search needs
+
+add-if-requires : tie.Need-add-if-requires Inv-loop μ-loop
+add-if-requires c κs =
+    let l = c .before .before .before .before .before .before .before .loop in
+    let a = c .before .before .before .before .before .before .before .before .before .before .before .before .args in
+    let g = c .before .before .before .before .before .before .before .before .before .before .before .before .pre .6 (l .i) (c .before .before .before .before .before .before .loop-test .taken) in
+    let e = c .before .before .before .before .wide .ensures in
+    let n = count-le (l .i) (endWith (item (a .lows .now)) (item (a .highs .now)) (a .rec .now) (a .k) (a .m) (a .value) (c .before .before .before .before .wide .result)) in
+    let q = l .inv .1 (c .before .before .before .before .wide .result) in
+    let s = l .inv .2 in
+    (omega arith, omega arith)
+
+mul-add-if-2 : tie.Need-mul-add-if-2 Inv-loop μ-loop
+mul-add-if-2 c = search needs
+
+add-add-if-2 : tie.Need-add-add-if-2 Inv-loop μ-loop
+add-add-if-2 c = search needs
+
+shared-slice-read-add-if-2 : tie.Need-shared-slice-read-add-if-2 Inv-loop μ-loop
+shared-slice-read-add-if-2 c = search needs
+
+add-if-requires-2 : tie.Need-add-if-requires-2 Inv-loop μ-loop
+add-if-requires-2 c κs =
+    let l = c .before .before .before .before .before .before .before .before .before .before .before .before .loop in
+    let a = c .before .before .before .before .before .before .before .before .before .before .before .before .before .before .before .before .before .args in
+    let g = c .before .before .before .before .before .before .before .before .before .before .before .before .before .before .before .before .before .pre .6 (l .i) (c .before .before .before .before .before .before .before .before .before .before .before .loop-test .taken) in
+    let e = c .before .before .before .before .before .before .before .before .before .wide .ensures in
+    let f = c .before .before .before .before .before .before .before .wide2 .ensures in
+    let n = count-le (l .i) (endWith (item (a .lows .now)) (item (a .highs .now)) (a .rec .now) (a .k) (a .m) (a .value) (c .before .before .before .before .before .before .before .wide2 .result)) in
+    let q = l .inv .1 (c .before .before .before .before .before .before .before .wide2 .result) in
+    let o = ap (λ x. getD x (c .before .before .before .before .before .before .before .wide2 .result) 0) (c .before .before .before .before .add-if .ensures) ∙ getD-set-other (l .counts) (c .before .before .before .before .before .before .before .before .before .wide .result) (c .before .before .before .before .before .before .before .wide2 .result) _ 0 (λ z. omega arith) in
+    let s = simp length-set at (ap length (c .before .before .before .before .add-if .ensures)) in
+    let w = l .inv .2 in
+    (omega arith, omega arith)
+
+add-i : tie.Need-add-i Inv-loop μ-loop
+add-i c = search needs
+
+loop-less : tie.Need-loop-less Inv-loop μ-loop
+loop-less c = search needs
+
+loop-again : tie.Need-loop-again Inv-loop μ-loop
+loop-again c =
+    let l = c .before .before .before .before .before .before .before .before .before .before .before .before .before .before .before .loop in
+    let a = c .before .before .before .before .before .before .before .before .before .before .before .before .before .before .before .before .before .before .before .before .args in
+    let g = c .before .before .before .before .before .before .before .before .before .before .before .before .before .before .before .before .before .before .before .before .pre .6 (l .i) (c .before .before .before .before .before .before .before .before .before .before .before .before .before .before .loop-test .taken) in
+    let one = c .before .before .before .before .before .before .before .add-if .ensures in
+    let two = c .before .before .add-if2 .ensures in
+    let s = simp length-set at (ap length one) in
+    let t = simp length-set at (ap length two) in
+    let w = l .inv .2 in
+    (search needs, λ v. counted-next (item (a .lows .now)) (item (a .highs .now)) (a .rec .now) (a .k) (a .m) (a .value) (l .i) _ _ (l .counts) _ _ (c .before .before .before .before .before .before .before .before .before .before .before .before .wide .ensures) (c .before .before .before .before .before .before .before .before .before .before .wide2 .ensures) (omega arith) (omega arith) (g .rises) one two v (l .inv .1 v), omega arith)
+
+same-length : tie.Need-same-length Inv-loop μ-loop
+same-length c = c .before .loop .inv .2
+
+returns : tie.Need-returns Inv-loop μ-loop
+returns c =
+    let e : c .before .loop .i ≡ c .before .before .before .before .before .before .args .links = omega arith in
+    λ v. rw (← e) (c .before .loop .inv .1 v)
+
+pub count-bytes-spec : {M : Type 1} → statement M
+count-bytes-spec =
+    tie.close
+    (tie.spec
+    Inv-loop
+    μ-loop
+    loop-holds
+    mul-wide
+    shared-slice-read-wide
+    wide-requires
+    mul-wide-2
+    shared-slice-read-wide-2
+    wide-requires-2
+    mul-add-if
+    add-add-if
+    shared-slice-read-add-if
+    add-if-requires
+    mul-add-if-2
+    add-add-if-2
+    shared-slice-read-add-if-2
+    add-if-requires-2
+    add-i
+    loop-less
+    loop-again
+    same-length
+    returns)

@@ -1,0 +1,102 @@
+-- `fleet_state::finishing::is_finished` meets its contract.
+use borrow.Author.Needs.{needs}
+use Rattle.fleet_state.proofs.finishing.is_finished.Statement.{statement}
+use Rattle.fleet_state.proofs.finishing.is_finished.Tie as tie
+use Prim.Native.Nat.{ℕ}
+use mathlib.Core.Path.{_≡_, _∙_, ap}
+use mathlib.Core.List.{[]}
+use native.Mathlib.Omega.{arith}
+use lib.Dec.{eqb}
+use lib.ListN.{length}
+use borrow.Author.Tests.{not-true, not-false}
+use Rattle.range.proofs.Lists.{zeros-at}
+use Rattle.range.proofs.Sums.{weigh-same}
+use Rattle.table.specs.Table.{Table, ofSlices}
+use Rattle.fleet_theory.specs.Fleet.{opens}
+use Rattle.fleet_state.proofs.Legal.{legal-size, legal-links, fits-ends}
+use Rattle.fleet_state.proofs.Finished.{open-counted, not-finished, finished-counted}
+
+none-stirs-requires : tie.Need-none-stirs-requires
+none-stirs-requires c κs = search needs
+
+returns : tie.Need-returns
+returns c =
+    let a = c .before .before .before .before .before .before .args in
+    λ number costs. not-finished (ofSlices number (a .probes) (a .links) (a .needs .now) (a .lows .now) (a .highs .now) costs) (a .rec .now) (c .before .before .before .before .before .before .pre .0 .legal) _ (c .before .none-stirs .ensures) (not-true _ (c .if1 .taken))
+
+slice-aggregate-count-degrees : tie.Need-slice-aggregate-count-degrees
+slice-aggregate-count-degrees c = search needs
+
+count-degrees-requires : tie.Need-count-degrees-requires
+count-degrees-requires c κs =
+    let a = c .before .before .before .before .before .before .before .args in
+    let p = c .before .before .before .before .before .before .before .pre .0 in
+    let t = ofSlices 0 (a .probes) (a .links) (a .needs .now) (a .lows .now) (a .highs .now) [] in
+    let s = legal-size t (p .legal) in
+    (p .in-lows, p .in-highs, omega (arith, s .within), omega (arith, s .few), legal-links t (p .legal), zeros-at 256)
+
+slice-aggregate-count-bytes : tie.Need-slice-aggregate-count-bytes
+slice-aggregate-count-bytes c = search needs
+
+count-bytes-requires : tie.Need-count-bytes-requires
+count-bytes-requires c κs =
+    let a = c .before .before .before .before .before .before .before .before .before .before .args in
+    let p = c .before .before .before .before .before .before .before .before .before .before .pre .0 in
+    let s = legal-size (ofSlices 0 (a .probes) (a .links) (a .needs .now) (a .lows .now) (a .highs .now) []) (p .legal) in
+    let ends = fits-ends (a .probes) (a .links) (a .needs .now) (a .lows .now) (a .highs .now) p in
+    (p .in-lows, p .in-highs, omega (arith, s .within), c .before .before .before .before .before .before .before .before .before .before .pre .1, search needs, search needs, ends, zeros-at 256)
+
+slice-aggregate-count-bytes-2 : tie.Need-slice-aggregate-count-bytes-2
+slice-aggregate-count-bytes-2 c = search needs
+
+count-bytes-requires-2 : tie.Need-count-bytes-requires-2
+count-bytes-requires-2 c κs =
+    let a = c .before .before .before .before .before .before .before .before .before .before .before .before .before .args in
+    let p = c .before .before .before .before .before .before .before .before .before .before .before .before .before .pre .0 in
+    let s = legal-size (ofSlices 0 (a .probes) (a .links) (a .needs .now) (a .lows .now) (a .highs .now) []) (p .legal) in
+    let ends = fits-ends (a .probes) (a .links) (a .needs .now) (a .lows .now) (a .highs .now) p in
+    (p .in-lows, p .in-highs, omega (arith, s .within), c .before .before .before .before .before .before .before .before .before .before .before .before .before .pre .1, search needs, search needs, ends, zeros-at 256)
+
+slice-aggregate-none-opens : tie.Need-slice-aggregate-none-opens
+slice-aggregate-none-opens c = search needs
+
+slice-aggregate-none-opens-2 : tie.Need-slice-aggregate-none-opens-2
+slice-aggregate-none-opens-2 c = search needs
+
+slice-aggregate-none-opens-3 : tie.Need-slice-aggregate-none-opens-3
+slice-aggregate-none-opens-3 c = search needs
+
+none-opens-requires : tie.Need-none-opens-requires
+none-opens-requires c κs =
+    let a = c .before .before .before .before .before .before .before .before .before .before .before .before .before .before .before .before .before .before .args in
+    let p = c .before .before .before .before .before .before .before .before .before .before .before .before .before .before .before .before .before .before .pre .0 in
+    let s = legal-size (ofSlices 0 (a .probes) (a .links) (a .needs .now) (a .lows .now) (a .highs .now) []) (p .legal) in
+    let d : length (c .before .before .before .before .before .before .before .before .before .before .count-degrees .last .0) ≡ 256 = c .before .before .before .before .before .before .before .before .before .before .count-degrees .kept .0 in
+    let e : length (c .before .before .before .before .before .before .before .count-bytes .last .0) ≡ 256 = c .before .before .before .before .before .before .before .count-bytes .kept .0 in
+    let f : length (c .before .before .before .before .count-bytes2 .last .0) ≡ 256 = c .before .before .before .before .count-bytes2 .kept .0 in
+    (p .in-needs, omega (arith, s .few), omega (arith, s .few), omega (arith, s .few))
+
+returns-2 : tie.Need-returns-2
+returns-2 c =
+    let a = c .before .before .before .before .before .before .before .before .before .before .before .before .before .before .before .before .before .before .before .args in
+    λ number costs.
+    let t : Table = ofSlices number (a .probes) (a .links) (a .needs .now) (a .lows .now) (a .highs .now) costs in
+    finished-counted t (a .rec .now) (c .before .before .before .before .before .before .before .before .before .before .before .before .before .before .before .before .before .before .before .pre .0 .legal) _ _ (c .before .before .before .before .before .before .before .before .before .before .before .before .before .before .none-stirs .ensures) (not-false _ (c .before .before .before .before .before .before .before .before .before .before .before .before .before .if1 .left)) (c .none-opens .ensures ∙ ap (λ (k : ℕ). eqb k 0) (weigh-same (a .probes) _ (opens t (a .rec .now)) (λ i. 1) (λ v l. open-counted t (a .rec .now) v _ _ _ (c .before .before .before .before .before .before .before .before .before .before .before .count-degrees .ensures v) (c .before .before .before .before .before .before .before .before .count-bytes .ensures v) (c .before .before .before .before .before .count-bytes2 .ensures v))))
+
+pub is-finished-spec : {M : Type 1} → statement M
+is-finished-spec =
+    tie.close
+    (tie.spec
+    none-stirs-requires
+    returns
+    slice-aggregate-count-degrees
+    count-degrees-requires
+    slice-aggregate-count-bytes
+    count-bytes-requires
+    slice-aggregate-count-bytes-2
+    count-bytes-requires-2
+    slice-aggregate-none-opens
+    slice-aggregate-none-opens-2
+    slice-aggregate-none-opens-3
+    none-opens-requires
+    returns-2)

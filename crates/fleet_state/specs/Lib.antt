@@ -1,0 +1,3 @@
+pub mod Within
+pub mod Faults
+pub mod Stirring

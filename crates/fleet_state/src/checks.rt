@@ -1,0 +1,116 @@
+// The functions, each within the bounds that it asks.
+ghost use mathlib.Core.Path.{_≡_};
+ghost use mathlib.Core.List.{[]};
+ghost use Prim.Native.Nat.{_*_, _-_, _<_, _≤_};
+ghost use lib.ListN.{length};
+ghost use Rattle.range.specs.First.{orElse, first};
+ghost use Rattle.table.specs.Legal.{sliceFault};
+ghost use Rattle.probe_record.specs.Record.{spareFault};
+ghost use Rattle.table.specs.Table.{item, ofSlices};
+ghost use Rattle.fleet_theory.specs.Fleet.{own, fleetFault};
+ghost use Rattle.fleet_state.specs.Faults.{overTwo, overFault};
+ghost use Rattle.fleet_state.specs.Within.{Fits};
+
+// 21.
+fn bytes_fault(rec: &[u8], n: usize) -> u8
+    requires { ⌜ n ≤ length (now rec) ⌝ }
+    ensures { λ r. ⌜ r ≡ first (overTwo (now (rec .entry))) n ⌝ }
+{
+    let mut j = 0;
+    while j < n {
+        if 2 < rec[j] {
+            return 21;
+        }
+        j += 1;
+    }
+    0
+}
+
+// 22, by the probes' counts.
+fn counted_fault(
+    probes: usize,
+    needs: &[u16],
+    degrees: &[u16],
+    standing: &[u16],
+    held: &[u16],
+) -> u8
+    requires { ⌜ (probes ≤ length (now needs)) × (probes ≤ length (now degrees)) × (probes ≤ length (now standing)) × (probes ≤ length (now held)) ⌝ }
+    ensures { λ r. ⌜ r ≡ first (λ v. overFault (item (now (degrees .entry)) v - item (now (needs .entry)) v) (item (now (standing .entry)) v) (item (now (held .entry)) v)) probes ⌝ }
+{
+    let mut v = 0;
+    while v < probes {
+        let spare = super::counts::spare_at(degrees, needs, v);
+        if spare < standing[v] {
+            return 22;
+        }
+        if spare < held[v] {
+            return 22;
+        }
+        v += 1;
+    }
+    0
+}
+
+// 22.
+fn spares_fault(
+    probes: usize,
+    links: usize,
+    needs: &[u16],
+    lows: &[u16],
+    highs: &[u16],
+    rec: &[u8],
+) -> u8
+    requires { ⌜ Fits probes links (now needs) (now lows) (now highs) × (4 * links ≤ length (now rec)) ⌝ }
+    ensures { λ r. ⌜ r ≡ first (λ p. spareFault (ofSlices 0 probes links (now (needs .entry)) (now (lows .entry)) (now (highs .entry)) []) p
+        (own (ofSlices 0 probes links (now (needs .entry)) (now (lows .entry)) (now (highs .entry)) []) p (now (rec .entry)))) probes ⌝ }
+{
+    let mut degrees = [0u16; 256];
+    let mut standing = [0u16; 256];
+    let mut held = [0u16; 256];
+    table::degrees::count_degrees(&mut degrees, probes, links, lows, highs);
+    super::counts::count_bytes(&mut standing, rec, links, lows, highs, 0, 2, 1);
+    super::counts::count_bytes(&mut held, rec, links, lows, highs, 3, 1, 1);
+    counted_fault(probes, needs, &degrees, &standing, &held)
+}
+
+// 20, 21, 22.
+fn fleet_fault(
+    probes: usize,
+    links: usize,
+    needs: &[u16],
+    lows: &[u16],
+    highs: &[u16],
+    rec: &[u8],
+) -> u8
+    requires { ⌜ Fits probes links (now needs) (now lows) (now highs) ⌝ }
+    ensures { λ r. ⌜ r ≡ fleetFault (ofSlices 0 probes links (now (needs .entry)) (now (lows .entry)) (now (highs .entry)) []) (now (rec .entry)) ⌝ }
+{
+    if rec.len() != 4 * links {
+        return 20;
+    }
+    let fault = bytes_fault(rec, 4 * links);
+    if fault != 0 {
+        return fault;
+    }
+    spares_fault(probes, links, needs, lows, highs, rec)
+}
+
+// The table's own, then 20, 21, 22.
+pub fn state_fault(
+    probes: usize,
+    links: usize,
+    needs: &[u16],
+    lows: &[u16],
+    highs: &[u16],
+    costs: &[u16],
+    rec: &[u8],
+) -> u8
+    ensures { λ r. ⌜ r ≡ orElse (sliceFault 256 2048 0 probes links (now (needs .entry)) (now (lows .entry)) (now (highs .entry)) (now (costs .entry)))
+        (fleetFault (ofSlices 0 probes links (now (needs .entry)) (now (lows .entry)) (now (highs .entry)) (now (costs .entry))) (now (rec .entry))) ⌝ }
+{
+    let fault = table::checks::slice_fault(256, 2048, probes, links, needs, lows, highs, costs);
+    if fault != 0 {
+        return fault;
+    }
+    fleet_fault(probes, links, needs, lows, highs, rec)
+}

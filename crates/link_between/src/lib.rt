@@ -1,2 +1,0 @@
-// The link between two probes.
-pub mod core;

@@ -1,2 +1,0 @@
-// Offers and displacements, which call each other.
-pub mod core;

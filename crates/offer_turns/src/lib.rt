@@ -1,2 +1,0 @@
-// The turns of the probes, in number order.
-pub mod core;

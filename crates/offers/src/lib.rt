@@ -1,1 +1,0 @@
-// Offers by turn: definitions and laws, with no function.

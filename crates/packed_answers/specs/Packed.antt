@@ -1,0 +1,30 @@
+-- Answers as one number, for callers in other languages. A refusal is its number; any other answer is 2 ^ 48 or more.
+use Prim.Native.Nat.{ℕ, _+_, _*_, _^_}
+use mathlib.Core.Path.{_≡_}
+use mathlib.Core.Bool.{cond}
+use mathlib.Core.List.{List}
+use lib.Dec.{eqb}
+use lib.ListN.{length}
+use Rattle.output.specs.Output.{Prints}
+use Rattle.output.specs.declared.Output.{Output}
+use Rattle.output.specs.declared.Output.the-variants.{Length as Printed, Refused as Unprinted}
+use Rattle.wake_log.specs.declared.Answer.{Answer}
+use Rattle.wake_log.specs.declared.Answer.the-variants.{Logged, Refused as Unlogged}
+use Rattle.wake_log.specs.Entry.{codeOf, linkOf, displacedOf}
+
+abbrev pub packedOutput : Output → ℕ
+packedOutput (Printed length) = 2 ^ 48 + length
+packedOutput (Unprinted refusal) = refusal
+
+-- an entry: the probe above its code, 8 bits, above the link's place and the displaced probe, 16 bits each
+abbrev pub packedAnswer : Answer → ℕ
+packedAnswer (Logged e) = 2 ^ 63 + e .probe * 2 ^ 40 + codeOf (e .what) * 2 ^ 32 + linkOf (e .what) * 2 ^ 16 + displacedOf (e .what)
+packedAnswer (Unlogged refusal) = refusal
+
+-- the length of what is printed, or the refusal
+abbrev pub printedOf : ℕ → List ℕ → Output
+printedOf fault printed = cond (eqb fault 0) (Printed (length printed)) (Unprinted fault)
+
+pub record PrintsPacked (fault : ℕ) (printed : List ℕ) (r : ℕ) (before after : List ℕ) : Type 0 where
+  pub answer : r ≡ packedOutput (printedOf fault printed)
+  pub lent : Prints fault printed (printedOf fault printed) before after

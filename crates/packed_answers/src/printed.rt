@@ -1,0 +1,16 @@
+// Answers as one number, for callers in other languages.
+ghost use mathlib.Core.Path.{_≡_};
+ghost use Prim.Native.Nat.{ℕ, _^_, _<_};
+ghost use Rattle.output.specs.declared.Output.the-variants.{Length as Printed};
+ghost use Rattle.packed_answers.specs.Packed.{packedOutput};
+use output::Output;
+
+pub fn packed_output(r: Output) -> u64
+    requires { ⌜ ((length : ℕ) → r ≡ Printed length → length < 2 ^ 63) ⌝ }
+    ensures { λ n. ⌜ n ≡ packedOutput r ⌝ }
+{
+    match r {
+        Output::Length(length) => length as u64 + 281474976710656,
+        Output::Refused(refusal) => refusal as u64,
+    }
+}

@@ -1,0 +1,59 @@
+-- How the code comes to its answer.
+use Prim.Native.Nat.{ℕ, _≤_, _<_}
+use mathlib.Core.Path.{_≡_, refl, _∙_, ap}
+use mathlib.Core.Bool.{Bool, true, false}
+use mathlib.Core.List.{List}
+use lib.Dec.{eqb}
+use lib.ListN.{length, replicate}
+use borrow.Author.Tests.{ne-eqb}
+use Rattle.range.specs.Sum.{weigh, count}
+use Rattle.range.specs.Lists.{stored}
+use Rattle.range.proofs.Sums.{weigh-same}
+use Rattle.range.proofs.Lists.{stored-at}
+use Rattle.table.specs.Table.{Table, item, ofSlices, dearer}
+use Rattle.plan_theory.specs.Plan.{kept, rested}
+use Rattle.plan_slse.specs.Ordered.{planByte}
+use Rattle.plan_methods.specs.Planning.{Plans, PlansByTurns}
+use Rattle.plan_methods.specs.declared.Planning.{Planning}
+use Rattle.plan_methods.specs.declared.Planning.the-variants.{Plan, Refused}
+
+pub plans-refused : (fault r : ℕ) (t : Table) (plan : List ℕ) → r ≡ fault → (r ≡ 0 → ⊥) → Plans fault t (Refused r) plan plan
+plans-refused fault r t plan e n =
+    let k = ne-eqb fault 0 (λ z. n (e ∙ z)) in
+    record { answer = rw (e, k); plan = rw k }
+
+pub plans-made : (fault : ℕ) (t : Table) (r : Planning) (plan plan′ : List ℕ) → fault ≡ 0 → t .links ≤ length plan
+    → plan′ ≡ stored (λ i. planByte (kept t i)) (t .links) plan
+    → r ≡ Plan (count (t .links) (λ i. eqb (item plan′ i) 1)) (weigh (t .links) (λ i. eqb (item plan′ i) 1) (t .cost))
+    → Plans fault t r plan plan′
+plans-made fault t r plan plan′ z room p e =
+    record {
+      answer =
+          e
+          ∙ rw (z, weigh-same (t .links) (λ i. eqb (item plan′ i) 1) (kept t) (λ i. 1) same, weigh-same (t .links) (λ i. eqb (item plan′ i) 1) (kept t) (t .cost) same);
+      plan = rw z p;
+    }
+  where
+    byte : (b : Bool) → eqb (planByte b) 1 ≡ b
+    byte true = refl
+    byte false = refl
+
+    same : (i : ℕ) → i < t .links → eqb (item plan′ i) 1 ≡ kept t i
+    same i l =
+        ap (λ (x : List ℕ). eqb (item x i) 1) p
+        ∙ ap (λ (x : ℕ). eqb x 1) (stored-at (λ i. planByte (kept t i)) (t .links) plan i room l)
+        ∙ byte (kept t i)
+
+-- the plan does not depend on the table's number
+pub numbered : (number probes links : ℕ) (needs lows highs costs plan plan′ : List ℕ) → plan′ ≡ stored (λ i. planByte (kept (ofSlices 0 probes links needs lows highs costs) i)) links plan
+    → plan′ ≡ stored (λ i. planByte (kept (ofSlices number probes links needs lows highs costs) i)) links plan
+unfolding rested dearer
+numbered number probes links needs lows highs costs plan plan′ e = e
+
+pub turns-refused : (fault r : ℕ) (t : Table) (plan work : List ℕ) → r ≡ fault → (r ≡ 0 → ⊥) → PlansByTurns fault t (Refused r) plan plan work work
+turns-refused fault r t plan work e n =
+    record { plans = plans-refused fault r t plan e n; cleared = rw (ne-eqb fault 0 (λ z. n (e ∙ z))) }
+
+pub turns-made : (fault : ℕ) (t : Table) (r : Planning) (plan plan′ work work′ : List ℕ) → fault ≡ 0 → Plans fault t r plan plan′ → work′ ≡ replicate (length work) 0
+    → PlansByTurns fault t r plan plan′ work work′
+turns-made fault t r plan plan′ work work′ z p w = record { plans = p; cleared = rw z w }

@@ -1,0 +1,51 @@
+-- What planning promises: the answer, and the lent buffers at exit. The sentences are those of document 01, "Two ways to one plan".
+use Prim.Native.Nat.{ℕ, _*_}
+use mathlib.Core.Path.{_≡_}
+use mathlib.Core.Bool.{cond}
+use mathlib.Core.List.{List}
+use lib.Dec.{ltb, eqb}
+use lib.ListN.{length, replicate}
+use Rattle.range.specs.First.{orElse}
+use Rattle.range.specs.Lists.{stored}
+use Rattle.table.specs.Table.{Table}
+use Rattle.table.specs.Legal.{sliceFault}
+use Rattle.plan_theory.specs.Plan.{kept, keptCount, costOf}
+use Rattle.plan_slse.specs.Ordered.{planByte}
+use Rattle.plan_methods.specs.declared.Planning.{Planning}
+use Rattle.plan_methods.specs.declared.Planning.the-variants.{Plan, Refused}
+
+-- 8 for a lent slice shorter than it must be
+abbrev pub lentFault : ℕ → ℕ → ℕ
+lentFault lent needed = cond (ltb lent needed) 8 0
+
+-- 8 for the plan, then the faults of the table's slices; `plan` is the length of the lent plan
+abbrev pub planFault : ℕ → ℕ → ℕ → ℕ → ℕ → List ℕ → List ℕ → List ℕ → List ℕ → ℕ → ℕ
+planFault pmax lmax number probes links needs lows highs costs plan =
+    orElse (lentFault plan links) (sliceFault pmax lmax number probes links needs lows highs costs)
+
+-- "Working bytes lent for this, at least four a link": 8 for them, then as above
+abbrev pub turnsFault : ℕ → ℕ → ℕ → ℕ → ℕ → List ℕ → List ℕ → List ℕ → List ℕ → ℕ → ℕ → ℕ
+turnsFault pmax lmax number probes links needs lows highs costs plan work =
+    orElse (lentFault work (4 * links)) (planFault pmax lmax number probes links needs lows highs costs plan)
+
+-- "The answer holds the kept count and total cost, both fixed by that definition"; or the number of the refusal alone
+abbrev pub planningOf : ℕ → Table → Planning
+planningOf fault t = cond (eqb fault 0) (Plan (keptCount t) (costOf t (kept t))) (Refused fault)
+
+-- "Plan buffers have one byte a link, 1 kept and 0 rested; bytes beyond the links stay untouched."
+abbrev pub plannedOf : ℕ → Table → List ℕ → List ℕ
+plannedOf fault t d = cond (eqb fault 0) (stored (λ i. planByte (kept t i)) (t .links) d) d
+
+-- Working bytes "may hold anything before and are all zero after success"
+abbrev pub clearedOf : ℕ → List ℕ → List ℕ
+clearedOf fault d = cond (eqb fault 0) (replicate (length d) 0) d
+
+-- what a call answers, and what it leaves in the plan
+pub record Plans (fault : ℕ) (t : Table) (r : Planning) (before after : List ℕ) : Type 0 where
+  pub answer : r ≡ planningOf fault t
+  pub plan : after ≡ plannedOf fault t before
+
+-- and in the working bytes
+pub record PlansByTurns (fault : ℕ) (t : Table) (r : Planning) (before after work work′ : List ℕ) : Type 0 where
+  pub plans : Plans fault t r before after
+  pub cleared : work′ ≡ clearedOf fault work

@@ -1,0 +1,76 @@
+// The plan of a table in slices, by two methods.
+// The count and the cost of the links that a plan keeps.
+ghost use lib.ListN.{length};
+ghost use Rattle.table.specs.Table.{ofSlices};
+ghost use Rattle.plan_methods.specs.Planning.{planFault, turnsFault, Plans, PlansByTurns};
+
+pub mod counts;
+pub mod limited;
+
+// The answer: the count of kept links and their total cost, or the number of the refusal.
+pub enum Planning {
+    Plan { kept: u16, cost: u32 },
+    Refused(u8),
+}
+
+// The plan by S-LSE of a table that is given in slices by its number, probe count and link count.
+pub fn plan_by_slse(
+    number: u16,
+    probes: u16,
+    links: u16,
+    needs: &[u16],
+    lows: &[u16],
+    highs: &[u16],
+    costs: &[u16],
+    plan: &mut [u8],
+) -> Planning
+    ensures { λ r. ⌜ Plans
+        (planFault 256 2048 number probes links (now (needs .entry)) (now (lows .entry)) (now (highs .entry)) (now (costs .entry)) (length (now (plan .entry))))
+        (ofSlices number probes links (now (needs .entry)) (now (lows .entry)) (now (highs .entry)) (now (costs .entry)))
+        r (now (plan .entry)) (now (plan .exit)) ⌝ }
+{
+    limited::slse_limited(
+        256,
+        2048,
+        number,
+        probes,
+        links,
+        needs,
+        lows,
+        highs,
+        costs,
+        plan,
+    )
+}
+
+// The plan by offers in turn, with working bytes lent, at least four a link.
+pub fn plan_by_turns(
+    number: u16,
+    probes: u16,
+    links: u16,
+    needs: &[u16],
+    lows: &[u16],
+    highs: &[u16],
+    costs: &[u16],
+    plan: &mut [u8],
+    work: &mut [u8],
+) -> Planning
+    ensures { λ r. ⌜ PlansByTurns
+        (turnsFault 256 2048 number probes links (now (needs .entry)) (now (lows .entry)) (now (highs .entry)) (now (costs .entry)) (length (now (plan .entry))) (length (now (work .entry))))
+        (ofSlices number probes links (now (needs .entry)) (now (lows .entry)) (now (highs .entry)) (now (costs .entry)))
+        r (now (plan .entry)) (now (plan .exit)) (now (work .entry)) (now (work .exit)) ⌝ }
+{
+    limited::turns_limited(
+        256,
+        2048,
+        number,
+        probes,
+        links,
+        needs,
+        lows,
+        highs,
+        costs,
+        plan,
+        work,
+    )
+}

@@ -1,0 +1,135 @@
+-- `plan_output::text::print_plan` meets its contract.
+use borrow.Author.Needs.{needs}
+use Rattle.plan_output.proofs.text.print_plan.Statement.{statement}
+use Rattle.plan_output.proofs.text.print_plan.Tie as tie
+use Prim.Native.Nat.{_+_, _*_}
+use native.Mathlib.Omega.{arith}
+use lib.ListN.{length, replicate}
+use Rattle.table.specs.Table.{ofSlices}
+use Rattle.table.proofs.Faults.{room-good}
+use Rattle.plan_slse.proofs.Turns.{size}
+use Rattle.plan_methods.proofs.Answers.{numbered}
+use Rattle.plan_output.specs.Output.{planText}
+use Rattle.output.proofs.Printing.{prints-refused, prints-done, too-short, long-enough}
+use Rattle.plan_output.proofs.Printing.{length-plan, count-says, plan-then}
+
+slice-aggregate-slse-plan : tie.Need-slice-aggregate-slse-plan
+slice-aggregate-slse-plan c = search needs
+
+slse-plan-requires : tie.Need-slse-plan-requires
+slse-plan-requires c κs =
+    let s = c .before .before .before .before .before .before in
+    let a = s .args in
+    let z = size (a .probes) (a .links) (a .needs .now) (a .lows .now) (a .highs .now) (a .costs .now) (s .pre .0) in
+    (s .pre .0, z .within, s .pre .1)
+
+slice-aggregate-kept-count : tie.Need-slice-aggregate-kept-count
+slice-aggregate-kept-count c = search needs
+
+kept-count-requires : tie.Need-kept-count-requires
+kept-count-requires c κs =
+    let s = c .before .before .before .before .before .before .before .before .before in
+    let a = s .args in
+    let z = size (a .probes) (a .links) (a .needs .now) (a .lows .now) (a .highs .now) (a .costs .now) (s .pre .0) in
+    let long = c .before .before .slse-plan .kept .0 in
+    let within = z .within in
+    (omega arith, within)
+
+cast-end : tie.Need-cast-end
+cast-end c = search needs
+
+mul-end : tie.Need-mul-end
+mul-end c = search needs
+
+add-end : tie.Need-add-end
+add-end c = search needs
+
+add-if1 : tie.Need-add-if1
+add-if1 c = search needs
+
+returns : tie.Need-returns
+returns c =
+    let s = c .before .before .before .before .before .before .before .before .before .before .before in
+    let a = s .args in
+    let t = ofSlices (a .number) (a .probes) (a .links) (a .needs .now) (a .lows .now) (a .highs .now) (a .costs .now) in
+    let z = size (a .probes) (a .links) (a .needs .now) (a .lows .now) (a .highs .now) (a .costs .now) (s .pre .0) in
+    let p = numbered (a .number) (a .probes) (a .links) (a .needs .now) (a .lows .now) (a .highs .now) (a .costs .now) (replicate 2048 0) _ (c .before .before .before .before .slse-plan .ensures) in
+    let n = count-says t (replicate 2048 0) _ (z .within) p in
+    let k = c .before .kept-count .ensures in
+    let l = length-plan t in
+    prints-refused _ 8 _ (a .out .now) (too-short (length (a .out .now)) (planText t) (omega (arith, c .if1 .taken))) (λ z. omega arith)
+
+slice-aggregate-kept-cost : tie.Need-slice-aggregate-kept-cost
+slice-aggregate-kept-cost c = search needs
+
+kept-cost-requires : tie.Need-kept-cost-requires
+kept-cost-requires c κs =
+    let s = c .before .before .before .before .before .before .before .before .before .before .before .before in
+    let a = s .args in
+    let z = size (a .probes) (a .links) (a .needs .now) (a .lows .now) (a .highs .now) (a .costs .now) (s .pre .0) in
+    let r = room-good (a .probes) (a .links) (length (a .needs .now)) (length (a .lows .now)) (length (a .highs .now)) (length (a .costs .now)) (s .pre .1) in
+    let long = c .before .before .before .before .before .slse-plan .kept .0 in
+    let within = z .within in
+    (omega arith, omega (arith, r .linked, r .equal, r .equal₂), within)
+
+put-head-requires : tie.Need-put-head-requires
+put-head-requires c κs = search needs
+
+slice-aggregate-put-kept : tie.Need-slice-aggregate-put-kept
+slice-aggregate-put-kept c = search needs
+
+put-kept-requires : tie.Need-put-kept-requires
+put-kept-requires c κs =
+    let s = c .before .before .before .before .before .before .before .before .before .before .before .before .before .before .before .before .before .before .before in
+    let a = s .args in
+    let z = size (a .probes) (a .links) (a .needs .now) (a .lows .now) (a .highs .now) (a .costs .now) (s .pre .0) in
+    let r = room-good (a .probes) (a .links) (length (a .needs .now)) (length (a .lows .now)) (length (a .highs .now)) (length (a .costs .now)) (s .pre .1) in
+    let long = c .before .before .before .before .before .before .before .before .before .before .before .before .slse-plan .kept .0 in
+    let within = z .within in
+    (omega (arith, c .before .before .before .before .before .before .before .before .before .kept-count .ensures, c .before .before .before .before .before .before .before .before .if1 .left, c .before .before .before .before .put-head .kept .0), omega arith, r .linked, omega (arith, r .linked, r .equal), omega (arith, r .linked, r .equal, r .equal₂))
+
+put-closing-requires : tie.Need-put-closing-requires
+put-closing-requires c κs = search needs
+
+add-t18 : tie.Need-add-t18
+add-t18 c = search needs
+
+same-length : tie.Need-same-length
+same-length c = search needs
+
+returns-2 : tie.Need-returns-2
+returns-2 c =
+    let s = c .before .before .before .before .before .before .before .before .before .before .before .before .before .before .before .before .before .before .before .before .before .before .before .before .before .before in
+    let a = s .args in
+    let t = ofSlices (a .number) (a .probes) (a .links) (a .needs .now) (a .lows .now) (a .highs .now) (a .costs .now) in
+    let z = size (a .probes) (a .links) (a .needs .now) (a .lows .now) (a .highs .now) (a .costs .now) (s .pre .0) in
+    let p = numbered (a .number) (a .probes) (a .links) (a .needs .now) (a .lows .now) (a .highs .now) (a .costs .now) (replicate 2048 0) _ (c .before .before .before .before .before .before .before .before .before .before .before .before .before .before .before .before .before .before .before .slse-plan .ensures) in
+    let n = count-says t (replicate 2048 0) _ (z .within) p in
+    let k = c .before .before .before .before .before .before .before .before .before .before .before .before .before .before .before .before .kept-count .ensures in
+    let l = length-plan t in
+    let f = c .before .before .before .before .before .before .before .before .before .before .before .before .before .before .before .if1 .left in
+    prints-done _ (17 + 13 * (c .before .before .before .before .before .before .before .before .before .before .before .before .before .before .before .before .kept-count .result) + 5) _ (a .out .now) _ (long-enough (length (a .out .now)) (planText t) (omega arith)) (omega arith) f
+    (plan-then t (replicate 2048 0) _ (z .within) p (c .before .before .before .before .before .before .before .before .before .before .before .before .before .before .before .before .kept-count .result) (c .before .before .before .before .before .before .before .before .before .before .before .before .before .kept-cost .result) (a .out .now) _ _ _ k (c .before .before .before .before .before .before .before .before .before .before .before .before .before .kept-cost .ensures) (c .before .before .before .before .before .before .before .before .before .before .before .put-head .ensures) (c .before .before .before .before .before .before .put-kept .ensures) (c .before .before .put-closing .ensures))
+
+pub print-plan-spec : {M : Type 1} → statement M
+print-plan-spec =
+    tie.close
+    (tie.spec
+    slice-aggregate-slse-plan
+    slse-plan-requires
+    slice-aggregate-kept-count
+    kept-count-requires
+    cast-end
+    mul-end
+    add-end
+    add-if1
+    returns
+    slice-aggregate-kept-cost
+    kept-cost-requires
+    put-head-requires
+    slice-aggregate-put-kept
+    put-kept-requires
+    put-closing-requires
+    add-t18
+    same-length
+    returns-2)

@@ -1,0 +1,29 @@
+-- What the plan program prints: document 01, "Programs". Every printed line is closed by a line feed.
+use Prim.Native.Nat.{ℕ}
+use mathlib.Core.Bool.{false, cond}
+use mathlib.Core.List.{List, [], _∷_, _++_}
+use lib.Dec.{eqb}
+use Rattle.range.specs.Lists.{joined}
+use Rattle.hex.specs.Digits.{digits}
+use Rattle.table.specs.Table.{Table}
+use Rattle.table.specs.Text.{closingLine, tripleLine, ofText, textFault}
+use Rattle.plan_theory.specs.Plan.{kept, keptCount, costOf}
+use Rattle.output.specs.Output.{refusalLine}
+
+-- "table number, kept count (four digits each) and cost (eight)"
+abbrev pub headLine : ℕ → ℕ → ℕ → List ℕ
+headLine number kept cost = digits 4 number ++ (digits 4 kept ++ (digits 8 cost ++ (10 ∷ [])))
+
+-- "then kept link lines"
+abbrev pub keptLines : Table → List ℕ
+keptLines t = joined (λ i. cond (kept t i) (tripleLine (t .low i) (t .high i) (t .cost i)) []) (t .links)
+
+-- "It prints table number, kept count (four digits each) and cost (eight), then kept link lines, then `ffff`."
+unfoldable pub planText : Table → List ℕ
+planText t = headLine (t .number) (keptCount t) (costOf t (kept t)) ++ (keptLines t ++ closingLine)
+
+-- "The plan program reads a table"; "a refused table prints only that"
+abbrev pub outputOf : List ℕ → List ℕ
+outputOf s =
+    let fault = textFault 256 2048 false s in
+    cond (eqb fault 0) (planText (ofText s)) (refusalLine fault)

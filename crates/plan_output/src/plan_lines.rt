@@ -1,0 +1,58 @@
+// The functions, each within the bounds that it asks.
+ghost use mathlib.Core.Path.{_≡_};
+ghost use mathlib.Core.Bool.{cond};
+ghost use mathlib.Core.List.{[]};
+ghost use Prim.Native.Nat.{_+_, _*_, _≤_};
+ghost use lib.Dec.{eqb};
+ghost use lib.ListN.{length};
+ghost use lib.Seq.{sets};
+ghost use Rattle.range.specs.Sum.{count};
+ghost use Rattle.range.specs.Lists.{joined};
+ghost use Rattle.table.specs.Table.{item};
+ghost use Rattle.table.specs.Text.{tripleLine};
+ghost use Rattle.plan_output.specs.Output.{headLine};
+
+// A plan's first line.
+pub fn put_head(out: &mut [u8], number: u16, kept: u32, cost: u32)
+    requires { ⌜ 17 ≤ length (now out) ⌝ }
+    ensures { λ _. ⌜ now (out .exit) ≡ sets (now (out .entry)) 0 (headLine number kept cost) ⌝ }
+{
+    hex::fields::put_number(out, 0, 4, number as u32);
+    hex::fields::put_number(out, 4, 4, kept);
+    hex::fields::put_number(out, 8, 8, cost);
+    out[16] = b'\n';
+}
+
+// The line of a link whose byte says that it is kept. Answers where the next line starts.
+fn put_link(out: &mut [u8], at: usize, byte: u8, low: u16, high: u16, cost: u16) -> usize
+    requires { ⌜ at + 13 * cond (eqb byte 1) 1 0 ≤ length (now out) ⌝ }
+    ensures { λ r. ⌜ (now (out .exit) ≡ sets (now (out .entry)) at (cond (eqb byte 1) (tripleLine low high cost) [])) × (r ≡ at + 13 * cond (eqb byte 1) 1 0) ⌝ }
+{
+    if byte != 1 {
+        return at;
+    }
+    table_write::line::put_triple(out, at, low, high, cost);
+    at + 13
+}
+
+// The lines of the kept links, behind a plan's first line.
+pub fn put_kept(
+    out: &mut [u8],
+    plan: &[u8],
+    links: usize,
+    lows: &[u16],
+    highs: &[u16],
+    costs: &[u16],
+)
+    requires { ⌜ (17 + 13 * count links (λ i. eqb (item (now plan) i) 1) ≤ length (now out)) × (links ≤ length (now plan))
+        × (links ≤ length (now lows)) × (links ≤ length (now highs)) × (links ≤ length (now costs)) ⌝ }
+    ensures { λ _. ⌜ now (out .exit) ≡ sets (now (out .entry)) 17
+        (joined (λ i. cond (eqb (item (now (plan .entry)) i) 1) (tripleLine (item (now (lows .entry)) i) (item (now (highs .entry)) i) (item (now (costs .entry)) i)) []) links) ⌝ }
+{
+    let mut at = 17;
+    let mut i = 0;
+    while i < links {
+        at = put_link(out, at, plan[i], lows[i], highs[i], costs[i]);
+        i += 1;
+    }
+}

@@ -1,0 +1,41 @@
+// The output of the plan program, within the bounds that it asks.
+use output::Output;
+ghost use mathlib.Core.Path.{_≡_};
+ghost use Prim.Native.Nat.{_+_, _*_};
+ghost use lib.ListN.{length};
+ghost use Rattle.table.specs.Table.{ofSlices};
+ghost use Rattle.table.specs.Legal.{tableFault, roomFault};
+ghost use Rattle.output.specs.Output.{shortFault, Prints};
+ghost use Rattle.plan_output.specs.Output.{planText};
+
+// The plan of a legal table.
+pub fn print_plan(
+    out: &mut [u8],
+    number: u16,
+    probes: usize,
+    links: usize,
+    needs: &[u16],
+    lows: &[u16],
+    highs: &[u16],
+    costs: &[u16],
+) -> Output
+    requires { ⌜ (tableFault 256 2048 (ofSlices 0 probes links (now needs) (now lows) (now highs) (now costs)) ≡ 0)
+        × (roomFault probes links (length (now needs)) (length (now lows)) (length (now highs)) (length (now costs)) ≡ 0) ⌝ }
+    ensures { λ r. ⌜ Prints
+        (shortFault (length (now (out .entry))) (planText (ofSlices number probes links (now (needs .entry)) (now (lows .entry)) (now (highs .entry)) (now (costs .entry)))))
+        (planText (ofSlices number probes links (now (needs .entry)) (now (lows .entry)) (now (highs .entry)) (now (costs .entry))))
+        r (now (out .entry)) (now (out .exit)) ⌝ }
+{
+    let mut plan = [0u8; 2048];
+    plan_methods::limited::slse_plan(&mut plan, probes, links, needs, lows, highs, costs);
+    let kept = plan_methods::counts::kept_count(&plan, links);
+    let end = 17 + 13 * (kept as usize);
+    if out.len() < end + 5 {
+        return Output::Refused(8);
+    }
+    let cost = plan_methods::counts::kept_cost(&plan, links, costs);
+    super::plan_lines::put_head(out, number, kept, cost);
+    super::plan_lines::put_kept(out, &plan, links, lows, highs, costs);
+    table_write::line::put_closing(out, end);
+    Output::Length(end + 5)
+}

@@ -1,0 +1,62 @@
+-- `plan_slse::links::add_link` meets its contract.
+use borrow.Author.Needs.{needs}
+use Rattle.plan_slse.proofs.links.add_link.Statement.{statement}
+use Rattle.plan_slse.proofs.links.add_link.Tie as tie
+use mathlib.Core.Path.{sym, _∙_, ap}
+use Prim.Native.Nat.{_+_}
+use native.Mathlib.Omega.{arith}
+use lib.ListN.{length, getD, length-set}
+use lib.Seq.{getD-set-other}
+use borrow.Author.Tests.{not-true, not-false}
+use Rattle.table.proofs.DegreeLaws.{changed}
+
+either-short-requires : tie.Need-either-short-requires
+either-short-requires c κs = search needs
+
+same-length : tie.Need-same-length
+same-length c = search needs
+
+returns : tie.Need-returns
+returns c =
+    let e = sym (c .before .either-short .ensures) ∙ not-true _ (c .if1 .taken) in
+    (rw e, rw e)
+
+slice-write-plan : tie.Need-slice-write-plan
+slice-write-plan c = search needs
+
+add-one-requires : tie.Need-add-one-requires
+add-one-requires c κs = search needs
+
+add-one-requires-2 : tie.Need-add-one-requires-2
+add-one-requires-2 c κs =
+    let a = c .before .before .before .before .before .before .before .before .before .before .before .args in
+    let q = c .before .before .before .add-one .ensures in
+    let l = simp length-set at (ap length q) in
+    let o = ap (λ x. getD x (a .high) 0) q ∙ getD-set-other (a .counts .now) (a .low) (a .high) _ 0 (λ z. omega arith) in
+    (omega arith, omega arith)
+
+same-length-2 : tie.Need-same-length-2
+same-length-2 c = search needs
+
+same-length-3 : tie.Need-same-length-3
+same-length-3 c = search needs
+
+returns-2 : tie.Need-returns-2
+returns-2 c =
+    let e = sym (c .before .before .before .before .before .before .before .before .before .either-short .ensures) ∙ not-false _ (c .before .before .before .before .before .before .before .before .if1 .left) in
+    let q = c .before .before .add-one2 .ensures ∙ ap (λ x. changed (λ n. n + 1) x (c .before .before .before .before .before .before .before .before .before .before .before .before .before .before .args .high)) (c .before .before .before .before .before .before .add-one .ensures) in
+    (rw e, rw e q)
+
+pub add-link-spec : {M : Type 1} → statement M
+add-link-spec =
+    tie.close
+    (tie.spec
+    either-short-requires
+    same-length
+    returns
+    slice-write-plan
+    add-one-requires
+    add-one-requires-2
+    same-length-2
+    same-length-3
+    returns-2)

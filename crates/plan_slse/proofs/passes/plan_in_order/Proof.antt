@@ -1,0 +1,80 @@
+-- `plan_slse::passes::plan_in_order` meets its contract.
+use borrow.Author.Needs.{needs}
+use Rattle.plan_slse.proofs.passes.plan_in_order.Statement.{statement}
+use Rattle.plan_slse.proofs.passes.plan_in_order.Tie as tie
+use Prim.Native.Nat.{ℕ, _≤_}
+use mathlib.Core.Path.{_∙_, ap}
+use mathlib.Core.List.{List}
+use native.Mathlib.Omega.{arith}
+use lib.ListN.{length, getD}
+use Rattle.range.proofs.Lists.{zeros-at, stored-at}
+use Rattle.plan_slse.proofs.Turns.{size, kept-bytes}
+
+clear-requires : tie.Need-clear-requires
+clear-requires c κs = search needs
+
+slice-aggregate-add-links : tie.Need-slice-aggregate-add-links
+slice-aggregate-add-links c = search needs
+
+add-links-requires : tie.Need-add-links-requires
+add-links-requires c κs =
+    let s = c .before .before .before .before .before .before .before .before .before .before .before .before in
+    let a = s .args in
+    let z = size (a .probes) (a .links) (a .needs .now) (a .lows .now) (a .highs .now) (a .costs .now) (s .pre .0) in
+    let cl = c .before .before .before .before .clear in
+    let k = cl .kept .0 in (
+      s .pre .0,
+      omega arith,
+      omega arith,
+      search needs,
+      search needs,
+      search needs,
+      search needs,
+      s .pre .6,
+      λ j l. ap (λ (x : List ℕ). getD x j 0) (cl .ensures) ∙ stored-at (λ (i : ℕ). 0) (a .links) (a .plan .now) j (s .pre .1) l,
+      λ v l. zeros-at 256 v,
+    )
+
+slice-aggregate-remove-links : tie.Need-slice-aggregate-remove-links
+slice-aggregate-remove-links c = search needs
+
+remove-links-requires : tie.Need-remove-links-requires
+remove-links-requires c κs =
+    let s = c .before .before .before .before .before .before .before .before .before .before .before .before .before .before .before .before .before .before in
+    let a = s .args in
+    let z = size (a .probes) (a .links) (a .needs .now) (a .lows .now) (a .highs .now) (a .costs .now) (s .pre .0) in
+    let cl = c .before .before .before .before .before .before .before .before .before .before .clear in
+    let ad = c .before .before .before .before .before .add-links in
+    let room : a .links ≤ length (cl .last .0) = omega (arith, cl .kept .0, s .pre .1) in (
+      s .pre .0,
+      omega (arith, ad .kept .0),
+      omega (arith, ad .kept .1 .0),
+      search needs,
+      search needs,
+      search needs,
+      search needs,
+      s .pre .6,
+      λ j l. ap (λ (x : List ℕ). getD x j 0) (ad .ensures .0) ∙ stored-at _ (a .links) (cl .last .0) j room l,
+      ad .ensures .1,
+    )
+
+same-length : tie.Need-same-length
+same-length c = search needs
+
+returns : tie.Need-returns
+returns c =
+    let s = c .before .before .before .before .before .before .before .before .before .before .before .before .before .before .before .before .before .before .before .before .before .before in
+    let a = s .args in
+    kept-bytes (a .probes) (a .links) (a .needs .now) (a .lows .now) (a .highs .now) (a .costs .now) (s .pre .0) (a .plan .now) _ _ _ (s .pre .1) (c .before .before .before .before .before .before .before .before .before .before .before .before .before .before .clear .ensures) (c .before .before .before .before .before .before .before .before .before .add-links .ensures .0) (c .before .before .before .remove-links .ensures)
+
+pub plan-in-order-spec : {M : Type 1} → statement M
+plan-in-order-spec =
+    tie.close
+    (tie.spec
+    clear-requires
+    slice-aggregate-add-links
+    add-links-requires
+    slice-aggregate-remove-links
+    remove-links-requires
+    same-length
+    returns)

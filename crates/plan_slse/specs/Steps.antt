@@ -1,0 +1,22 @@
+-- One link's turn, on the plan's bytes and the counts of links by probe.
+use Prim.Native.Nat.{ℕ, _+_, _-_}
+use mathlib.Core.Bool.{Bool, _&&_, _||_}
+use mathlib.Core.List.{List}
+use lib.Dec.{ltb}
+use Rattle.table.specs.Table.{item}
+use Rattle.table.proofs.DegreeLaws.{changed}
+
+-- an end has fewer links than it needs
+abbrev pub eitherShort : List ℕ → List ℕ → ℕ → ℕ → Bool
+eitherShort counts needs low high = ltb (item counts low) (item needs low) || ltb (item counts high) (item needs high)
+
+-- both ends have more links than they need
+abbrev pub bothOver : List ℕ → List ℕ → ℕ → ℕ → Bool
+bothOver counts needs low high = ltb (item needs low) (item counts low) && ltb (item needs high) (item counts high)
+
+-- one link more, or one less, at both ends
+abbrev pub oneMore : List ℕ → ℕ → ℕ → List ℕ
+oneMore counts low high = changed (λ n. n + 1) (changed (λ n. n + 1) counts low) high
+
+abbrev pub oneLess : List ℕ → ℕ → ℕ → List ℕ
+oneLess counts low high = changed (λ n. n - 1) (changed (λ n. n - 1) counts low) high

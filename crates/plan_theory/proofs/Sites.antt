@@ -1,0 +1,23 @@
+-- The marked sites M1 to M10, by computing.
+use mathlib.Core.Path.{refl}
+use Rattle.range.specs.Sum.{sum}
+use Rattle.table.specs.Table.{dearer}
+use Rattle.plan_theory.specs.Pass.{passAfter}
+use Rattle.plan_theory.specs.Plan.{rested, added, removed}
+use Rattle.plan_theory.specs.Sites.{ends, Sites}
+
+pub sites : Sites
+unfolding sum dearer passAfter rested added removed ends
+sites =
+    record {
+      m1 = record { links-kept = refl; count-kept = refl; cost-kept = refl };
+      m2 = record { links-kept = refl; count-kept = refl; cost-kept = refl };
+      m3 = record { links-kept = refl; count-kept = refl; cost-kept = refl };
+      m4 = record { links-kept = refl; count-kept = refl; cost-kept = refl };
+      m5 = record { links-kept = refl; count-kept = refl; cost-kept = refl };
+      m6 = record { links-kept = refl; count-kept = refl; cost-kept = refl };
+      m7 = record { links-kept = refl; count-kept = refl; cost-kept = refl };
+      m8 = record { links-kept = refl; count-kept = refl; cost-kept = refl };
+      m9 = record { adds = refl; removes = refl };
+      m10 = record { adds = refl; removes = refl };
+    }

@@ -1,0 +1,55 @@
+-- The plan, S-LSE, and what a choice of links meets and costs. The sentences are those of demand 2 and of document 01. A set of links is a function ℕ → Bool.
+use Prim.Native.Nat.{ℕ, _-_, _≤_, _<_}
+use mathlib.Core.Bool.{Bool, _&&_, _||_, not}
+use lib.Dec.{ltb}
+use Rattle.range.specs.Sum.{weigh, count}
+use Rattle.table.specs.Table.{Table, touches, degree, dearer, cheaper}
+use Rattle.plan_theory.specs.Pass.{pass}
+
+-- how many links of the set v is an end of
+abbrev pub linksAt : Table → (ℕ → Bool) → ℕ → ℕ
+linksAt t s v = count (t .links) (λ i. touches t v i && s i)
+
+-- with the links of r rested, v "still has more links than" it needs
+abbrev pub hasMore : Table → (ℕ → Bool) → ℕ → Bool
+hasMore t r v = ltb (t .need v) (degree t v - linksAt t r v)
+
+-- "links are gone through from dearest to cheapest, by 01's order, and a link is rested exactly when both ends still have more links than they need"
+unfoldable pub rested : Table → ℕ → Bool
+rested t i = pass (t .links) (dearer t) (λ r g. hasMore t r (t .low g) && hasMore t r (t .high g)) i
+
+-- "The plan is what remains"
+abbrev pub kept : Table → ℕ → Bool
+kept t i = not (rested t i)
+
+-- "The answer holds the kept count and total cost"
+abbrev pub keptCount : Table → ℕ
+keptCount t = count (t .links) (kept t)
+
+-- "its cost is the sum of theirs"
+abbrev pub costOf : Table → (ℕ → Bool) → ℕ
+costOf t s = weigh (t .links) s (t .cost)
+
+-- with the links of s added, v is "short of its need"
+abbrev pub isShort : Table → (ℕ → Bool) → ℕ → Bool
+isShort t s v = ltb (linksAt t s v) (t .need v)
+
+-- "from cheapest up, add each link that then has an end short of its need"
+unfoldable pub added : Table → ℕ → Bool
+added t i = pass (t .links) (cheaper t) (λ s g. isShort t s (t .low g) || isShort t s (t .high g)) i
+
+-- with the links of r removed, v has "more added links than" it needs
+abbrev pub hasMoreAdded : Table → (ℕ → Bool) → ℕ → Bool
+hasMoreAdded t r v = ltb (t .need v) (linksAt t (added t) v - linksAt t r v)
+
+-- "Then, from dearest down, remove an added link if both ends then have more added links than they need."
+unfoldable pub removed : Table → ℕ → Bool
+removed t i = pass (t .links) (dearer t) (λ r g. added t g && (hasMoreAdded t r (t .low g) && hasMoreAdded t r (t .high g))) i
+
+-- what S-LSE keeps
+abbrev pub slse : Table → ℕ → Bool
+slse t i = added t i && not (removed t i)
+
+-- "Choice: any set of the table's links. It meets the needs when each probe is an end of at least its need of them"
+abbrev pub Meets : Table → (ℕ → Bool) → Type 0
+Meets t s = (v : ℕ) → v < t .probes → t .need v ≤ linksAt t s v

@@ -1,0 +1,47 @@
+-- The marked sites M1 to M10: document 01, "Sites to compare".
+use Prim.Native.Nat.{ℕ, zero, suc}
+use mathlib.Core.Path.{_≡_}
+use mathlib.Core.Bool.{Bool, cond}
+use mathlib.Core.List.{List, [], _∷_, _++_}
+use lib.ListN.{length}
+use Rattle.table.specs.Table.{Table, ofSlices}
+use Rattle.plan_theory.specs.Plan.{kept, keptCount, costOf, added, removed}
+
+-- a site by its needs and its links' low ends, high ends and costs
+abbrev pub site : List ℕ → List ℕ → List ℕ → List ℕ → Table
+site needs lows highs costs = ofSlices 1 (length needs) (length costs) needs lows highs costs
+
+-- the low and high ends of the first n links that are in the set
+unfoldable pub ends : Table → (ℕ → Bool) → ℕ → List (ℕ × ℕ)
+ends t s zero = []
+ends t s (suc n) = ends t s n ++ cond (s n) ((t .low n, t .high n) ∷ []) []
+
+-- the plan's links, their count and their cost
+pub record Plans (t : Table) (links : List (ℕ × ℕ)) (cost : ℕ) : Type 0 where
+  pub links-kept : ends t (kept t) (t .links) ≡ links
+  pub count-kept : keptCount t ≡ length links
+  pub cost-kept : costOf t (kept t) ≡ cost
+
+-- what S-LSE adds, and which of these it removes
+pub record Phases (t : Table) (up down : List (ℕ × ℕ)) : Type 0 where
+  pub adds : ends t (added t) (t .links) ≡ up
+  pub removes : ends t (removed t) (t .links) ≡ down
+
+-- three links in a row, from 0-1 to 2-3, and a triangle
+abbrev pub row : List ℕ → Table
+row costs = site (0 ∷ 1 ∷ 1 ∷ 0 ∷ []) (0 ∷ 1 ∷ 2 ∷ []) (1 ∷ 2 ∷ 3 ∷ []) costs
+
+abbrev pub triangle : List ℕ → Table
+triangle costs = site (1 ∷ 1 ∷ 1 ∷ []) (0 ∷ 0 ∷ 1 ∷ []) (1 ∷ 2 ∷ 2 ∷ []) costs
+
+pub record Sites : Type 0 where
+  pub m1 : Plans (row (5 ∷ 5 ∷ 5 ∷ [])) ((1, 2) ∷ []) 5
+  pub m2 : Plans (row (5 ∷ 6 ∷ 5 ∷ [])) ((0, 1) ∷ (2, 3) ∷ []) 10
+  pub m3 : Plans (site (0 ∷ []) [] [] []) [] 0
+  pub m4 : Plans (site (0 ∷ 0 ∷ []) (0 ∷ []) (1 ∷ []) (7 ∷ [])) [] 0
+  pub m5 : Plans (site (1 ∷ 0 ∷ []) (0 ∷ []) (1 ∷ []) (7 ∷ [])) ((0, 1) ∷ []) 7
+  pub m6 : Plans (triangle (1 ∷ 2 ∷ 3 ∷ [])) ((0, 1) ∷ (0, 2) ∷ []) 3
+  pub m7 : Plans (triangle (4 ∷ 4 ∷ 4 ∷ [])) ((0, 1) ∷ (0, 2) ∷ []) 8
+  pub m8 : Plans (row (0 ∷ 0 ∷ 0 ∷ [])) ((1, 2) ∷ []) 0
+  pub m9 : Phases (row (5 ∷ 6 ∷ 5 ∷ [])) ((0, 1) ∷ (2, 3) ∷ []) []
+  pub m10 : Phases (row (5 ∷ 5 ∷ 5 ∷ [])) ((0, 1) ∷ (1, 2) ∷ []) ((0, 1) ∷ [])

@@ -1,0 +1,86 @@
+-- `plan_turns::method::take_needs` meets its contract.
+use borrow.Author.Needs.{needs}
+use Rattle.plan_turns.proofs.method.take_needs.Statement.{statement}
+use Rattle.plan_turns.proofs.method.take_needs.Tie as tie
+use Prim.Native.Nat.{ℕ, _-_, _≤_}
+use mathlib.Core.Path.{_≡_, refl, sym, _∙_, ap}
+use mathlib.Core.List.{List}
+use native.Mathlib.Omega.{arith}
+use lib.ListN.{length, length-set}
+use Rattle.range.specs.Lists.{stored}
+use Rattle.range.proofs.Lists.{stored-next, stored-beyond}
+use Rattle.table.specs.Table.{item}
+
+abbrev Inv-loop : tie.InvT-loop
+Inv-loop counts₀ probes needs v₀ counts v = (v ≤ probes) × (counts ≡ stored (λ k. item counts₀ k - item needs k) v counts₀) × (length counts ≡ length counts₀)
+
+abbrev μ-loop : tie.MeasureT-loop
+μ-loop counts₀ probes needs v₀ counts v = probes - v
+
+loop-holds : tie.Need-loop-holds Inv-loop μ-loop
+unfolding stored
+loop-holds c = (search needs, refl, refl)
+
+mul-less : tie.Need-mul-less Inv-loop μ-loop
+mul-less c = search needs
+
+slice-read-less : tie.Need-slice-read-less Inv-loop μ-loop
+slice-read-less c = search needs
+
+mul-less-2 : tie.Need-mul-less-2 Inv-loop μ-loop
+mul-less-2 c = search needs
+
+shared-slice-read-less : tie.Need-shared-slice-read-less Inv-loop μ-loop
+shared-slice-read-less c = search needs
+
+less-requires : tie.Need-less-requires Inv-loop μ-loop
+less-requires c κs = search needs
+
+mul-counts : tie.Need-mul-counts Inv-loop μ-loop
+mul-counts c = search needs
+
+slice-write-counts : tie.Need-slice-write-counts Inv-loop μ-loop
+slice-write-counts c = search needs
+
+add-v : tie.Need-add-v Inv-loop μ-loop
+add-v c = search needs
+
+loop-less : tie.Need-loop-less Inv-loop μ-loop
+loop-less c = search needs
+
+loop-again : tie.Need-loop-again Inv-loop μ-loop
+loop-again c =
+    let l = c .before .before .before .before .loop in
+    let a = c .before .before .before .before .before .before .before .args in
+    let f : ℕ → ℕ = λ k. item (a .counts .now) k - item (a .needs .now) k in
+    let was : item (l .counts) (l .v) ≡ item (a .counts .now) (l .v) = ap (λ (x : List ℕ). item x (l .v)) (l .inv .1) ∙ stored-beyond f (l .v) (a .counts .now) (l .v) (omega arith) in
+    let val : c .less .result ≡ f (l .v) = c .less .ensures ∙ ap (λ (x : ℕ). x - item (a .needs .now) (l .v)) was in
+    (search needs, rw (val, l .inv .1) (sym (stored-next f (l .v) (a .counts .now))), simp length-set (l .inv .2))
+
+same-length : tie.Need-same-length Inv-loop μ-loop
+same-length c = c .before .loop .inv .2
+
+returns : tie.Need-returns Inv-loop μ-loop
+returns c =
+    let e : c .before .loop .v ≡ c .before .before .before .before .args .probes = omega arith in
+    rw (← e) (c .before .loop .inv .1)
+
+pub take-needs-spec : {M : Type 1} → statement M
+take-needs-spec =
+    tie.close
+    (tie.spec
+    Inv-loop
+    μ-loop
+    loop-holds
+    mul-less
+    slice-read-less
+    mul-less-2
+    shared-slice-read-less
+    less-requires
+    mul-counts
+    slice-write-counts
+    add-v
+    loop-less
+    loop-again
+    same-length
+    returns)

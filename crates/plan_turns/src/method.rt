@@ -1,0 +1,126 @@
+// Offers by turn. A record has four bytes a link: atSource and atTarget of each direction. Beside it are four entries a probe, the marks.
+ghost use mathlib.Core.Path.{_≡_};
+ghost use mathlib.Core.Bool.{cond};
+ghost use mathlib.Core.List.{[]};
+ghost use Prim.Native.Nat.{ℕ, _+_, _*_, _-_, _<_, _≤_};
+ghost use lib.ListN.{length, replicate, getD};
+ghost use Rattle.range.specs.First.{first};
+ghost use Rattle.range.specs.Lists.{stored};
+ghost use Rattle.table.specs.Table.{item, ofSlices, spare};
+ghost use Rattle.table.specs.Legal.{linkFault, tableFault};
+ghost use Rattle.plan_theory.specs.Plan.{kept};
+ghost use Rattle.plan_turns_search.specs.Record.{keptByte};
+
+fn less(a: u16, b: u16) -> u16
+    ensures { λ r. ⌜ r ≡ a - b ⌝ }
+{
+    if a < b {
+        return 0;
+    }
+    a - b
+}
+
+// Takes the probes' needs off their counted links.
+fn take_needs(counts: &mut [u16], probes: usize, needs: &[u16])
+    requires { ⌜ (probes ≤ length (now counts)) × (probes ≤ length (now needs)) ⌝ }
+    ensures { λ _. ⌜ now (counts .exit) ≡ stored (λ v. item (now (counts .entry)) v - item (now (needs .entry)) v) probes (now (counts .entry)) ⌝ }
+{
+    let mut v = 0;
+    while v < probes {
+        counts[v] = less(counts[v], needs[v]);
+        v += 1;
+    }
+}
+
+// 0 where each end of the link i holds the other's offer, else 1.
+fn kept_byte(rec: &[u8], i: usize) -> u8
+    requires { ⌜ 4 * i + 3 < length (now rec) ⌝ }
+    ensures { λ r. ⌜ r ≡ keptByte (now (rec .entry)) i ⌝ }
+{
+    if rec[4 * i + 1] != 1 {
+        return 1;
+    }
+    if rec[4 * i + 3] != 1 {
+        return 1;
+    }
+    0
+}
+
+fn write_plan(plan: &mut [u8], rec: &[u8], links: usize)
+    requires { ⌜ (links ≤ length (now plan)) × (4 * links ≤ length (now rec)) ⌝ }
+    ensures { λ _. ⌜ now (plan .exit) ≡ stored (keptByte (now (rec .entry))) links (now (plan .entry)) ⌝ }
+{
+    let mut i = 0;
+    while i < links {
+        plan[i] = kept_byte(rec, i);
+        i += 1;
+    }
+}
+
+fn clear(work: &mut [u8])
+    ensures { λ _. ⌜ now (work .exit) ≡ replicate (length (now (work .entry))) 0 ⌝ }
+{
+    let mut i = 0;
+    while i < work.len() {
+        work[i] = 0;
+        i += 1;
+    }
+}
+
+// Each probe's spare, into zeros.
+fn find_spares(
+    spares: &mut [u16],
+    probes: usize,
+    links: usize,
+    needs: &[u16],
+    lows: &[u16],
+    highs: &[u16],
+)
+    requires { ⌜ (links ≤ length (now lows)) × (links ≤ length (now highs)) × (links ≤ 65535) × (probes ≤ length (now spares)) × (probes ≤ length (now needs))
+        × (first (linkFault probes (item (now lows)) (item (now highs))) links ≡ 0)
+        × ((v : ℕ) → getD (now spares) v 0 ≡ 0) ⌝ }
+    ensures { λ _. ⌜ ((v : ℕ) → getD (now (spares .exit)) v 0 ≡ spare (ofSlices 0 probes links (now (needs .entry)) (now (lows .entry)) (now (highs .entry)) []) v) ⌝ }
+{
+    table::degrees::count_degrees(spares, probes, links, lows, highs);
+    take_needs(spares, probes, needs);
+}
+
+// The plan by turns: 1 for a kept link, 0 for a rested one.
+pub fn by_turns(
+    plan: &mut [u8],
+    work: &mut [u8],
+    probes: usize,
+    links: usize,
+    needs: &[u16],
+    lows: &[u16],
+    highs: &[u16],
+    costs: &[u16],
+)
+    requires { ⌜ (tableFault 256 2048 (ofSlices 0 probes links (now needs) (now lows) (now highs) (now costs)) ≡ 0)
+        × (probes ≤ length (now needs)) × (links ≤ length (now lows)) × (links ≤ length (now highs)) × (links ≤ length (now costs))
+        × (links ≤ length (now plan)) × (4 * links ≤ length (now work)) ⌝ }
+    ensures { λ _. ⌜ now (plan .exit) ≡ stored (λ i. cond (kept (ofSlices 0 probes links (now (needs .entry)) (now (lows .entry)) (now (highs .entry)) (now (costs .entry))) i) 1 0) links (now (plan .entry)) ⌝ }
+    ensures { λ _. ⌜ now (work .exit) ≡ replicate (length (now (work .entry))) 0 ⌝ }
+{
+    clear(work);
+    let mut spares = [0u16; 256];
+    find_spares(&mut spares, probes, links, needs, lows, highs);
+    let mut marks = [0u16; 1024];
+    let mut nexts = [0u16; 4096];
+    let mut ups = [0u16; 4096];
+    plan_turns_search::chains::link_up(&mut marks, &mut nexts, &mut ups, links, lows, highs, costs);
+    super::turns::take_turns(
+        work,
+        &mut marks,
+        probes,
+        links,
+        lows,
+        highs,
+        costs,
+        &spares,
+        &nexts,
+        &ups,
+    );
+    write_plan(plan, work, links);
+    clear(work);
+}

@@ -1,0 +1,70 @@
+// The functions, each within the bounds that it asks.
+ghost use Prim.Native.Nat.{_+_, _*_, _<_, _≤_};
+ghost use lib.ListN.{length};
+ghost use Rattle.plan_turns_search.specs.Chain.{Falling, Rising};
+ghost use Rattle.plan_turns_search.specs.Record.{Ready, Kept, Turned, Over};
+use plan_turns_search::directions::STANDING;
+use plan_turns_search::directions::entry;
+
+// The turn of probe p: it offers until its offers standing equal its spare or none is left to make.
+fn turn(
+    rec: &mut [u8],
+    marks: &mut [u16],
+    links: usize,
+    lows: &[u16],
+    highs: &[u16],
+    costs: &[u16],
+    spares: &[u16],
+    nexts: &[u16],
+    ups: &[u16],
+    p: usize,
+)
+    requires { ⌜ (Ready links (now lows) (now highs) (now costs) (now spares) (now rec)) × (Kept links (now lows) (now highs) (now costs) (now spares) (now rec) (now marks))
+        × (Falling links (now lows) (now highs) (now costs) (now nexts)) × (Rising links (now lows) (now highs) (now costs) (now ups)) × (p < length (now spares)) ⌝ }
+    ensures { λ _. ⌜ (Turned links (now (lows .entry)) (now (highs .entry)) (now (costs .entry)) (now (spares .entry)) (now (rec .entry)) (now (rec .exit)) p) × (Kept links (now (lows .entry)) (now (highs .entry)) (now (costs .entry)) (now (spares .entry)) (now (rec .exit)) (now (marks .exit))) ⌝ }
+{
+    loop {
+        if entry(spares, p) <= entry(marks, 4 * p + STANDING) {
+            return;
+        }
+        let made = super::offers::make_offer(
+            rec,
+            marks,
+            links,
+            lows,
+            highs,
+            costs,
+            spares,
+            nexts,
+            ups,
+            p,
+        );
+        if !made {
+            return;
+        }
+    }
+}
+
+// The turns of all probes, in number order.
+pub fn take_turns(
+    rec: &mut [u8],
+    marks: &mut [u16],
+    probes: usize,
+    links: usize,
+    lows: &[u16],
+    highs: &[u16],
+    costs: &[u16],
+    spares: &[u16],
+    nexts: &[u16],
+    ups: &[u16],
+)
+    requires { ⌜ (Ready links (now lows) (now highs) (now costs) (now spares) (now rec)) × (Kept links (now lows) (now highs) (now costs) (now spares) (now rec) (now marks))
+        × (Falling links (now lows) (now highs) (now costs) (now nexts)) × (Rising links (now lows) (now highs) (now costs) (now ups)) × (probes ≤ length (now spares)) ⌝ }
+    ensures { λ _. ⌜ Over links (now (lows .entry)) (now (highs .entry)) (now (costs .entry)) (now (spares .entry)) (now (rec .exit)) probes ⌝ }
+{
+    let mut p = 0;
+    while p < probes {
+        turn(rec, marks, links, lows, highs, costs, spares, nexts, ups, p);
+        p += 1;
+    }
+}

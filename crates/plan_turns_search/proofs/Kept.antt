@@ -1,0 +1,85 @@
+-- The entries beside the bytes, where one is stored.
+use Prim.Native.Nat.{ℕ, _+_, _-_, _*_, _≤_, _<_}
+use mathlib.Core.Path.{_≡_, _∙_}
+use mathlib.Core.List.{List}
+use native.Mathlib.Omega.{arith}
+use native.Mathlib.Decide.{ℕ-discrete}
+use lib.ListN.{length, set, length-set}
+use lib.Seq.{getD-set-same, getD-set-other}
+use Rattle.table.specs.Table.{item}
+use Rattle.plan_turns_search.specs.Record.{atSource, endOf, siteOf, mark, FirstMarks, Kept}
+use Rattle.plan_turns_search.specs.Offers.{Site, Sought, Floor, Walk}
+use Rattle.plan_turns_search.proofs.Chain.{walk-sought}
+
+-- in another column
+pub mark-other : (marks marks′ : List ℕ) (v j x w k : ℕ) → marks′ ≡ set marks (4 * v + j) x → j < 4 → k < 4 → (k ≡ j → ⊥) → mark marks′ w k ≡ mark marks w k
+mark-other marks marks′ v j x w k e lj lk n = rw e (getD-set-other marks (4 * v + j) (4 * w + k) x 0 (λ z. n (omega arith)))
+
+-- in the same column: what is said of each probe's entry
+pub mark-column : (P Q : ℕ → ℕ → Type 0) (n k : ℕ) (marks marks′ : List ℕ) (v x : ℕ) → marks′ ≡ set marks (4 * v + k) x → k < 4 → 4 * n ≤ length marks → v < n → Q v x
+    → ((w : ℕ) → w < n → (w ≡ v → ⊥) → P w (mark marks w k) → Q w (mark marks w k)) → ((w : ℕ) → w < n → P w (mark marks w k)) → (w : ℕ) → w < n → Q w (mark marks′ w k)
+mark-column P Q n k marks marks′ v x e lk room lv q h p w l = go (ℕ-discrete w v)
+  where
+    go : Dec (w ≡ v) → Q w (mark marks′ w k)
+    go (yes z) = rw (z, e, getD-set-same marks (4 * v + k) x 0 (omega arith)) q
+    go (no z) = rw (e, getD-set-other marks (4 * v + k) (4 * w + k) x 0 (λ y. z (omega arith))) (h w l z (p w l))
+
+-- one less at an entry is no more at any
+pub less-at : (marks marks′ : List ℕ) (i j : ℕ) → i < length marks → marks′ ≡ set marks i (item marks i - 1) → item marks′ j ≤ item marks j
+less-at marks marks′ i j l e = rw e (go (ℕ-discrete j i))
+  where
+    go : Dec (j ≡ i) → item (set marks i (item marks i - 1)) j ≤ item marks j
+    go (yes z) = rw (z, getD-set-same marks i (item marks i - 1) 0 l) (omega arith)
+    go (no z) = rw (getD-set-other marks i j (item marks i - 1) 0 z) (omega arith)
+
+pub room-kept : (marks marks′ : List ℕ) (n i x : ℕ) → marks′ ≡ set marks i x → n ≤ length marks → n ≤ length marks′
+room-kept marks marks′ n i x e l = rw e (simp length-set l)
+
+-- the searches' starts of one more probe
+pub first-next : (cursors floors marks marks₁ marks₂ : List ℕ) (v x y : ℕ) → 4 * v + 3 < length marks → x ≡ item cursors v → y ≡ item floors v → marks₁ ≡ set marks (4 * v + 2) x → marks₂ ≡ set marks₁ (4 * v + 3) y
+    → FirstMarks cursors floors marks v → FirstMarks cursors floors marks₂ (v + 1)
+first-next cursors floors marks marks₁ marks₂ v x y l ex ey e₁ e₂ f =
+    record { none = λ w. (still w 0 (omega arith) ∙ f .none w .0, still w 1 (omega arith) ∙ f .none w .1); starts = starts }
+  where
+    still : (w k : ℕ) → k < 2 → mark marks₂ w k ≡ mark marks w k
+    still w k lk = mark-other marks₁ marks₂ v 3 y w k e₂ (omega arith) (omega arith) (λ z. omega arith) ∙ mark-other marks marks₁ v 2 x w k e₁ (omega arith) (omega arith) (λ z. omega arith)
+
+    floors-at : (w : ℕ) → w < v + 1 → mark marks₂ w 3 ≡ item floors w
+    floors-at =
+        mark-column (λ w n. w < v → n ≡ item floors w) (λ w n. n ≡ item floors w) (v + 1) 3 marks₁ marks₂ v y e₂ (omega arith) (room-kept marks marks₁ (4 * (v + 1)) (4 * v + 2) x e₁ (omega arith)) (omega arith) ey
+        (λ w m z h. h (omega arith)) (λ w m b. mark-other marks marks₁ v 2 x w 3 e₁ (omega arith) (omega arith) (λ z. omega arith) ∙ f .starts w b .1)
+
+    cursors-at : (w : ℕ) → w < v + 1 → mark marks₁ w 2 ≡ item cursors w
+    cursors-at =
+        mark-column (λ w n. w < v → n ≡ item cursors w) (λ w n. n ≡ item cursors w) (v + 1) 2 marks marks₁ v x e₁ (omega arith) (omega arith) (omega arith) ex
+        (λ w m z h. h (omega arith)) (λ w m b. f .starts w b .0)
+
+    starts : (w : ℕ) → w < v + 1 → (mark marks₂ w 2 ≡ item cursors w) × (mark marks₂ w 3 ≡ item floors w)
+    starts w m = (mark-other marks₁ marks₂ v 3 y w 2 e₂ (omega arith) (omega arith) (λ z. omega arith) ∙ cursors-at w m, floors-at w m)
+
+module _ (links : ℕ) (lows highs costs spares r marks : List ℕ) (k : Kept links lows highs costs spares r marks) where
+  abbrev site : Site
+  site = siteOf links lows highs costs spares
+
+  pub cursor-moved : (u d : ℕ) → u < length spares → Sought site (atSource r) u d → (marks′ : List ℕ) → marks′ ≡ set marks (4 * u + 2) d → Kept links lows highs costs spares r marks′
+  cursor-moved u d l s marks′ e =
+      record {
+        room = room-kept marks marks′ (4 * length spares) (4 * u + 2) d e (k .room);
+        standing = λ w m. rw (mark-other marks marks′ u 2 d w 0 e (omega arith) (omega arith) (λ z. omega arith)) (k .standing w m);
+        held = λ w m. rw (mark-other marks marks′ u 2 d w 1 e (omega arith) (omega arith) (λ z. omega arith)) (k .held w m);
+        cursors = mark-column (Walk site (atSource r)) (Walk site (atSource r)) (length spares) 2 marks marks′ u d e (omega arith) (k .room) l (walk-sought site (atSource r) u d s) (λ w m z a. a) (k .cursors);
+        floors = λ w m. rw (mark-other marks marks′ u 2 d w 3 e (omega arith) (omega arith) (λ z. omega arith)) (k .floors w m);
+      }
+
+  pub floor-moved : (v f : ℕ) → v < length spares → Floor site (atSource r) v f → (marks′ : List ℕ) → marks′ ≡ set marks (4 * v + 3) f → Kept links lows highs costs spares r marks′
+  floor-moved v f l h marks′ e =
+      record {
+        room = room-kept marks marks′ (4 * length spares) (4 * v + 3) f e (k .room);
+        standing = λ w m. rw (mark-other marks marks′ v 3 f w 0 e (omega arith) (omega arith) (λ z. omega arith)) (k .standing w m);
+        held = λ w m. rw (mark-other marks marks′ v 3 f w 1 e (omega arith) (omega arith) (λ z. omega arith)) (k .held w m);
+        cursors = λ w m. rw (mark-other marks marks′ v 3 f w 2 e (omega arith) (omega arith) (λ z. omega arith)) (k .cursors w m);
+        floors = mark-column at at (length spares) 3 marks marks′ v f e (omega arith) (k .room) l (λ d m own. h) (λ w m z a. a) (k .floors);
+      }
+    where
+      at : ℕ → ℕ → Type 0
+      at v f = (d : ℕ) → d < 2 * links → endOf highs lows d ≡ v → Floor site (atSource r) v f

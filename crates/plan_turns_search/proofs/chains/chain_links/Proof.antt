@@ -1,0 +1,101 @@
+-- `plan_turns_search::chains::chain_links` meets its contract.
+use borrow.Author.Needs.{needs}
+use Rattle.plan_turns_search.proofs.chains.chain_links.Statement.{statement}
+use Rattle.plan_turns_search.proofs.chains.chain_links.Tie as tie
+use Prim.Native.Nat.{ℕ, _+_, _-_, _*_, _/_, _≤_}
+use mathlib.Core.Path.{_≡_, refl, _∙_}
+use native.Mathlib.Omega.{arith}
+use lib.ListN.{length}
+use Rattle.plan_turns_search.specs.Record.{endOf}
+use Rattle.plan_turns_search.specs.Chain.{ChainBelow, Falls}
+use Rattle.plan_turns_search.proofs.Build.{roof, chain-start, chain-next, chain-done}
+
+abbrev Inv-loop : tie.InvT-loop
+Inv-loop heads₀ nexts₀ links lows highs order k₀ heads nexts k = (k ≤ links) × ((key : ℕ → ℕ) → Falls links key order → ChainBelow (2 * links) (endOf lows highs) (λ d. key (d / 2)) heads nexts (roof links key order k)) × (length heads ≡ length heads₀) × (length nexts ≡ length nexts₀)
+
+abbrev μ-loop : tie.MeasureT-loop
+μ-loop heads₀ nexts₀ links lows highs order k₀ heads nexts k = k
+
+loop-holds : tie.Need-loop-holds Inv-loop μ-loop
+loop-holds c =
+    let a = c .before .before .before .before .before .args in
+    (search needs, λ key f. chain-start (a .links) (a .lows .now) (a .highs .now) (a .order .now) key f (a .heads .now) (a .nexts .now) (c .before .before .before .before .before .pre .7), refl, refl)
+
+sub-k : tie.Need-sub-k Inv-loop μ-loop
+sub-k c = search needs
+
+entry-requires : tie.Need-entry-requires Inv-loop μ-loop
+entry-requires c κs = search needs
+
+entry-requires-2 : tie.Need-entry-requires-2 Inv-loop μ-loop
+entry-requires-2 c κs =
+    let l = c .before .before .before .before .before .before .before .before .before .before .pre .6 (c .before .before .before .before .loop .k - 1) (omega arith) in
+    omega arith
+
+entry-requires-3 : tie.Need-entry-requires-3 Inv-loop μ-loop
+entry-requires-3 c κs =
+    let l = c .before .before .before .before .before .before .before .before .before .before .before .pre .6 (c .before .before .before .before .before .loop .k - 1) (omega arith) in
+    omega arith
+
+push-requires : tie.Need-push-requires Inv-loop μ-loop
+push-requires c κs =
+    let l = c .before .before .before .before .before .before .before .before .before .before .before .before .pre .6 (c .before .before .before .before .before .before .loop .k - 1) (omega arith) in
+    let e = c .before .before .before .before .entry .ensures in
+    let m = c .before .before .before .before .before .before .before .before .before .before .before .before .pre .5 (c .before .before .before .before .entry .result) (omega arith) in
+    let n = c .before .before .before .before .before .before .loop .inv in
+    let x = c .before .entry2 .ensures in
+    let y = c .entry3 .ensures in
+    (omega arith, omega (arith, m .0), omega (arith, m .1, n .2), omega (arith, n .3))
+
+loop-less : tie.Need-loop-less Inv-loop μ-loop
+loop-less c = search needs
+
+loop-again : tie.Need-loop-again Inv-loop μ-loop
+loop-again c =
+    let a = c .before .before .before .before .before .before .before .before .before .before .before .before .before .before .before .before .before .args in
+    let p = c .before .before .before .before .before .before .before .before .before .before .before .before .before .before .before .before .before .pre in
+    let n = c .before .before .before .before .before .before .before .before .before .before .before .loop .inv in
+    let k = c .before .before .before .before .before .before .before .before .before .before .before .loop .k in
+    let t = c .before .before .before .before .before .before .before .before .before .before .loop-test .taken in
+    let i = c .before .before .before .before .before .before .before .before .before .entry .result in
+    let z = c .before .before .before .before .before .before .before .before .before .entry .ensures in
+    let l = p .6 (k - 1) (omega arith) in
+    let m = p .5 i (omega arith) in
+    let x = c .before .before .before .before .before .before .entry2 .ensures in
+    let y = c .before .before .before .before .before .entry3 .ensures in
+    let e : k - 1 + 1 ≡ k = omega arith in (
+      search needs,
+      λ key f. chain-next (a .links) (a .lows .now) (a .highs .now) (a .order .now) key f (λ j g. p .5 j g .0) (c .before .before .before .before .before .before .before .before .before .before .before .loop .heads) (c .before .before .before .before .before .before .before .before .before .before .before .loop .nexts) _ _ (k - 1) i (c .before .before .before .before .before .before .entry2 .result) (c .before .before .before .before .before .entry3 .result) (rw e (n .1 key f)) (omega arith) z x y (omega (arith, m .1, n .2)) (omega (arith, n .3)) (c .before .before .before .before .push .ensures .0) (c .before .before .before .before .push .ensures .1),
+      c .before .before .before .before .push .kept .0 ∙ n .2,
+      c .before .before .before .before .push .kept .1 .0 ∙ n .3,
+    )
+
+same-length : tie.Need-same-length Inv-loop μ-loop
+same-length c = c .before .loop .inv .2
+
+same-length-2 : tie.Need-same-length-2 Inv-loop μ-loop
+same-length-2 c = c .before .loop .inv .3
+
+returns : tie.Need-returns Inv-loop μ-loop
+returns c =
+    let a = c .before .before .before .before .before .before .before .args in
+    let e : c .before .loop .k ≡ 0 = omega arith in
+    λ key f small. chain-done (a .links) (a .lows .now) (a .highs .now) (a .order .now) key f _ _ (rw e at (c .before .loop .inv .1 key f)) small
+
+pub chain-links-spec : {M : Type 1} → statement M
+chain-links-spec =
+    tie.close
+    (tie.spec
+    Inv-loop
+    μ-loop
+    loop-holds
+    sub-k
+    entry-requires
+    entry-requires-2
+    entry-requires-3
+    push-requires
+    loop-less
+    loop-again
+    same-length
+    same-length-2
+    returns)

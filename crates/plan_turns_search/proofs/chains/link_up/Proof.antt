@@ -1,0 +1,110 @@
+-- `plan_turns_search::chains::link_up` meets its contract.
+use borrow.Author.Needs.{needs}
+use Rattle.plan_turns_search.proofs.chains.link_up.Statement.{statement}
+use Rattle.plan_turns_search.proofs.chains.link_up.Tie as tie
+use Prim.Native.Nat.{ℕ}
+use mathlib.Core.Path.{_≡_}
+use native.Mathlib.Omega.{arith}
+use lib.ListN.{length, replicate, length-replicate, getD-replicate}
+use Rattle.plan_turns_search.proofs.Build.{chains-down, chains-up, round-below}
+
+slice-aggregate-order-links : tie.Need-slice-aggregate-order-links
+slice-aggregate-order-links c = search needs
+
+order-links-requires : tie.Need-order-links-requires
+order-links-requires c κs = search needs
+
+slice-aggregate-turn-round : tie.Need-slice-aggregate-turn-round
+slice-aggregate-turn-round c = search needs
+
+slice-aggregate-turn-round-2 : tie.Need-slice-aggregate-turn-round-2
+slice-aggregate-turn-round-2 c = search needs
+
+turn-round-requires : tie.Need-turn-round-requires
+turn-round-requires c κs = search needs
+
+slice-aggregate-chain-links : tie.Need-slice-aggregate-chain-links
+slice-aggregate-chain-links c = search needs
+
+slice-aggregate-chain-links-2 : tie.Need-slice-aggregate-chain-links-2
+slice-aggregate-chain-links-2 c = search needs
+
+chain-links-requires : tie.Need-chain-links-requires
+chain-links-requires c κs =
+    let p = c .before .before .before .before .before .before .before .before .before .before .before .before .before .before .before .before .pre in
+    let o = c .before .before .before .before .before .before .before .before .order-links in
+    (p .0, p .1, p .2, search needs, p .7, λ i l. (p .4 i l .0, rw (length-replicate {A = ℕ} 256 65535) (p .4 i l .1)), o .ensures .below, λ v l. rw (getD-replicate {A = ℕ} 256 v 65535 0 l) (omega (arith, p .0)))
+
+slice-aggregate-chain-links-3 : tie.Need-slice-aggregate-chain-links-3
+slice-aggregate-chain-links-3 c = search needs
+
+slice-aggregate-chain-links-4 : tie.Need-slice-aggregate-chain-links-4
+slice-aggregate-chain-links-4 c = search needs
+
+chain-links-requires-2 : tie.Need-chain-links-requires-2
+chain-links-requires-2 c κs =
+    let a = c .before .before .before .before .before .before .before .before .before .before .before .before .before .before .before .before .before .before .before .before .before .before .before .args in
+    let p = c .before .before .before .before .before .before .before .before .before .before .before .before .before .before .before .before .before .before .before .before .before .before .before .pre in
+    let o = c .before .before .before .before .before .before .before .before .before .before .before .before .before .before .before .order-links in
+    let t = c .before .before .before .before .before .before .before .before .before .before .before .turn-round in
+    (p .0, p .1, p .2, search needs, p .8, λ i l. (p .4 i l .0, rw (length-replicate {A = ℕ} 256 65535) (p .4 i l .1)), round-below (a .links) (a .lows .now) (a .highs .now) (a .costs .now) (p .0) (λ i. c .before .before .before .before .before .before .before .before .before .before .before .before .before .before .before .before .before .shared-slice-known3 .given i .fits) (o .last .0) (o .ensures) (replicate 2048 0) (t .last .0) (p .0) (t .ensures), λ v l. rw (getD-replicate {A = ℕ} 256 v 65535 0 l) (omega (arith, p .0)))
+
+slice-aggregate-start : tie.Need-slice-aggregate-start
+slice-aggregate-start c = search needs
+
+slice-aggregate-start-2 : tie.Need-slice-aggregate-start-2
+slice-aggregate-start-2 c = search needs
+
+start-requires : tie.Need-start-requires
+start-requires c κs =
+    let p = c .before .before .before .before .before .before .before .before .before .before .before .before .before .before .before .before .before .before .before .before .before .before .before .before .before .before .before .before .before .before .pre in
+    (p .5, c .before .before .before .before .before .before .before .before .before .before .before .before .before .chain-links .kept .0, c .before .before .before .before .before .before .chain-links2 .kept .0, p .6)
+
+same-length : tie.Need-same-length
+same-length c = search needs
+
+same-length-2 : tie.Need-same-length-2
+same-length-2 c = search needs
+
+same-length-3 : tie.Need-same-length-3
+same-length-3 c = search needs
+
+returns : tie.Need-returns
+returns c =
+    let a = c .before .before .before .before .before .before .before .before .before .before .before .before .before .before .before .before .before .before .before .before .before .before .before .before .before .before .before .before .before .before .before .before .before .args in
+    let p = c .before .before .before .before .before .before .before .before .before .before .before .before .before .before .before .before .before .before .before .before .before .before .before .before .before .before .before .before .before .before .before .before .before .pre in
+    let o = c .before .before .before .before .before .before .before .before .before .before .before .before .before .before .before .before .before .before .before .before .before .before .before .before .before .order-links in
+    let t = c .before .before .before .before .before .before .before .before .before .before .before .before .before .before .before .before .before .before .before .before .before .turn-round in
+    let k = c .before .before .before .before .before .before .before .before .before .before .before .before .before .before .before .before .chain-links in
+    let m = c .before .before .before .before .before .before .before .before .before .chain-links2 in
+    let n = k .kept .1 .0 in
+    let q = m .kept .1 .0 in
+    let s = c .before .before .start .ensures in
+    let x : length (k .last .0) ≡ 256 = k .kept .0 in
+    let y : length (m .last .0) ≡ 256 = m .kept .0 in
+    let down = chains-down (a .links) (a .lows .now) (a .highs .now) (a .costs .now) (p .0) (λ i. c .before .before .before .before .before .before .before .before .before .before .before .before .before .before .before .before .before .before .before .before .before .before .before .before .before .before .before .shared-slice-known3 .given i .fits) (o .last .0) (o .ensures) (k .last .0) (k .last .1 .0) (k .ensures) (omega (arith, p .7)) in
+    let up = chains-up (a .links) (a .lows .now) (a .highs .now) (a .costs .now) (p .0) (λ i. c .before .before .before .before .before .before .before .before .before .before .before .before .before .before .before .before .before .before .before .before .before .before .before .before .before .before .before .shared-slice-known3 .given i .fits) (o .last .0) (o .ensures) (replicate 2048 0) (t .last .0) (p .0) (t .ensures) (m .last .0) (m .last .1 .0) (m .ensures) (omega (arith, p .8)) in
+    (record { standing = λ v l. s .none v .0; held = λ v l. s .none v .1; cursors = λ v l. rw (s .starts v l .0) (down .0 v (omega arith)); floors = λ v l. rw (s .starts v l .1) (up .0 v (omega arith)) }, down .1, up .1)
+
+pub link-up-spec : {M : Type 1} → statement M
+link-up-spec =
+    tie.close
+    (tie.spec
+    slice-aggregate-order-links
+    order-links-requires
+    slice-aggregate-turn-round
+    slice-aggregate-turn-round-2
+    turn-round-requires
+    slice-aggregate-chain-links
+    slice-aggregate-chain-links-2
+    chain-links-requires
+    slice-aggregate-chain-links-3
+    slice-aggregate-chain-links-4
+    chain-links-requires-2
+    slice-aggregate-start
+    slice-aggregate-start-2
+    start-requires
+    same-length
+    same-length-2
+    same-length-3
+    returns)

@@ -1,0 +1,100 @@
+-- `plan_turns_search::chains::start` meets its contract.
+use borrow.Author.Needs.{needs}
+use Rattle.plan_turns_search.proofs.chains.start.Statement.{statement}
+use Rattle.plan_turns_search.proofs.chains.start.Tie as tie
+use Prim.Native.Nat.{_-_, _≤_}
+use mathlib.Core.Path.{_≡_, sym, _∙_}
+use native.Mathlib.Omega.{arith}
+use lib.ListN.{length}
+use Rattle.plan_turns_search.specs.Record.{FirstMarks}
+use Rattle.plan_turns_search.proofs.Kept.{first-next}
+
+abbrev Inv-loop : tie.InvT-loop
+Inv-loop marks₀ cursors floors v₀ marks v = (v ≤ 256) × FirstMarks cursors floors marks v × (length marks ≡ 1024)
+
+abbrev μ-loop : tie.MeasureT-loop
+μ-loop marks₀ cursors floors v₀ marks v = 256 - v
+
+loop-holds : tie.Need-loop-holds Inv-loop μ-loop
+loop-holds c =
+    let p = c .before .before .before .pre in
+    (search needs, record { none = λ v. (p .3 _, p .3 _); starts = λ v l. absurd (omega arith) }, p .0)
+
+mul-store : tie.Need-mul-store Inv-loop μ-loop
+mul-store c = search needs
+
+add-store : tie.Need-add-store Inv-loop μ-loop
+add-store c = search needs
+
+entry-requires : tie.Need-entry-requires Inv-loop μ-loop
+entry-requires c κs =
+    let e = c .before .before .before .before .before .before .pre .1 in
+    omega arith
+
+store-requires : tie.Need-store-requires Inv-loop μ-loop
+store-requires c κs =
+    let k = c .before .before .before .loop .inv .2 in
+    let e = c .entry .ensures in
+    let f = c .before .before .before .before .before .shared-slice-known .given (c .before .before .before .loop .v) .fits in
+    (omega arith, omega arith)
+
+mul-store-2 : tie.Need-mul-store-2 Inv-loop μ-loop
+mul-store-2 c = search needs
+
+add-store-2 : tie.Need-add-store-2 Inv-loop μ-loop
+add-store-2 c = search needs
+
+entry-requires-2 : tie.Need-entry-requires-2 Inv-loop μ-loop
+entry-requires-2 c κs =
+    let e = c .before .before .before .before .before .before .before .before .before .before .before .pre .2 in
+    omega arith
+
+store-requires-2 : tie.Need-store-requires-2 Inv-loop μ-loop
+store-requires-2 c κs =
+    let k = c .before .before .before .before .before .before .before .before .loop .inv .2 in
+    let n = c .before .before .before .before .store .kept .0 in
+    let e = c .entry2 .ensures in
+    let f = c .before .before .before .before .before .before .before .before .before .shared-slice-known2 .given (c .before .before .before .before .before .before .before .before .loop .v) .fits in
+    (omega arith, omega arith)
+
+add-v : tie.Need-add-v Inv-loop μ-loop
+add-v c = search needs
+
+loop-less : tie.Need-loop-less Inv-loop μ-loop
+loop-less c = search needs
+
+loop-again : tie.Need-loop-again Inv-loop μ-loop
+loop-again c =
+    let a = c .before .before .before .before .before .before .before .before .before .before .before .before .before .before .before .args in
+    let i = c .before .before .before .before .before .before .before .before .before .before .before .loop .inv in
+    let k = i .2 in
+    (omega (arith, c .before .before .before .before .before .before .before .before .before .before .loop-test .taken), first-next (a .cursors .now) (a .floors .now) (c .before .before .before .before .before .before .before .before .before .before .before .loop .marks) (c .before .before .before .before .before .before .before .store .last .0) _ (c .before .before .before .before .before .before .before .before .before .before .before .loop .v) (c .before .before .before .before .before .before .before .before .entry .result) (c .before .before .before .entry2 .result) (omega arith) (c .before .before .before .before .before .before .before .before .entry .ensures) (c .before .before .before .entry2 .ensures) (c .before .before .before .before .before .before .before .store .ensures) (c .before .before .store2 .ensures) (i .1), c .before .before .store2 .kept .0 ∙ c .before .before .before .before .before .before .before .store .kept .0 ∙ k)
+
+same-length : tie.Need-same-length Inv-loop μ-loop
+same-length c = c .before .loop .inv .2 ∙ sym (c .before .before .before .before .before .pre .0)
+
+returns : tie.Need-returns Inv-loop μ-loop
+returns c =
+    let e : c .before .loop .v ≡ 256 = omega arith in
+    rw e at (c .before .loop .inv .1)
+
+pub start-spec : {M : Type 1} → statement M
+start-spec =
+    tie.close
+    (tie.spec
+    Inv-loop
+    μ-loop
+    loop-holds
+    mul-store
+    add-store
+    entry-requires
+    store-requires
+    mul-store-2
+    add-store-2
+    entry-requires-2
+    store-requires-2
+    add-v
+    loop-less
+    loop-again
+    same-length
+    returns)

@@ -1,0 +1,82 @@
+// The functions, each within the bounds that it asks.
+ghost use Prim.Native.Nat.{_+_, _*_, _<_, _≤_};
+ghost use lib.ListN.{length};
+ghost use Rattle.table.specs.Table.{item};
+ghost use Rattle.plan_turns_search.specs.Record.{atSource, siteOf, Ready, Kept};
+ghost use Rattle.plan_turns_search.specs.Chain.{opposite, Falling, Rising};
+ghost use Rattle.plan_turns_search.specs.Offers.{Sought, Cheapest, Floor, holds};
+use super::directions::CURSOR;
+use super::directions::FLOOR;
+use super::directions::HELD;
+use super::directions::cheaper;
+use super::directions::end_of;
+use super::directions::entry;
+use super::directions::opposite;
+
+// The dearest untried direction of u whose target would take it, or a number past all. An end that holds its spare takes what is
+// dearer than one of its held offers; below its floor it holds none.
+pub fn next_offer(
+    rec: &[u8],
+    marks: &[u16],
+    links: usize,
+    lows: &[u16],
+    highs: &[u16],
+    costs: &[u16],
+    spares: &[u16],
+    nexts: &[u16],
+    ups: &[u16],
+    u: usize,
+) -> usize
+    requires { ⌜ (Ready links (now lows) (now highs) (now costs) (now spares) (now rec)) × (Kept links (now lows) (now highs) (now costs) (now spares) (now rec) (now marks))
+        × (Falling links (now lows) (now highs) (now costs) (now nexts)) × (Rising links (now lows) (now highs) (now costs) (now ups)) × (u < length (now spares)) ⌝ }
+    ensures { λ r. ⌜ (Sought (siteOf links (now (lows .entry)) (now (highs .entry)) (now (costs .entry)) (now (spares .entry))) (atSource (now (rec .entry))) u r) × (r ≤ 2 * links) ⌝ }
+{
+    let dirs = 2 * links;
+    let mut found = dirs;
+    let mut e = entry(marks, 4 * u + CURSOR);
+    'search: while e < dirs {
+        let d = e;
+        e = entry(nexts, d);
+        if rec[2 * d] != 0 {
+            continue 'search;
+        }
+        let v = end_of(highs, lows, d);
+        if entry(marks, 4 * v + HELD) < entry(spares, v) {
+            found = d;
+            break 'search;
+        }
+        let mut f = entry(marks, 4 * v + FLOOR);
+        while cheaper(costs, f, d) {
+            if rec[2 * opposite(f) + 1] == 1 {
+                found = d;
+                break 'search;
+            }
+            f = entry(ups, f);
+        }
+    }
+    found
+}
+
+// The direction from v that the cheapest offer held by v comes against.
+pub fn cheapest(
+    rec: &[u8],
+    marks: &[u16],
+    links: usize,
+    lows: &[u16],
+    highs: &[u16],
+    costs: &[u16],
+    spares: &[u16],
+    ups: &[u16],
+    v: usize,
+) -> usize
+    requires { ⌜ (Ready links (now lows) (now highs) (now costs) (now spares) (now rec)) × (Kept links (now lows) (now highs) (now costs) (now spares) (now rec) (now marks)) × (Rising links (now lows) (now highs) (now costs) (now ups)) × (v < length (now spares))
+        × (0 < holds (siteOf links (now lows) (now highs) (now costs) (now spares)) (atSource (now rec)) v) × (item (now spares) v ≤ holds (siteOf links (now lows) (now highs) (now costs) (now spares)) (atSource (now rec)) v) ⌝ }
+    ensures { λ r. ⌜ (Cheapest (siteOf links (now (lows .entry)) (now (highs .entry)) (now (costs .entry)) (now (spares .entry))) (atSource (now (rec .entry))) v (opposite r))
+        × (Floor (siteOf links (now (lows .entry)) (now (highs .entry)) (now (costs .entry)) (now (spares .entry))) (atSource (now (rec .entry))) v r) ⌝ }
+{
+    let mut f = entry(marks, 4 * v + FLOOR);
+    while rec[2 * opposite(f) + 1] != 1 {
+        f = entry(ups, f);
+    }
+    f
+}

@@ -1,0 +1,89 @@
+-- `probe_checks::faults::frame_fault` meets its contract.
+use borrow.Author.Needs.{needs}
+use Rattle.probe_checks.proofs.faults.frame_fault.Statement.{statement}
+use Rattle.probe_checks.proofs.faults.frame_fault.Tie as tie
+use mathlib.Core.Path.{sym, _∙_}
+use borrow.Author.Tests.{lt-ltb, le-ltb, eq-eqb, ne-eqb}
+use Rattle.range.proofs.Faults.{or-here}
+use Rattle.probe_checks.specs.Checks.{heardFault}
+use Rattle.probe_checks.proofs.Accepted.{known-kind, other-kind}
+
+frame-fault-requires : tie.Need-frame-fault-requires
+frame-fault-requires c κs = search needs
+
+returns : tie.Need-returns
+unfolding heardFault
+returns c = or-here _ _ _ (c .before .frame-fault .ensures) (c .if1 .taken)
+
+field-requires : tie.Need-field-requires
+field-requires c κs = (sym (c .before .frame-fault .ensures) ∙ c .if1 .left, search needs, search needs)
+
+returns-2 : tie.Need-returns-2
+unfolding heardFault
+returns-2 c =
+    let z = sym (c .before .before .before .frame-fault .ensures) ∙ c .before .before .if1 .left in
+    rw (z, sym (c .before .field .ensures) ∙ c .if2 .taken)
+
+returns-3 : tie.Need-returns-3
+unfolding heardFault
+returns-3 c =
+    let z = sym (c .before .before .before .before .frame-fault .ensures) ∙ c .before .before .before .if1 .left in
+    rw (z, ← c .before .before .field .ensures, other-kind _ (c .if3 .taken))
+
+field-requires-2 : tie.Need-field-requires-2
+field-requires-2 c κs = (sym (c .before .before .before .before .frame-fault .ensures) ∙ c .before .before .before .if1 .left, search needs, search needs)
+
+wide-requires : tie.Need-wide-requires
+wide-requires c κs = search needs
+
+returns-4 : tie.Need-returns-4
+unfolding heardFault
+returns-4 c =
+    let z = sym (c .before .before .before .before .before .before .before .frame-fault .ensures) ∙ c .before .before .before .before .before .before .if1 .left in
+    rw (z, ← c .before .before .before .before .before .field .ensures, known-kind _ (c .before .before .before .before .if2 .left) (c .before .before .before .if3 .left), ← c .before .before .field2 .ensures, ne-eqb _ _ (λ q. c .if4 .taken (q ∙ sym (c .before .wide .ensures))))
+
+field-requires-3 : tie.Need-field-requires-3
+field-requires-3 c κs = (sym (c .before .before .before .before .before .before .before .frame-fault .ensures) ∙ c .before .before .before .before .before .before .if1 .left, search needs, search needs)
+
+returns-5 : tie.Need-returns-5
+unfolding heardFault
+returns-5 c =
+    let z = sym (c .before .before .before .before .before .before .before .before .before .frame-fault .ensures) ∙ c .before .before .before .before .before .before .before .before .if1 .left in
+    rw (z, ← c .before .before .before .before .before .before .before .field .ensures, known-kind _ (c .before .before .before .before .before .before .if2 .left) (c .before .before .before .before .before .if3 .left), ← c .before .before .before .before .field2 .ensures, eq-eqb _ _ (c .before .before .if4 .left ∙ c .before .before .before .wide .ensures), ← c .before .field3 .ensures, ne-eqb _ _ (c .if5 .taken))
+
+field-requires-4 : tie.Need-field-requires-4
+field-requires-4 c κs = (sym (c .before .before .before .before .before .before .before .before .before .frame-fault .ensures) ∙ c .before .before .before .before .before .before .before .before .if1 .left, search needs, search needs)
+
+between-requires : tie.Need-between-requires
+between-requires c κs = search needs
+
+returns-6 : tie.Need-returns-6
+unfolding heardFault
+returns-6 c =
+    let z = sym (c .before .before .before .before .before .before .before .before .before .before .before .before .frame-fault .ensures) ∙ c .before .before .before .before .before .before .before .before .before .before .before .if1 .left in
+    rw (z, ← c .before .before .before .before .before .before .before .before .before .before .field .ensures, known-kind _ (c .before .before .before .before .before .before .before .before .before .if2 .left) (c .before .before .before .before .before .before .before .before .if3 .left), ← c .before .before .before .before .before .before .before .field2 .ensures, eq-eqb _ _ (c .before .before .before .before .before .if4 .left ∙ c .before .before .before .before .before .before .wide .ensures), ← c .before .before .before .before .field3 .ensures, eq-eqb _ _ (c .before .before .before .if5 .left), ← c .before .before .field4 .ensures, ← c .before .between .ensures, le-ltb _ _ (c .if6 .taken))
+
+returns-7 : tie.Need-returns-7
+unfolding heardFault
+returns-7 c =
+    let z = sym (c .before .before .before .before .before .before .before .before .before .before .before .before .frame-fault .ensures) ∙ c .before .before .before .before .before .before .before .before .before .before .before .if1 .left in
+    rw (z, ← c .before .before .before .before .before .before .before .before .before .before .field .ensures, known-kind _ (c .before .before .before .before .before .before .before .before .before .if2 .left) (c .before .before .before .before .before .before .before .before .if3 .left), ← c .before .before .before .before .before .before .before .field2 .ensures, eq-eqb _ _ (c .before .before .before .before .before .if4 .left ∙ c .before .before .before .before .before .before .wide .ensures), ← c .before .before .before .before .field3 .ensures, eq-eqb _ _ (c .before .before .before .if5 .left), ← c .before .before .field4 .ensures, ← c .before .between .ensures, lt-ltb _ _ (c .if6 .left))
+
+pub frame-fault-spec : {M : Type 1} → statement M
+frame-fault-spec =
+    tie.close
+    (tie.spec
+    frame-fault-requires
+    returns
+    field-requires
+    returns-2
+    returns-3
+    field-requires-2
+    wide-requires
+    returns-4
+    field-requires-3
+    returns-5
+    field-requires-4
+    between-requires
+    returns-6
+    returns-7)

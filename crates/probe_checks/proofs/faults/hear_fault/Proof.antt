@@ -1,0 +1,104 @@
+-- `probe_checks::faults::hear_fault` meets its contract.
+use Prim.Native.Nat.{ℕ}
+use Rattle.probe_checks.proofs.Accepted.{hear-early, hear-late, heard-frame, heard-within}
+use Rattle.range.specs.First.{orElse}
+use Rattle.probe_record.specs.Record.{recordFault}
+use Rattle.table.specs.Legal.{sliceFault}
+use Rattle.table.specs.Table.{Table, ofSlices}
+use borrow.Author.Needs.{needs}
+use Rattle.probe_checks.proofs.faults.hear_fault.Statement.{statement}
+use Rattle.probe_checks.proofs.faults.hear_fault.Tie as tie
+use mathlib.Core.Path.{_≡_, sym, _∙_}
+use native.Mathlib.Omega.{arith}
+use borrow.Author.Tests.{eq-eqb, ne-eqb}
+use Rattle.range.proofs.Faults.{or-here, or-left, or-right}
+use Rattle.table_links.proofs.Search.{ordered}
+use Rattle.probe_record.proofs.Bytes.{record-good}
+use Rattle.probe_checks.specs.Checks.{heardFault}
+
+state-fault-requires : tie.Need-state-fault-requires
+state-fault-requires c κs = search needs
+
+returns : tie.Need-returns
+unfolding heardFault
+returns c =
+    let a = c .before .before .before .before .before .before .before .before .args in
+    let t : Table = ofSlices (a .number) (a .probes) (a .links) (a .needs .now) (a .lows .now) (a .highs .now) (a .costs .now) in
+    let s : ℕ = sliceFault 256 2048 0 (a .probes) (a .links) (a .needs .now) (a .lows .now) (a .highs .now) (a .costs .now) in
+    hear-early s t (a .probe) (a .rec .now) _ (a .frame .now) (a .free) (c .before .state-fault .ensures) (c .if1 .taken)
+
+frame-fault-requires : tie.Need-frame-fault-requires
+frame-fault-requires c κs =
+    let a = c .before .before .before .before .before .before .before .before .args in
+    let z = sym (c .before .state-fault .ensures) ∙ c .if1 .left in
+    ordered 256 2048 0 (a .probes) (a .links) (a .needs .now) (a .lows .now) (a .highs .now) (a .costs .now) (or-left _ _ z)
+
+returns-2 : tie.Need-returns-2
+unfolding heardFault
+returns-2 c =
+    let a = c .before .before .before .before .before .before .before .before .before .before .args in
+    let t : Table = ofSlices (a .number) (a .probes) (a .links) (a .needs .now) (a .lows .now) (a .highs .now) (a .costs .now) in
+    let s : ℕ = sliceFault 256 2048 0 (a .probes) (a .links) (a .needs .now) (a .lows .now) (a .highs .now) (a .costs .now) in
+    let z : orElse s (recordFault t (a .probe) (a .rec .now)) ≡ 0 = sym (c .before .before .before .state-fault .ensures) ∙ c .before .before .if1 .left in
+    hear-late s t (a .probe) (a .rec .now) _ (a .frame .now) (a .free) z (or-here _ _ _ (c .before .frame-fault .ensures) (c .if2 .taken))
+
+event-of-requires : tie.Need-event-of-requires
+unfolding heardFault
+event-of-requires c κs =
+    let a = c .before .before .before .before .before .before .before .before .before .before .args in
+    let z = sym (c .before .before .before .state-fault .ensures) ∙ c .before .before .if1 .left in
+    let o = ordered 256 2048 0 (a .probes) (a .links) (a .needs .now) (a .lows .now) (a .highs .now) (a .costs .now) (or-left _ _ z) in
+    let t : Table = ofSlices (a .number) (a .probes) (a .links) (a .needs .now) (a .lows .now) (a .highs .now) (a .costs .now) in
+    (o, heard-frame t (a .probe) (a .frame .now) (sym (c .before .frame-fault .ensures) ∙ c .if2 .left))
+
+untried-fault-requires : tie.Need-untried-fault-requires
+unfolding heardFault
+untried-fault-requires c κs =
+    let a = c .before .before .before .before .before .before .before .before .before .before .before .args in
+    let z : orElse (sliceFault 256 2048 0 (a .probes) (a .links) (a .needs .now) (a .lows .now) (a .highs .now) (a .costs .now)) (recordFault (ofSlices (a .number) (a .probes) (a .links) (a .needs .now) (a .lows .now) (a .highs .now) (a .costs .now)) (a .probe) (a .rec .now)) ≡ 0 = sym (c .before .before .before .before .state-fault .ensures) ∙ c .before .before .before .if1 .left in
+    let t : Table = ofSlices (a .number) (a .probes) (a .links) (a .needs .now) (a .lows .now) (a .highs .now) (a .costs .now) in
+    (rw (c .event-of .ensures) (heard-within t (a .probe) (a .frame .now) (sym (c .before .before .frame-fault .ensures) ∙ c .before .if2 .left)), (let r = record-good t (a .probe) (a .rec .now) (or-right (sliceFault 256 2048 0 (a .probes) (a .links) (a .needs .now) (a .lows .now) (a .highs .now) (a .costs .now)) (recordFault t (a .probe) (a .rec .now)) z) in omega (arith, r .0)))
+
+returns-3 : tie.Need-returns-3
+unfolding heardFault
+returns-3 c =
+    let a = c .before .before .before .before .before .before .before .before .before .before .before .before .before .args in
+    let t : Table = ofSlices (a .number) (a .probes) (a .links) (a .needs .now) (a .lows .now) (a .highs .now) (a .costs .now) in
+    let s : ℕ = sliceFault 256 2048 0 (a .probes) (a .links) (a .needs .now) (a .lows .now) (a .highs .now) (a .costs .now) in
+    let z : orElse s (recordFault t (a .probe) (a .rec .now)) ≡ 0 = sym (c .before .before .before .before .before .before .state-fault .ensures) ∙ c .before .before .before .before .before .if1 .left in
+    let h : heardFault t (a .probe) (a .frame .now) ≡ 0 = sym (c .before .before .before .before .frame-fault .ensures) ∙ c .before .before .before .if2 .left in
+    hear-late s t (a .probe) (a .rec .now) _ (a .frame .now) (a .free) z (rw (h, ← c .before .before .event-of .ensures) (or-here _ _ _ (c .before .untried-fault .ensures) (c .if3 .taken)))
+
+returns-4 : tie.Need-returns-4
+unfolding heardFault
+returns-4 c =
+    let a = c .before .before .before .before .before .before .before .before .before .before .before .before .before .before .args in
+    let t : Table = ofSlices (a .number) (a .probes) (a .links) (a .needs .now) (a .lows .now) (a .highs .now) (a .costs .now) in
+    let s : ℕ = sliceFault 256 2048 0 (a .probes) (a .links) (a .needs .now) (a .lows .now) (a .highs .now) (a .costs .now) in
+    let z : orElse s (recordFault t (a .probe) (a .rec .now)) ≡ 0 = sym (c .before .before .before .before .before .before .before .state-fault .ensures) ∙ c .before .before .before .before .before .before .if1 .left in
+    let h : heardFault t (a .probe) (a .frame .now) ≡ 0 = sym (c .before .before .before .before .before .frame-fault .ensures) ∙ c .before .before .before .before .if2 .left in
+    hear-late s t (a .probe) (a .rec .now) _ (a .frame .now) (a .free) z (rw (h, ← c .before .before .before .event-of .ensures, sym (c .before .before .untried-fault .ensures) ∙ c .before .if3 .left, eq-eqb _ _ (c .if4 .taken)))
+
+returns-5 : tie.Need-returns-5
+unfolding heardFault
+returns-5 c =
+    let a = c .before .before .before .before .before .before .before .before .before .before .before .before .before .before .args in
+    let t : Table = ofSlices (a .number) (a .probes) (a .links) (a .needs .now) (a .lows .now) (a .highs .now) (a .costs .now) in
+    let s : ℕ = sliceFault 256 2048 0 (a .probes) (a .links) (a .needs .now) (a .lows .now) (a .highs .now) (a .costs .now) in
+    let z : orElse s (recordFault t (a .probe) (a .rec .now)) ≡ 0 = sym (c .before .before .before .before .before .before .before .state-fault .ensures) ∙ c .before .before .before .before .before .before .if1 .left in
+    let h : heardFault t (a .probe) (a .frame .now) ≡ 0 = sym (c .before .before .before .before .before .frame-fault .ensures) ∙ c .before .before .before .before .if2 .left in
+    hear-late s t (a .probe) (a .rec .now) _ (a .frame .now) (a .free) z (rw (h, ← c .before .before .before .event-of .ensures, sym (c .before .before .untried-fault .ensures) ∙ c .before .if3 .left, ne-eqb _ _ (c .if4 .left)))
+
+pub hear-fault-spec : {M : Type 1} → statement M
+hear-fault-spec =
+    tie.close
+    (tie.spec
+    state-fault-requires
+    returns
+    frame-fault-requires
+    returns-2
+    event-of-requires
+    untried-fault-requires
+    returns-3
+    returns-4
+    returns-5)

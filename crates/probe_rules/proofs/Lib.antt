@@ -1,0 +1,4 @@
+pub mod OutcomeLaws
+pub mod Ready
+pub mod Frames
+pub mod Befalls

@@ -1,0 +1,60 @@
+-- `probe_rules::decisions::decide_offer` meets its contract.
+use borrow.Author.Needs.{needs}
+use Rattle.probe_rules.proofs.decisions.decide_offer.Statement.{statement}
+use Rattle.probe_rules.proofs.decisions.decide_offer.Tie as tie
+use mathlib.Core.Path.{sym, _∙_}
+use borrow.Author.Tests.{lt-ltb, le-ltb}
+use Rattle.table.specs.Table.{Table, ofSlices}
+use Rattle.probe_record.proofs.Bytes.{ones-held}
+use Rattle.plan_theory.proofs.Order.{sound, dearer-by-place}
+
+spare-requires : tie.Need-spare-requires
+spare-requires c κs = search needs
+
+ones-requires : tie.Need-ones-requires
+ones-requires c κs = search needs
+
+returns : tie.Need-returns
+returns c =
+    let a = c .before .before .before .before .before .before .before .before .args in
+    let t : Table = ofSlices 0 (a .probes) (a .links) (a .needs .now) (a .lows .now) (a .highs .now) (a .costs .now) in
+    rw (← ones-held t (a .probe) (a .rec .now) (c .before .before .before .before .before .before .before .before .pre .0 .bytes), ← c .before .ones .ensures .0, ← c .before .before .spare .ensures, lt-ltb _ _ (c .if1 .taken))
+
+cheapest-held-requires : tie.Need-cheapest-held-requires
+cheapest-held-requires c κs = search needs
+
+returns-2 : tie.Need-returns-2
+returns-2 c =
+    let a = c .before .before .before .before .before .before .before .before .before .before .args in
+    let t : Table = ofSlices 0 (a .probes) (a .links) (a .needs .now) (a .lows .now) (a .highs .now) (a .costs .now) in
+    rw (← ones-held t (a .probe) (a .rec .now) (c .before .before .before .before .before .before .before .before .before .before .pre .0 .bytes), ← c .before .before .before .ones .ensures .0, ← c .before .before .before .before .spare .ensures, le-ltb _ _ (c .before .before .if1 .left), ← c .before .cheapest-held .ensures, le-ltb _ _ (c .if2 .taken))
+
+dearer-requires : tie.Need-dearer-requires
+dearer-requires c κs = search needs
+
+returns-3 : tie.Need-returns-3
+returns-3 c =
+    let a = c .before .before .before .before .before .before .before .before .before .before .before .before .args in
+    let t : Table = ofSlices 0 (a .probes) (a .links) (a .needs .now) (a .lows .now) (a .highs .now) (a .costs .now) in
+    let d = dearer-by-place t (sound 256 2048 t (c .before .before .before .before .before .before .before .before .before .before .before .before .pre .0 .legal) .order) (a .i) _ (c .before .before .before .before .before .before .before .before .before .before .before .before .pre .1) (c .before .before .if2 .left) ∙ sym (c .before .dearer .ensures) ∙ c .if3 .taken in
+    rw (← ones-held t (a .probe) (a .rec .now) (c .before .before .before .before .before .before .before .before .before .before .before .before .pre .0 .bytes), ← c .before .before .before .before .before .ones .ensures .0, ← c .before .before .before .before .before .before .spare .ensures, le-ltb _ _ (c .before .before .before .before .if1 .left), ← c .before .before .before .cheapest-held .ensures, lt-ltb _ _ (c .before .before .if2 .left), d)
+
+returns-4 : tie.Need-returns-4
+returns-4 c =
+    let a = c .before .before .before .before .before .before .before .before .before .before .before .before .args in
+    let t : Table = ofSlices 0 (a .probes) (a .links) (a .needs .now) (a .lows .now) (a .highs .now) (a .costs .now) in
+    let d = dearer-by-place t (sound 256 2048 t (c .before .before .before .before .before .before .before .before .before .before .before .before .pre .0 .legal) .order) (a .i) _ (c .before .before .before .before .before .before .before .before .before .before .before .before .pre .1) (c .before .before .if2 .left) ∙ sym (c .before .dearer .ensures) ∙ c .if3 .left in
+    rw (← ones-held t (a .probe) (a .rec .now) (c .before .before .before .before .before .before .before .before .before .before .before .before .pre .0 .bytes), ← c .before .before .before .before .before .ones .ensures .0, ← c .before .before .before .before .before .before .spare .ensures, le-ltb _ _ (c .before .before .before .before .if1 .left), ← c .before .before .before .cheapest-held .ensures, lt-ltb _ _ (c .before .before .if2 .left), d)
+
+pub decide-offer-spec : {M : Type 1} → statement M
+decide-offer-spec =
+    tie.close
+    (tie.spec
+    spare-requires
+    ones-requires
+    returns
+    cheapest-held-requires
+    returns-2
+    dearer-requires
+    returns-3
+    returns-4)

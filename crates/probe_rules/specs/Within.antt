@@ -1,0 +1,56 @@
+-- Where the links of an event and of an outcome are, and what the functions of `core` ask of their arguments.
+use Prim.Native.Nat.{ℕ, _*_, _≤_, _<_}
+use mathlib.Core.Path.{_≡_}
+use mathlib.Core.Bool.{true}
+use mathlib.Core.List.{List}
+use lib.ListN.{length}
+use Rattle.range.specs.First.{first}
+use Rattle.table.specs.Table.{Table, touches}
+use Rattle.table.specs.Legal.{Legal}
+use Rattle.probe_record.specs.Record.{byteFault}
+use Rattle.probe_rules.specs.declared.Event.{Event}
+use Rattle.probe_rules.specs.declared.Event.the-variants.{Opening, Offer, Refusal}
+use Rattle.probe_rules.specs.declared.Outcome.{Outcome}
+use Rattle.probe_rules.specs.declared.Outcome.the-variants.{Opened, NothingToOpen, Taken, Displacing, Refused, Learnt, NoChange}
+
+-- the links are below a number
+abbrev pub EventWithin : ℕ → Event → Type 0
+EventWithin n Opening = Unit
+EventWithin n (Offer i) = i < n
+EventWithin n (Refusal i) = i < n
+
+abbrev pub Within : ℕ → Outcome → Type 0
+Within n (Opened i) = i < n
+Within n NothingToOpen = Unit
+Within n (Taken i) = i < n
+Within n (Displacing i c) = (i < n) × (c < n)
+Within n (Refused i) = i < n
+Within n (Learnt i) = i < n
+Within n (NoChange i) = i < n
+
+-- the link is the probe's own
+abbrev pub OwnLink : Table → ℕ → ℕ → Type 0
+OwnLink t p i = (i < t .links) × (touches t p i ≡ true)
+
+abbrev pub OwnEvent : Table → ℕ → Event → Type 0
+OwnEvent t p Opening = Unit
+OwnEvent t p (Offer i) = OwnLink t p i
+OwnEvent t p (Refusal i) = OwnLink t p i
+
+abbrev pub OwnOutcome : Table → ℕ → Outcome → Type 0
+OwnOutcome t p (Opened i) = OwnLink t p i
+OwnOutcome t p NothingToOpen = Unit
+OwnOutcome t p (Taken i) = OwnLink t p i
+OwnOutcome t p (Displacing i c) = OwnLink t p i × OwnLink t p c
+OwnOutcome t p (Refused i) = OwnLink t p i
+OwnOutcome t p (Learnt i) = OwnLink t p i
+OwnOutcome t p (NoChange i) = Unit
+
+-- a legal table in slices of these lengths, and a record that 21 lets pass
+pub record Ready (t : Table) (p : ℕ) (e : List ℕ) (lows highs costs : ℕ) : Type 0 where
+  pub legal : Legal t
+  pub in-lows : t .links ≤ lows
+  pub in-highs : t .links ≤ highs
+  pub in-costs : t .links ≤ costs
+  pub room : 2 * t .links ≤ length e
+  pub bytes : first (byteFault t p e) (t .links) ≡ 0

@@ -1,0 +1,112 @@
+// The functions, each within the bounds that it asks.
+use table_links::order::dearer;
+ghost use mathlib.Core.Path.{_≡_};
+ghost use Prim.Native.Nat.{_<_};
+ghost use lib.ListN.{length};
+ghost use Rattle.table.specs.Table.{ofSlices};
+ghost use Rattle.probe_rules.specs.Rules.{opening, offer, befalls};
+ghost use Rattle.probe_rules.specs.Within.{EventWithin, Ready};
+use super::Event;
+use super::Outcome;
+
+fn decide_opening(
+    rec: &[u8],
+    probes: usize,
+    links: usize,
+    needs: &[u16],
+    lows: &[u16],
+    highs: &[u16],
+    costs: &[u16],
+    probe: usize,
+) -> Outcome
+    requires { ⌜ Ready (ofSlices 0 probes links (now needs) (now lows) (now highs) (now costs)) probe (now rec) (length (now lows)) (length (now highs)) (length (now costs)) ⌝ }
+    ensures { λ r. ⌜ r ≡ opening (ofSlices 0 probes links (now (needs .entry)) (now (lows .entry)) (now (highs .entry)) (now (costs .entry))) probe (now (rec .entry)) ⌝ }
+{
+    let spare = table_links::spares::spare(links, needs, lows, highs, probe);
+    if spare <= probe_record::counts::ones(rec, links, 0) {
+        return Outcome::NothingToOpen;
+    }
+    let i = probe_record::search::dearest_untried(
+        rec,
+        probes,
+        links,
+        needs,
+        lows,
+        highs,
+        costs,
+        probe,
+    );
+    if links <= i {
+        return Outcome::NothingToOpen;
+    }
+    Outcome::Opened(i)
+}
+
+fn decide_offer(
+    rec: &[u8],
+    probes: usize,
+    links: usize,
+    needs: &[u16],
+    lows: &[u16],
+    highs: &[u16],
+    costs: &[u16],
+    probe: usize,
+    i: usize,
+) -> Outcome
+    requires { ⌜ Ready (ofSlices 0 probes links (now needs) (now lows) (now highs) (now costs)) probe (now rec) (length (now lows)) (length (now highs)) (length (now costs)) × (i < links) ⌝ }
+    ensures { λ r. ⌜ r ≡ offer (ofSlices 0 probes links (now (needs .entry)) (now (lows .entry)) (now (highs .entry)) (now (costs .entry))) probe (now (rec .entry)) i ⌝ }
+{
+    let spare = table_links::spares::spare(links, needs, lows, highs, probe);
+    if probe_record::counts::ones(rec, links, 1) < spare {
+        return Outcome::Taken(i);
+    }
+    let displaced = probe_record::search::cheapest_held(
+        rec,
+        probes,
+        links,
+        needs,
+        lows,
+        highs,
+        costs,
+        probe,
+    );
+    if links <= displaced {
+        return Outcome::Refused(i);
+    }
+    if dearer(costs, i, displaced) {
+        return Outcome::Displacing { link: i, displaced };
+    }
+    Outcome::Refused(i)
+}
+
+// What befalls the probe.
+pub fn decide(
+    event: Event,
+    rec: &[u8],
+    probes: usize,
+    links: usize,
+    needs: &[u16],
+    lows: &[u16],
+    highs: &[u16],
+    costs: &[u16],
+    probe: usize,
+) -> Outcome
+    requires { ⌜ Ready (ofSlices 0 probes links (now needs) (now lows) (now highs) (now costs)) probe (now rec) (length (now lows)) (length (now highs)) (length (now costs)) × EventWithin links event ⌝ }
+    ensures { λ r. ⌜ r ≡ befalls (ofSlices 0 probes links (now (needs .entry)) (now (lows .entry)) (now (highs .entry)) (now (costs .entry))) probe event (now (rec .entry)) ⌝ }
+{
+    match event {
+        Event::Opening => decide_opening(rec, probes, links, needs, lows, highs, costs, probe),
+        Event::Offer(i) => {
+            if rec[2 * i + 1] != 0 {
+                return Outcome::NoChange(i);
+            }
+            decide_offer(rec, probes, links, needs, lows, highs, costs, probe, i)
+        }
+        Event::Refusal(i) => {
+            if rec[2 * i] == 2 {
+                return Outcome::NoChange(i);
+            }
+            Outcome::Learnt(i)
+        }
+    }
+}

@@ -1,0 +1,23 @@
+// The rules of an end: what an opening, an offer heard and a refusal heard do. Links go by their place in the table.
+// What befalls an end, by its rules.
+
+pub mod decisions;
+pub mod outcomes;
+
+// What reaches an end.
+pub enum Event {
+    Opening,
+    Offer(usize),
+    Refusal(usize),
+}
+
+// What befalls it.
+pub enum Outcome {
+    Opened(usize),
+    NothingToOpen,
+    Taken(usize),
+    Displacing { link: usize, displaced: usize },
+    Refused(usize),
+    Learnt(usize),
+    NoChange(usize),
+}

@@ -1,0 +1,64 @@
+// What an event alters, and its entry. The ends and the fleet call these, within the bounds that they ask.
+use table_links::ends::other;
+ghost use mathlib.Core.Path.{_≡_};
+ghost use mathlib.Core.List.{[]};
+ghost use Prim.Native.Nat.{_/_};
+ghost use lib.ListN.{length};
+ghost use Rattle.table.specs.Table.{ofSlices, other};
+ghost use Rattle.probe_rules.specs.Rules.{alter, whatOf, entryOf};
+ghost use Rattle.probe_rules.specs.Within.{Within};
+use super::Outcome;
+
+// Alters an end's own record by what befell it.
+pub fn alter(rec: &mut [u8], outcome: Outcome)
+    requires { ⌜ Within (length (now rec) / 2) outcome ⌝ }
+    ensures { λ _. ⌜ now (rec .exit) ≡ alter outcome (now (rec .entry)) ⌝ }
+{
+    match outcome {
+        Outcome::Opened(i) => {
+            rec[2 * i] = 1;
+        }
+        Outcome::NothingToOpen => {}
+        Outcome::Taken(i) => {
+            rec[2 * i + 1] = 1;
+        }
+        Outcome::Displacing { link, displaced } => {
+            rec[2 * link + 1] = 1;
+            rec[2 * displaced + 1] = 2;
+        }
+        Outcome::Refused(i) => {
+            rec[2 * i + 1] = 2;
+        }
+        Outcome::Learnt(i) => {
+            rec[2 * i] = 2;
+        }
+        Outcome::NoChange(_) => {}
+    }
+}
+
+// What the log says of it.
+fn what_of(outcome: Outcome, lows: &[u16], highs: &[u16], probe: u16) -> wake_log::What
+    requires { ⌜ (Within 65536 outcome) × (Within (length (now lows)) outcome) × (Within (length (now highs)) outcome) ⌝ }
+    ensures { λ r. ⌜ r ≡ whatOf (ofSlices 0 0 0 [] (now (lows .entry)) (now (highs .entry)) []) probe outcome ⌝ }
+{
+    match outcome {
+        Outcome::Opened(i) => wake_log::What::Opened(i as u16),
+        Outcome::NothingToOpen => wake_log::What::NothingToOpen,
+        Outcome::Taken(i) => wake_log::What::Taken(i as u16),
+        Outcome::Displacing { link, displaced } => wake_log::What::TakenDisplacing {
+            link: link as u16,
+            displaced: other(lows, highs, probe, displaced),
+        },
+        Outcome::Refused(i) => wake_log::What::Refused(i as u16),
+        Outcome::Learnt(i) => wake_log::What::RefusalLearnt(i as u16),
+        Outcome::NoChange(i) => wake_log::What::NoChange(i as u16),
+    }
+}
+
+pub fn entry_of(outcome: Outcome, lows: &[u16], highs: &[u16], probe: u16) -> wake_log::Entry
+    requires { ⌜ (Within 65536 outcome) × (Within (length (now lows)) outcome) × (Within (length (now highs)) outcome) ⌝ }
+    ensures { λ r. ⌜ r ≡ entryOf (ofSlices 0 0 0 [] (now (lows .entry)) (now (highs .entry)) []) probe outcome ⌝ }
+{
+    let what = what_of(outcome, lows, highs, probe);
+    wake_log::Entry { probe, what }
+}

@@ -1,2 +1,0 @@
-// The checks of an end's record.
-pub mod core;

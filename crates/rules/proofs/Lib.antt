@@ -1,4 +1,0 @@
-pub mod Outcomes
-pub mod Ready
-pub mod Frames
-pub mod Befalls

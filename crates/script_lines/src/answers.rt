@@ -1,0 +1,71 @@
+// The lines that the script program prints, stored within the bounds that these functions ask.
+ghost use mathlib.Core.Path.{_≡_};
+ghost use mathlib.Core.Bool.{cond};
+ghost use mathlib.Core.List.{[]};
+ghost use Prim.Native.Nat.{_+_, _≤_};
+ghost use lib.Dec.{eqb};
+ghost use lib.ListN.{length};
+ghost use lib.Seq.{sets};
+ghost use Rattle.output.specs.Output.{refusalLine};
+ghost use Rattle.script_theory.specs.Script.{entryLine, answerLine, lastLine};
+
+// An entry's line.
+pub fn put_entry(out: &mut [u8], at: usize, e: wake_log::Entry)
+    requires { ⌜ at + 15 ≤ length (now out) ⌝ }
+    ensures { λ _. ⌜ now (out .exit) ≡ sets (now (out .entry)) at (entryLine e) ⌝ }
+{
+    let what = e.what;
+    hex::fields::put_number(out, at, 4, e.probe as u32);
+    hex::fields::put_number(out, at + 4, 2, wake_log::codes::code(what) as u32);
+    hex::fields::put_number(out, at + 6, 4, wake_log::codes::link_place(what) as u32);
+    hex::fields::put_number(
+        out,
+        at + 10,
+        4,
+        wake_log::codes::displaced_probe(what) as u32,
+    );
+    out[at + 14] = b'\n';
+}
+
+// An answer's line. Answers where the next line starts.
+pub fn put_answer(out: &mut [u8], at: usize, answer: wake_log::Answer) -> usize
+    requires { ⌜ at + length (answerLine answer) ≤ length (now out) ⌝ }
+    ensures { λ r. ⌜ (now (out .exit) ≡ sets (now (out .entry)) at (answerLine answer)) × (r ≡ at + length (answerLine answer)) ⌝ }
+{
+    match answer {
+        wake_log::Answer::Logged(e) => {
+            put_entry(out, at, e);
+            at + 15
+        }
+        wake_log::Answer::Refused(fault) => {
+            output::refusals::put_refusal(out, at, fault);
+            at + 5
+        }
+    }
+}
+
+// The last line.
+pub fn put_last(out: &mut [u8], at: usize, done: bool, changed: u32)
+    requires { ⌜ at + 11 ≤ length (now out) ⌝ }
+    ensures { λ _. ⌜ now (out .exit) ≡ sets (now (out .entry)) at (lastLine done changed) ⌝ }
+{
+    let mut flag = 0;
+    if done {
+        flag = 1;
+    }
+    hex::fields::put_number(out, at, 2, flag);
+    hex::fields::put_number(out, at + 2, 8, changed);
+    out[at + 10] = b'\n';
+}
+
+// The refusal of a last line without its line feed. Answers where the next line starts.
+pub fn put_unclosed(out: &mut [u8], at: usize, held: u32) -> usize
+    requires { ⌜ at + 5 ≤ length (now out) ⌝ }
+    ensures { λ r. ⌜ (now (out .exit) ≡ sets (now (out .entry)) at (cond (eqb held 0) [] (refusalLine 1))) × (r ≡ at + cond (eqb held 0) 0 5) ⌝ }
+{
+    if held == 0 {
+        return at;
+    }
+    output::refusals::put_refusal(out, at, 1);
+    at + 5
+}

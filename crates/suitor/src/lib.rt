@@ -1,2 +1,0 @@
-// Offers by turn: the plan by the b-Suitor method.
-pub mod core;

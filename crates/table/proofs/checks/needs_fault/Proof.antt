@@ -1,0 +1,40 @@
+-- `table::checks::needs_fault` meets its contract.
+use borrow.Author.Needs.{needs}
+use Rattle.table.proofs.checks.needs_fault.Statement.{statement}
+use Rattle.table.proofs.checks.needs_fault.Tie as tie
+use Prim.Native.Nat.{ℕ}
+use mathlib.Core.Path.{_∙_, ap}
+use mathlib.Core.List.{[]}
+use Rattle.range.proofs.Faults.{first-same}
+use Rattle.range.proofs.Lists.{zeros-at}
+use Rattle.table.specs.Table.{item, ofSlices}
+use Rattle.table.specs.Legal.{aboveFault, needFault}
+
+slice-aggregate-count-degrees : tie.Need-slice-aggregate-count-degrees
+slice-aggregate-count-degrees c = search needs
+
+count-degrees-requires : tie.Need-count-degrees-requires
+count-degrees-requires c κs = (search needs, search needs, search needs, search needs, search needs, zeros-at 256)
+
+slice-aggregate-counted-fault : tie.Need-slice-aggregate-counted-fault
+slice-aggregate-counted-fault c = search needs
+
+counted-fault-requires : tie.Need-counted-fault-requires
+counted-fault-requires c κs = search needs
+
+returns : tie.Need-returns
+returns c =
+    let a = c .before .before .before .before .before .before .before .before .args in
+    let t = ofSlices 0 (a .probes) (a .links) (a .needs .now) (a .lows .now) (a .highs .now) [] in
+    let d = c .before .before .before .count-degrees in
+    c .counted-fault .ensures ∙ first-same _ (needFault t) (a .probes) (λ v l. ap (λ (k : ℕ). aboveFault k (item (a .needs .now) v)) (d .ensures v))
+
+pub needs-fault-spec : {M : Type 1} → statement M
+needs-fault-spec =
+    tie.close
+    (tie.spec
+    slice-aggregate-count-degrees
+    count-degrees-requires
+    slice-aggregate-counted-fault
+    counted-fault-requires
+    returns)

@@ -1,0 +1,192 @@
+// The checks of a table. The table's text, the plan, the ends and the fleet call these, within the bounds that they ask.
+use super::degrees::count_degrees;
+use super::numbers::wide;
+ghost use mathlib.Core.Path.{_≡_};
+ghost use mathlib.Core.List.{[]};
+ghost use Prim.Native.Nat.{_-_, _<_, _≤_};
+ghost use lib.ListN.{length};
+ghost use Rattle.range.specs.First.{first};
+ghost use Rattle.table.specs.Table.{item, ofSlices};
+ghost use Rattle.table.specs.Legal.{sizeFault, endsFault, orderFault, linkFault, aboveFault, needFault, tableFault, roomFault, sliceFault};
+
+// 3
+pub fn size_fault(pmax: usize, lmax: usize, probes: usize, links: usize) -> u8
+    ensures { λ r. ⌜ r ≡ sizeFault pmax lmax probes links ⌝ }
+{
+    if probes == 0 {
+        return 3;
+    }
+    if pmax < probes {
+        return 3;
+    }
+    if lmax < links {
+        return 3;
+    }
+    0
+}
+
+// 4
+pub fn ends_fault(probes: usize, low: usize, high: usize) -> u8
+    ensures { λ r. ⌜ r ≡ endsFault probes low high ⌝ }
+{
+    if high <= low {
+        return 4;
+    }
+    if probes <= high {
+        return 4;
+    }
+    0
+}
+
+// 5
+pub fn order_fault(low0: usize, high0: usize, low: usize, high: usize) -> u8
+    ensures { λ r. ⌜ r ≡ orderFault low0 high0 low high ⌝ }
+{
+    if low0 < low {
+        return 0;
+    }
+    if low < low0 {
+        return 5;
+    }
+    if high0 < high {
+        return 0;
+    }
+    5
+}
+
+// 4, then 5, of one link.
+fn link_fault(probes: usize, lows: &[u16], highs: &[u16], i: usize) -> u8
+    requires { ⌜ (i < length (now lows)) × (i < length (now highs)) ⌝ }
+    ensures { λ r. ⌜ r ≡ linkFault probes (item (now (lows .entry))) (item (now (highs .entry))) i ⌝ }
+{
+    let low = wide(lows[i]);
+    let high = wide(highs[i]);
+    let fault = ends_fault(probes, low, high);
+    if fault != 0 {
+        return fault;
+    }
+    if i == 0 {
+        return 0;
+    }
+    order_fault(wide(lows[i - 1]), wide(highs[i - 1]), low, high)
+}
+
+// 4 and 5, link by link.
+fn links_fault(probes: usize, links: usize, lows: &[u16], highs: &[u16]) -> u8
+    requires { ⌜ (links ≤ length (now lows)) × (links ≤ length (now highs)) ⌝ }
+    ensures { λ r. ⌜ r ≡ first (linkFault probes (item (now (lows .entry))) (item (now (highs .entry)))) links ⌝ }
+{
+    let mut i = 0;
+    while i < links {
+        let fault = link_fault(probes, lows, highs, i);
+        if fault != 0 {
+            return fault;
+        }
+        i += 1;
+    }
+    0
+}
+
+// 7, against the probes' counted links.
+fn counted_fault(probes: usize, needs: &[u16], counts: &[u16]) -> u8
+    requires { ⌜ (probes ≤ length (now needs)) × (probes ≤ length (now counts)) ⌝ }
+    ensures { λ r. ⌜ r ≡ first (λ v. aboveFault (item (now (counts .entry)) v) (item (now (needs .entry)) v)) probes ⌝ }
+{
+    let mut v = 0;
+    while v < probes {
+        if counts[v] < needs[v] {
+            return 7;
+        }
+        v += 1;
+    }
+    0
+}
+
+// 7.
+pub fn needs_fault(probes: usize, links: usize, needs: &[u16], lows: &[u16], highs: &[u16]) -> u8
+    requires { ⌜ (probes ≤ 256) × (probes ≤ length (now needs)) × (links ≤ 65535) × (links ≤ length (now lows)) × (links ≤ length (now highs))
+        × (first (linkFault probes (item (now lows)) (item (now highs))) links ≡ 0) ⌝ }
+    ensures { λ r. ⌜ r ≡ first (needFault (ofSlices 0 probes links (now (needs .entry)) (now (lows .entry)) (now (highs .entry)) [])) probes ⌝ }
+{
+    let mut counts = [0u16; 256];
+    count_degrees(&mut counts, probes, links, lows, highs);
+    counted_fault(probes, needs, &counts)
+}
+
+// 3, then 4 and 5 link by link, 7.
+fn table_fault(
+    pmax: usize,
+    lmax: usize,
+    probes: usize,
+    links: usize,
+    needs: &[u16],
+    lows: &[u16],
+    highs: &[u16],
+) -> u8
+    requires { ⌜ (pmax ≤ 256) × (lmax ≤ 65535) × (probes ≤ length (now needs)) × (links ≤ length (now lows)) × (links ≤ length (now highs)) ⌝ }
+    ensures { λ r. ⌜ r ≡ tableFault pmax lmax (ofSlices 0 probes links (now (needs .entry)) (now (lows .entry)) (now (highs .entry)) []) ⌝ }
+{
+    let size = size_fault(pmax, lmax, probes, links);
+    if size != 0 {
+        return size;
+    }
+    let fault = links_fault(probes, links, lows, highs);
+    if fault != 0 {
+        return fault;
+    }
+    needs_fault(probes, links, needs, lows, highs)
+}
+
+// 8, by the lengths of the table's slices.
+pub fn room_fault(
+    probes: usize,
+    links: usize,
+    needs: usize,
+    lows: usize,
+    highs: usize,
+    costs: usize,
+) -> u8
+    ensures { λ r. ⌜ r ≡ roomFault probes links needs lows highs costs ⌝ }
+{
+    if needs < probes {
+        return 8;
+    }
+    if lows != highs {
+        return 8;
+    }
+    if highs != costs {
+        return 8;
+    }
+    if lows < links {
+        return 8;
+    }
+    0
+}
+
+// 8, 3, then 4 and 5 link by link, 7.
+pub fn slice_fault(
+    pmax: usize,
+    lmax: usize,
+    probes: usize,
+    links: usize,
+    needs: &[u16],
+    lows: &[u16],
+    highs: &[u16],
+    costs: &[u16],
+) -> u8
+    requires { ⌜ (pmax ≤ 256) × (lmax ≤ 65535) ⌝ }
+    ensures { λ r. ⌜ r ≡ sliceFault pmax lmax 0 probes links (now (needs .entry)) (now (lows .entry)) (now (highs .entry)) (now (costs .entry)) ⌝ }
+{
+    let room = room_fault(
+        probes,
+        links,
+        needs.len(),
+        lows.len(),
+        highs.len(),
+        costs.len(),
+    );
+    if room != 0 {
+        return room;
+    }
+    table_fault(pmax, lmax, probes, links, needs, lows, highs)
+}

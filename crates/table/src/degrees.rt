@@ -1,0 +1,42 @@
+// The checks of a table. The table's text, the plan, the ends and the fleet call these, within the bounds that they ask.
+use super::numbers::wide;
+ghost use mathlib.Core.Path.{_≡_};
+ghost use mathlib.Core.List.{[]};
+ghost use Prim.Native.Nat.{ℕ, _+_, _-_, _<_, _≤_};
+ghost use lib.ListN.{length, getD, set};
+ghost use Rattle.range.specs.First.{first};
+ghost use Rattle.table.specs.Table.{item, ofSlices, degree};
+ghost use Rattle.table.specs.Legal.{linkFault};
+
+// One more at a probe.
+pub fn add_one(counts: &mut [u16], v: usize)
+    requires { ⌜ (v < length (now counts)) × (getD (now counts) v 0 < 65535) ⌝ }
+    ensures { λ _. ⌜ now (counts .exit) ≡ set (now (counts .entry)) v (getD (now (counts .entry)) v 0 + 1) ⌝ }
+{
+    counts[v] += 1;
+}
+
+// One less at a probe.
+pub fn take_one(counts: &mut [u16], v: usize)
+    requires { ⌜ (v < length (now counts)) × (0 < getD (now counts) v 0) ⌝ }
+    ensures { λ _. ⌜ now (counts .exit) ≡ set (now (counts .entry)) v (getD (now (counts .entry)) v 0 - 1) ⌝ }
+{
+    counts[v] -= 1;
+}
+
+// Counts each probe's links into zeros.
+pub fn count_degrees(counts: &mut [u16], probes: usize, links: usize, lows: &[u16], highs: &[u16])
+    requires { ⌜ (links ≤ length (now lows)) × (links ≤ length (now highs)) × (links ≤ 65535) × (probes ≤ length (now counts))
+        × (first (linkFault probes (item (now lows)) (item (now highs))) links ≡ 0)
+        × ((v : ℕ) → getD (now counts) v 0 ≡ 0) ⌝ }
+    ensures { λ _. ⌜ ((v : ℕ) → getD (now (counts .exit)) v 0 ≡ degree (ofSlices 0 probes links [] (now (lows .entry)) (now (highs .entry)) []) v) ⌝ }
+{
+    let mut i = 0;
+    while i < links {
+        let low = wide(lows[i]);
+        let high = wide(highs[i]);
+        add_one(counts, low);
+        add_one(counts, high);
+        i += 1;
+    }
+}

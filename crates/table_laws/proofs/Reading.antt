@@ -1,0 +1,130 @@
+-- What reading a text gives: its answer, and the table in the lent slices.
+use Prim.Native.Nat.{ℕ, _≤_, _<_}
+use mathlib.Core.Path.{_≡_, refl, sym, _∙_}
+use mathlib.Core.Bool.{Bool, true, false, cond}
+use mathlib.Core.List.{List}
+use native.Mathlib.Omega.{arith}
+use native.Mathlib.Decide.{ℕ-discrete}
+use lib.Dec.{eqb}
+use lib.ListN.{length, replicate}
+use borrow.Author.Tests.{eqb-true, eqb-false, eq-eqb, le-ltb}
+use Rattle.range.proofs.Faults.{or-none, or-some}
+use Rattle.range.proofs.Lists.{stored-at, same-length}
+use Rattle.table.specs.Table.{Table, item}
+use Rattle.table.specs.Legal.{roomFault, tableFault}
+use Rattle.table.specs.Text.{ofText, textEnd, textFault, readFault}
+use Rattle.table.proofs.Faults.{room-good}
+use Rattle.table.proofs.Accepted.{text-legal}
+use Rattle.table_text.proofs.Good.{text-head}
+use Rattle.table_read.specs.Reading.{filledOf, Reads}
+use Rattle.table_read.specs.declared.Reading.{Reading}
+use Rattle.table_read.specs.declared.Reading.the-variants.{Table as Read, Refused as Unread}
+use Rattle.table_read.proofs.Answers.{read-text, read-room}
+use Rattle.table_laws.specs.Same.{Same}
+use Rattle.table_laws.specs.Functions.{Slices, tableOf, Holds}
+use Rattle.table_laws.proofs.Tables.{same-fault}
+
+-- what the answer says
+
+answer-read : (none : Bool) (fault number probes links rest : ℕ) (t : Table)
+    → Read number probes links rest ≡ cond none (Read (t .number) (t .probes) (t .links) (textEnd t)) (Unread fault)
+    → (none ≡ true) × (number ≡ t .number) × (probes ≡ t .probes) × (links ≡ t .links) × (rest ≡ textEnd t)
+answer-read true fault number probes links rest t e = (refl, (cc), (cc), (cc), (cc))
+answer-read false fault number probes links rest t e = let z : _≡_ {A = ℕ} 0 1 = cc in absurd (omega arith)
+
+answer-unread : (none : Bool) (fault refusal : ℕ) (t : Table) → Unread refusal ≡ cond none (Read (t .number) (t .probes) (t .links) (textEnd t)) (Unread fault)
+    → (none ≡ false) × (refusal ≡ fault)
+answer-unread true fault refusal t e = let z : _≡_ {A = ℕ} 0 1 = cc in absurd (omega arith)
+answer-unread false fault refusal t e = (refl, (cc))
+
+-- slices that hold the table are not refused
+pub room-none : (probes links : ℕ) (a : Slices) → Holds probes links a → roomFault probes links (length (a .needs)) (length (a .lows)) (length (a .highs)) (length (a .costs)) ≡ 0
+room-none probes links a g = rw (le-ltb _ _ (g .needed), eq-eqb _ _ (g .equal), eq-eqb _ _ (g .equal₂), le-ltb _ _ (g .linked))
+
+-- the fault found in reading the text s into the slices a, with `more` behind its closing line or nothing
+abbrev found : Bool → List ℕ → Slices → ℕ
+found more s a = readFault 256 2048 more s (length (a .needs)) (length (a .lows)) (length (a .highs)) (length (a .costs))
+
+-- A call that answers r and leaves the slices as b.
+module _ (more : Bool) (s : List ℕ) (r : Reading) (a b : Slices)
+    (read : Reads (found more s a) (ofText s) r (a .needs) (b .needs) (a .lows) (b .lows) (a .highs) (b .highs) (a .costs) (b .costs)) where
+  abbrev t : Table
+  t = ofText s
+
+  abbrev fault : ℕ
+  fault = found more s a
+
+  module _ (none : fault ≡ 0) where
+    pub accepted : textFault 256 2048 more s ≡ 0
+    accepted = read-text 256 2048 more s (length (a .needs)) (length (a .lows)) (length (a .highs)) (length (a .costs)) none
+
+    room : Holds (t .probes) (t .links) a
+    room = room-good _ _ _ _ _ _ (read-room 256 2048 more s (length (a .needs)) (length (a .lows)) (length (a .highs)) (length (a .costs)) none)
+
+    entry : (f : ℕ → ℕ) (n : ℕ) (d e : List ℕ) → e ≡ filledOf fault f n d → n ≤ length d → (i : ℕ) → i < n → item e i ≡ f i
+    entry f n d e q fits i l = rw (rw none at q) (stored-at f n d i fits l)
+
+    -- the slices have the entries of the text's table
+    pub entries : Same (tableOf (t .number) (t .probes) (t .links) b) t
+    entries =
+        let g = room in
+        record {
+          number = refl;
+          probes = refl;
+          links = refl;
+          need = entry (t .need) (t .probes) (a .needs) (b .needs) (read .need) (omega arith);
+          low = entry (t .low) (t .links) (a .lows) (b .lows) (read .low) (omega arith);
+          high = entry (t .high) (t .links) (a .highs) (b .highs) (read .high) (omega arith);
+          cost = entry (t .cost) (t .links) (a .costs) (b .costs) (read .cost) (omega arith);
+        }
+
+    -- and the lengths that they had
+    pub holds : Holds (t .probes) (t .links) b
+    holds =
+        let g = room in
+        let needs = same-length (t .need) (t .probes) (a .needs) (b .needs) (rw none at (read .need)) in
+        let lows = same-length (t .low) (t .links) (a .lows) (b .lows) (rw none at (read .low)) in
+        let highs = same-length (t .high) (t .links) (a .highs) (b .highs) (rw none at (read .high)) in
+        let costs = same-length (t .cost) (t .links) (a .costs) (b .costs) (rw none at (read .cost)) in
+        record { needed = omega arith; linked = omega arith; equal = omega arith; equal₂ = omega arith }
+
+  pub refusal-is : (refusal : ℕ) → r ≡ Unread refusal → (refusal ≡ fault) × (fault ≡ 0 → ⊥)
+  refusal-is refusal e =
+      let n = answer-unread (eqb fault 0) fault refusal t (sym e ∙ read .answer) in
+      (n .1, eqb-false fault 0 (n .0))
+
+  module _ (number probes links rest : ℕ) (e : r ≡ Read number probes links rest) where
+    said : (eqb fault 0 ≡ true) × (number ≡ t .number) × (probes ≡ t .probes) × (links ≡ t .links) × (rest ≡ textEnd t)
+    said = answer-read (eqb fault 0) fault number probes links rest t (sym e ∙ read .answer)
+
+    pub read-none : fault ≡ 0
+    read-none = eqb-true fault 0 (said .0)
+
+    pub read-numbers : (number ≡ t .number) × (probes ≡ t .probes) × (links ≡ t .links) × (rest ≡ textEnd t)
+    read-numbers = (said .1, said .2, said .3, said .4)
+
+    pub read-same : Same (tableOf number probes links b) t
+    read-same = rw (said .1, said .2, said .3) (entries read-none)
+
+    pub read-legal : tableFault 256 2048 (tableOf number probes links b) ≡ 0
+    read-legal = same-fault (tableOf number probes links b) t read-same 256 2048 ∙ text-legal 256 2048 more s (accepted read-none)
+
+    pub read-held : roomFault probes links (length (b .needs)) (length (b .lows)) (length (b .highs)) (length (b .costs)) ≡ 0
+    read-held = room-none probes links b (rw (said .2, said .3) (holds read-none))
+
+-- slices of zeros, as long as the largest table's
+abbrev pub blank : Slices
+blank = record { needs = replicate 256 0; lows = replicate 2048 0; highs = replicate 2048 0; costs = replicate 2048 0 }
+
+-- they hold every table within the limits, so that 8 is not found
+pub blank-found : (more : Bool) (s : List ℕ) → readFault 256 2048 more s 256 2048 2048 2048 ≡ textFault 256 2048 more s
+unfolding readFault
+blank-found more s = go (ℕ-discrete (textFault 256 2048 more s) 0)
+  where
+    go : Dec (textFault 256 2048 more s ≡ 0) → readFault 256 2048 more s 256 2048 2048 2048 ≡ textFault 256 2048 more s
+    go (yes e) =
+        let z = text-head 256 2048 more s e .size in
+        or-none (textFault 256 2048 more s) _ e
+        ∙ room-none (ofText s .probes) (ofText s .links) blank record { needed = z .few; linked = z .within; equal = refl; equal₂ = refl }
+        ∙ sym e
+    go (no n) = or-some (textFault 256 2048 more s) _ n

@@ -1,0 +1,110 @@
+// A text read within limits: its answer, and its fields stored. The public readers call these, and so do readers with other limits.
+use super::Reading;
+ghost use mathlib.Core.Path.{_≡_};
+ghost use mathlib.Core.Bool.{true};
+ghost use Prim.Native.Nat.{_+_, _*_, _≤_};
+ghost use lib.ListN.{length};
+ghost use Rattle.table.specs.Legal.{roomFault};
+ghost use Rattle.table.specs.Text.{ofText, textFault, readFault};
+ghost use Rattle.table_read.specs.Reading.{readingOf, Filled, Reads};
+
+// 1 to 8, by the lengths of the lent needs, lows, highs and costs.
+fn read_fault(
+    text: &[u8],
+    needs: usize,
+    lows: usize,
+    highs: usize,
+    costs: usize,
+    pmax: usize,
+    lmax: usize,
+    more: bool,
+) -> u8
+    requires { ⌜ (pmax ≤ 256) × (lmax ≤ 2048) ⌝ }
+    ensures { λ r. ⌜ r ≡ readFault pmax lmax more (now (text .entry)) needs lows highs costs ⌝ }
+{
+    let fault = table_text::text_checks::text_fault(text, pmax, lmax, more);
+    if fault != 0 {
+        return fault;
+    }
+    table::checks::room_fault(
+        hex::fields::number(text, 4, 4),
+        hex::fields::number(text, 8, 4),
+        needs,
+        lows,
+        highs,
+        costs,
+    )
+}
+
+// The answer for a text that has no fault.
+fn answer(text: &[u8]) -> Reading
+    requires { ⌜ textFault 256 2048 true (now text) ≡ 0 ⌝ }
+    ensures { λ r. ⌜ r ≡ readingOf 0 (ofText (now (text .entry))) ⌝ }
+{
+    let number = hex::fields::number(text, 0, 4);
+    let probes = hex::fields::number(text, 4, 4);
+    let links = hex::fields::number(text, 8, 4);
+    Reading::Table {
+        number: number as u16,
+        probes: probes as u16,
+        links: links as u16,
+        rest: 13 + 5 * probes + 13 * links + 5,
+    }
+}
+
+// Stores the table of a text that has no fault.
+fn fill_table(
+    text: &[u8],
+    needs: &mut [u16],
+    lows: &mut [u16],
+    highs: &mut [u16],
+    costs: &mut [u16],
+)
+    requires { ⌜ (textFault 256 2048 true (now text) ≡ 0)
+        × (roomFault (ofText (now text) .probes) (ofText (now text) .links) (length (now needs)) (length (now lows)) (length (now highs)) (length (now costs)) ≡ 0) ⌝ }
+    ensures { λ _. ⌜ Filled (ofText (now (text .entry))) (now (needs .entry)) (now (needs .exit)) (now (lows .entry)) (now (lows .exit))
+        (now (highs .entry)) (now (highs .exit)) (now (costs .entry)) (now (costs .exit)) ⌝ }
+{
+    let probes = hex::fields::number(text, 4, 4);
+    let links = hex::fields::number(text, 8, 4);
+    table_text::text_checks::fill(text, 13, 5, probes, needs);
+    table_text::text_checks::fill(text, 13 + 5 * probes, 13, links, lows);
+    table_text::text_checks::fill(text, 17 + 5 * probes, 13, links, highs);
+    table_text::text_checks::fill(text, 21 + 5 * probes, 13, links, costs);
+}
+
+// Reads a text within the limits pmax and lmax; `more`: whether it may go on behind its closing line.
+pub fn read_limited(
+    text: &[u8],
+    needs: &mut [u16],
+    lows: &mut [u16],
+    highs: &mut [u16],
+    costs: &mut [u16],
+    pmax: usize,
+    lmax: usize,
+    more: bool,
+) -> Reading
+    requires { ⌜ (pmax ≤ 256) × (lmax ≤ 2048) ⌝ }
+    ensures { λ r. ⌜ Reads
+        (readFault pmax lmax more (now (text .entry)) (length (now (needs .entry))) (length (now (lows .entry))) (length (now (highs .entry))) (length (now (costs .entry))))
+        (ofText (now (text .entry))) r
+        (now (needs .entry)) (now (needs .exit)) (now (lows .entry)) (now (lows .exit))
+        (now (highs .entry)) (now (highs .exit)) (now (costs .entry)) (now (costs .exit)) ⌝ }
+{
+    let fault = read_fault(
+        text,
+        needs.len(),
+        lows.len(),
+        highs.len(),
+        costs.len(),
+        pmax,
+        lmax,
+        more,
+    );
+    if fault != 0 {
+        return Reading::Refused(fault);
+    }
+    let read = answer(text);
+    fill_table(text, needs, lows, highs, costs);
+    read
+}

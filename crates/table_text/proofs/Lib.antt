@@ -1,0 +1,4 @@
+pub mod Begins
+pub mod Closing
+pub mod Good
+pub mod Local

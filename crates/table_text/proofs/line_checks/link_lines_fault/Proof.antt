@@ -1,0 +1,62 @@
+-- `table_text::line_checks::link_lines_fault` meets its contract.
+use borrow.Author.Needs.{needs}
+use Rattle.table_text.proofs.line_checks.link_lines_fault.Statement.{statement}
+use Rattle.table_text.proofs.line_checks.link_lines_fault.Tie as tie
+use Prim.Native.Nat.{_-_, _≤_}
+use mathlib.Core.Path.{_≡_, refl, sym, _∙_}
+use native.Mathlib.Omega.{arith}
+use Rattle.range.specs.First.{first}
+use Rattle.range.proofs.Faults.{first-none, first-some}
+use Rattle.table.specs.Text.{linkLineFault}
+
+abbrev Inv-loop : tie.InvT-loop
+Inv-loop text probes links i₀ i = (i ≤ links) × (first (linkLineFault text) i ≡ 0)
+
+abbrev μ-loop : tie.MeasureT-loop
+μ-loop text probes links i₀ i = links - i
+
+loop-holds : tie.Need-loop-holds Inv-loop μ-loop
+unfolding first
+loop-holds c = (search needs, refl)
+
+link-line-fault-requires : tie.Need-link-line-fault-requires Inv-loop μ-loop
+link-line-fault-requires c κs = search needs
+
+returns : tie.Need-returns Inv-loop μ-loop
+returns c =
+    let l = c .before .before .before in
+    let a = c .before .before .before .before .before .args in
+    let e = c .before .link-line-fault .ensures in
+    e ∙ sym (first-some (linkLineFault (a .text .now)) (a .links) (l .loop .i) (l .loop .inv .1) (c .before .before .loop-test .taken) (λ z. c .if1 .taken (e ∙ z)))
+
+add-i : tie.Need-add-i Inv-loop μ-loop
+add-i c = search needs
+
+loop-less : tie.Need-loop-less Inv-loop μ-loop
+loop-less c = search needs
+
+loop-again : tie.Need-loop-again Inv-loop μ-loop
+loop-again c =
+    let l = c .before .before .before in
+    let a = c .before .before .before .before .before .args in
+    let e = c .before .link-line-fault .ensures in
+    (search needs, first-none (linkLineFault (a .text .now)) (l .loop .i) (l .loop .inv .1) (sym e ∙ c .if1 .left))
+
+returns-2 : tie.Need-returns-2 Inv-loop μ-loop
+returns-2 c =
+    let e : c .before .loop .i ≡ c .before .before .before .args .links = omega arith in
+    rw (← e) (sym (c .before .loop .inv .1))
+
+pub link-lines-fault-spec : {M : Type 1} → statement M
+link-lines-fault-spec =
+    tie.close
+    (tie.spec
+    Inv-loop
+    μ-loop
+    loop-holds
+    link-line-fault-requires
+    returns
+    add-i
+    loop-less
+    loop-again
+    returns-2)

@@ -1,0 +1,116 @@
+-- `table_text::text_checks::needs_fault` meets its contract.
+use borrow.Author.Needs.{needs}
+use Rattle.table_text.proofs.text_checks.needs_fault.Statement.{statement}
+use Rattle.table_text.proofs.text_checks.needs_fault.Tie as tie
+use Prim.Native.Nat.{_+_, _*_}
+use mathlib.Core.Path.{_≡_, refl, _∙_}
+use native.Mathlib.Omega.{arith}
+use lib.ListN.{replicate, length}
+use Rattle.range.proofs.Lists.{same-length}
+use Rattle.table.specs.Text.{ofText, needStart, linkStart}
+use Rattle.table_text.proofs.Good.{fields, need-lines, link-lines, links-good}
+use Rattle.table_text.proofs.Local.{field-at, local-links, local-needs}
+
+slice-aggregate-fill : tie.Need-slice-aggregate-fill
+slice-aggregate-fill c = search needs
+
+fill-requires : tie.Need-fill-requires
+fill-requires c κs =
+    let a = c .before .before .args in
+    (search needs, fields (a .text .now) 13 5 (a .probes) 4 0 needStart (need-lines (a .text .now) (a .probes) (c .before .before .pre .4)) (omega arith) (λ i. omega arith))
+
+mul-fill : tie.Need-mul-fill
+mul-fill c = search needs
+
+add-fill : tie.Need-add-fill
+add-fill c = search needs
+
+slice-aggregate-fill-2 : tie.Need-slice-aggregate-fill-2
+slice-aggregate-fill-2 c = search needs
+
+fill-requires-2 : tie.Need-fill-requires-2
+fill-requires-2 c κs =
+    let a = c .before .before .before .before .before .args in
+    let e = c .before .before .before .before .before .pre .0 in
+    (search needs, fields (a .text .now) (13 + 5 * a .probes) 13 (a .links) 12 0 (linkStart (ofText (a .text .now) .probes)) (link-lines (a .text .now) (a .links) (c .before .before .before .before .before .pre .5)) (omega arith) (λ i. omega arith))
+
+mul-fill-2 : tie.Need-mul-fill-2
+mul-fill-2 c = search needs
+
+add-fill-2 : tie.Need-add-fill-2
+add-fill-2 c = search needs
+
+slice-aggregate-fill-3 : tie.Need-slice-aggregate-fill-3
+slice-aggregate-fill-3 c = search needs
+
+fill-requires-3 : tie.Need-fill-requires-3
+fill-requires-3 c κs =
+    let a = c .before .before .before .before .before .before .before .before .args in
+    let e = c .before .before .before .before .before .before .before .before .pre .0 in
+    (search needs, fields (a .text .now) (17 + 5 * a .probes) 13 (a .links) 12 4 (linkStart (ofText (a .text .now) .probes)) (link-lines (a .text .now) (a .links) (c .before .before .before .before .before .before .before .before .pre .5)) (omega arith) (λ i. omega arith))
+
+slice-aggregate-needs-fault : tie.Need-slice-aggregate-needs-fault
+slice-aggregate-needs-fault c = search needs
+
+slice-aggregate-needs-fault-2 : tie.Need-slice-aggregate-needs-fault-2
+slice-aggregate-needs-fault-2 c = search needs
+
+slice-aggregate-needs-fault-3 : tie.Need-slice-aggregate-needs-fault-3
+slice-aggregate-needs-fault-3 c = search needs
+
+needs-fault-requires : tie.Need-needs-fault-requires
+needs-fault-requires c κs =
+    let a = c .before .before .before .before .before .before .before .before .before .before .before .before .before .args in
+    let s = a .text .now in
+    let p = c .before .before .before .before .before .before .before .before .before .before .before .before .before .pre .0 in
+    let e1 = c .before .before .before .before .before .before .before .before .before .before .fill .ensures in
+    let e2 = c .before .before .before .before .before .before .before .fill2 .ensures in
+    let e3 = c .before .before .before .before .fill3 .ensures in
+    let l1 : length (c .before .before .before .before .before .before .before .before .before .before .fill .last .1 .1 .1 .1 .0) ≡ 256 = same-length _ (a .probes) (replicate 256 0) _ e1 in
+    let l2 : length (c .before .before .before .before .before .before .before .fill2 .last .1 .1 .1 .1 .0) ≡ 2048 = same-length _ (a .links) (replicate 2048 0) _ e2 in
+    let l3 : length (c .before .before .before .before .fill3 .last .1 .1 .1 .1 .0) ≡ 2048 = same-length _ (a .links) (replicate 2048 0) _ e3 in (
+      search needs,
+      omega arith,
+      search needs,
+      omega arith,
+      omega arith,
+      local-links s (a .probes) (a .links) (c .before .before .before .before .before .before .before .before .before .before .fill .last .1 .1 .1 .1 .0) (c .before .before .before .before .before .before .before .fill2 .last .1 .1 .1 .1 .0) (c .before .before .before .before .fill3 .last .1 .1 .1 .1 .0) p (c .before .before .before .before .before .before .before .before .before .before .before .before .before .pre .1)
+          (field-at s 13 5 (a .probes) needStart (replicate 256 0) _ e1 (search needs) (λ i. refl))
+          (field-at s (13 + 5 * a .probes) 13 (a .links) (linkStart (ofText s .probes)) (replicate 2048 0) _ e2 (search needs) (λ i. omega arith))
+          (field-at s (17 + 5 * a .probes) 13 (a .links) (λ i. linkStart (ofText s .probes) i + 4) (replicate 2048 0) _ e3 (search needs) (λ i. omega arith))
+          (links-good s (a .links) (c .before .before .before .before .before .before .before .before .before .before .before .before .before .pre .5)),
+    )
+
+returns : tie.Need-returns
+returns c =
+    let a = c .before .before .before .before .before .before .before .before .before .before .before .before .before .before .args in
+    let s = a .text .now in
+    let p = c .before .before .before .before .before .before .before .before .before .before .before .before .before .before .pre .0 in
+    let e1 = c .before .before .before .before .before .before .before .before .before .before .before .fill .ensures in
+    let e2 = c .before .before .before .before .before .before .before .before .fill2 .ensures in
+    let e3 = c .before .before .before .before .before .fill3 .ensures in
+    c .needs-fault .ensures
+    ∙ local-needs s (a .probes) (a .links) (c .before .before .before .before .before .before .before .before .before .before .before .fill .last .1 .1 .1 .1 .0) (c .before .before .before .before .before .before .before .before .fill2 .last .1 .1 .1 .1 .0) (c .before .before .before .before .before .fill3 .last .1 .1 .1 .1 .0) p (c .before .before .before .before .before .before .before .before .before .before .before .before .before .before .pre .1)
+    (field-at s 13 5 (a .probes) needStart (replicate 256 0) _ e1 (search needs) (λ i. refl))
+    (field-at s (13 + 5 * a .probes) 13 (a .links) (linkStart (ofText s .probes)) (replicate 2048 0) _ e2 (search needs) (λ i. omega arith))
+    (field-at s (17 + 5 * a .probes) 13 (a .links) (λ i. linkStart (ofText s .probes) i + 4) (replicate 2048 0) _ e3 (search needs) (λ i. omega arith))
+
+pub needs-fault-spec : {M : Type 1} → statement M
+needs-fault-spec =
+    tie.close
+    (tie.spec
+    slice-aggregate-fill
+    fill-requires
+    mul-fill
+    add-fill
+    slice-aggregate-fill-2
+    fill-requires-2
+    mul-fill-2
+    add-fill-2
+    slice-aggregate-fill-3
+    fill-requires-3
+    slice-aggregate-needs-fault
+    slice-aggregate-needs-fault-2
+    slice-aggregate-needs-fault-3
+    needs-fault-requires
+    returns)

@@ -1,0 +1,73 @@
+// The functions, each within the bounds that it asks.
+ghost use mathlib.Core.Path.{_≡_};
+ghost use Prim.Native.Nat.{ℕ, _+_, _*_, _<_, _≤_};
+ghost use lib.ListN.{length};
+ghost use Rattle.range.specs.First.{first};
+ghost use Rattle.range.specs.Lists.{stored};
+ghost use Rattle.hex.specs.Digits.{numberAt};
+ghost use Rattle.table.specs.Legal.{needFault};
+ghost use Rattle.table.specs.Text.{ofText, needLineFault, linkLineFault, bodyFault, textFault};
+
+// Stores the numbers of four digits that stand at equal distances.
+pub fn fill(text: &[u8], at: usize, step: usize, n: usize, out: &mut [u16])
+    requires { ⌜ (n ≤ length (now out)) × ((i : ℕ) → i < n → (at + step * i + 4 ≤ length (now text)) × (numberAt (now text) (at + step * i) 4 < 65536)) ⌝ }
+    ensures { λ _. ⌜ now (out .exit) ≡ stored (λ i. numberAt (now (text .entry)) (at + step * i) 4) n (now (out .entry)) ⌝ }
+{
+    let mut i = 0;
+    while i < n {
+        out[i] = hex::fields::number(text, at + step * i, 4) as u16;
+        i += 1;
+    }
+}
+
+// 7, where the lines are good.
+fn needs_fault(text: &[u8], probes: usize, links: usize) -> u8
+    requires { ⌜ (probes ≡ ofText (now text) .probes) × (links ≡ ofText (now text) .links) × (probes ≤ 256) × (links ≤ 2048)
+        × (first (needLineFault (now text)) probes ≡ 0) × (first (linkLineFault (now text)) links ≡ 0) ⌝ }
+    ensures { λ r. ⌜ r ≡ first (needFault (ofText (now (text .entry)))) probes ⌝ }
+{
+    let mut needs = [0u16; 256];
+    let mut lows = [0u16; 2048];
+    let mut highs = [0u16; 2048];
+    fill(text, 13, 5, probes, &mut needs);
+    fill(text, 13 + 5 * probes, 13, links, &mut lows);
+    fill(text, 17 + 5 * probes, 13, links, &mut highs);
+    table::checks::needs_fault(probes, links, &needs, &lows, &highs)
+}
+
+// What follows the header: 1, 2, 4 and 5 line by line, then 6 and 7.
+fn body_fault(text: &[u8], probes: usize, links: usize, more: bool) -> u8
+    requires { ⌜ (probes ≡ ofText (now text) .probes) × (links ≡ ofText (now text) .links) × (probes ≤ 256) × (links ≤ 2048) × (13 ≤ length (now text)) ⌝ }
+    ensures { λ r. ⌜ r ≡ bodyFault more (now (text .entry)) ⌝ }
+{
+    let need = super::line_checks::need_lines_fault(text, probes);
+    if need != 0 {
+        return need;
+    }
+    let link = super::line_checks::link_lines_fault(text, probes, links);
+    if link != 0 {
+        return link;
+    }
+    let closing = super::line_checks::closing_fault(text, 13 + 5 * probes + 13 * links, more);
+    if closing != 0 {
+        return closing;
+    }
+    needs_fault(text, probes, links)
+}
+
+// 1 to 7.
+pub fn text_fault(text: &[u8], pmax: usize, lmax: usize, more: bool) -> u8
+    requires { ⌜ (pmax ≤ 256) × (lmax ≤ 2048) ⌝ }
+    ensures { λ r. ⌜ r ≡ textFault pmax lmax more (now (text .entry)) ⌝ }
+{
+    let head = super::line_checks::head_fault(text, pmax, lmax);
+    if head != 0 {
+        return head;
+    }
+    body_fault(
+        text,
+        hex::fields::number(text, 4, 4),
+        hex::fields::number(text, 8, 4),
+        more,
+    )
+}

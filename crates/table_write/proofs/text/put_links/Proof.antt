@@ -1,0 +1,101 @@
+-- `table_write::text::put_links` meets its contract.
+use borrow.Author.Needs.{needs}
+use Rattle.table_write.proofs.text.put_links.Statement.{statement}
+use Rattle.table_write.proofs.text.put_links.Tie as tie
+use Prim.Native.Nat.{_-_, _≤_}
+use mathlib.Core.Path.{_≡_, refl, _∙_}
+use native.Mathlib.Omega.{arith}
+use lib.ListN.{length}
+use lib.Seq.{sets}
+use Rattle.range.specs.Lists.{joined}
+use Rattle.table.specs.Table.{item}
+use Rattle.table.specs.Text.{tripleLine, needStart}
+use Rattle.table.proofs.Lengths.{length-triple}
+use Rattle.range.proofs.Sets.{joined-then}
+
+abbrev Inv-loop : tie.InvT-loop
+Inv-loop out₀ probes links lows highs costs i₀ out i = (i ≤ links) × (out ≡ sets out₀ (needStart probes) (joined (λ k. tripleLine (item lows k) (item highs k) (item costs k)) i)) × (length out ≡ length out₀)
+
+abbrev μ-loop : tie.MeasureT-loop
+μ-loop out₀ probes links lows highs costs i₀ out i = links - i
+
+loop-holds : tie.Need-loop-holds Inv-loop μ-loop
+unfolding joined
+loop-holds c = (search needs, refl, refl)
+
+mul-put-triple : tie.Need-mul-put-triple Inv-loop μ-loop
+mul-put-triple c = search needs
+
+add-put-triple : tie.Need-add-put-triple Inv-loop μ-loop
+add-put-triple c = search needs
+
+mul-put-triple-2 : tie.Need-mul-put-triple-2 Inv-loop μ-loop
+mul-put-triple-2 c = search needs
+
+add-put-triple-2 : tie.Need-add-put-triple-2 Inv-loop μ-loop
+add-put-triple-2 c = search needs
+
+mul-put-triple-3 : tie.Need-mul-put-triple-3 Inv-loop μ-loop
+mul-put-triple-3 c = search needs
+
+shared-slice-read-put-triple : tie.Need-shared-slice-read-put-triple Inv-loop μ-loop
+shared-slice-read-put-triple c = search needs
+
+mul-put-triple-4 : tie.Need-mul-put-triple-4 Inv-loop μ-loop
+mul-put-triple-4 c = search needs
+
+shared-slice-read-put-triple-2 : tie.Need-shared-slice-read-put-triple-2 Inv-loop μ-loop
+shared-slice-read-put-triple-2 c = search needs
+
+mul-put-triple-5 : tie.Need-mul-put-triple-5 Inv-loop μ-loop
+mul-put-triple-5 c = search needs
+
+shared-slice-read-put-triple-3 : tie.Need-shared-slice-read-put-triple-3 Inv-loop μ-loop
+shared-slice-read-put-triple-3 c = search needs
+
+put-triple-requires : tie.Need-put-triple-requires Inv-loop μ-loop
+put-triple-requires c κs = search needs
+
+add-i : tie.Need-add-i Inv-loop μ-loop
+add-i c = search needs
+
+loop-less : tie.Need-loop-less Inv-loop μ-loop
+loop-less c = search needs
+
+loop-again : tie.Need-loop-again Inv-loop μ-loop
+loop-again c =
+    let l = c .before .before .before .before .before .before .before .before .loop in
+    let a = c .before .before .before .before .before .before .before .before .before .before .before .before .before .args in
+    (search needs, joined-then (λ k. tripleLine (item (a .lows .now) k) (item (a .highs .now) k) (item (a .costs .now) k)) 13 (l .i) (a .out .now) (l .out) _ (needStart (a .probes)) (λ k. length-triple (item (a .lows .now) k) (item (a .highs .now) k) (item (a .costs .now) k)) (l .inv .1) (c .before .before .put-triple .ensures), c .before .before .put-triple .kept .0 ∙ l .inv .2)
+
+same-length : tie.Need-same-length Inv-loop μ-loop
+same-length c = c .before .loop .inv .2
+
+returns : tie.Need-returns Inv-loop μ-loop
+returns c =
+    let e : c .before .loop .i ≡ c .before .before .before .before .before .before .args .links = omega arith in
+    rw (← e) (c .before .loop .inv .1)
+
+pub put-links-spec : {M : Type 1} → statement M
+put-links-spec =
+    tie.close
+    (tie.spec
+    Inv-loop
+    μ-loop
+    loop-holds
+    mul-put-triple
+    add-put-triple
+    mul-put-triple-2
+    add-put-triple-2
+    mul-put-triple-3
+    shared-slice-read-put-triple
+    mul-put-triple-4
+    shared-slice-read-put-triple-2
+    mul-put-triple-5
+    shared-slice-read-put-triple-3
+    put-triple-requires
+    add-i
+    loop-less
+    loop-again
+    same-length
+    returns)

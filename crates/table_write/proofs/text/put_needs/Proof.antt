@@ -1,0 +1,77 @@
+-- `table_write::text::put_needs` meets its contract.
+use borrow.Author.Needs.{needs}
+use Rattle.table_write.proofs.text.put_needs.Statement.{statement}
+use Rattle.table_write.proofs.text.put_needs.Tie as tie
+use Prim.Native.Nat.{_-_, _≤_}
+use mathlib.Core.Path.{_≡_, refl, _∙_}
+use native.Mathlib.Omega.{arith}
+use lib.ListN.{length}
+use lib.Seq.{sets}
+use Rattle.range.specs.Lists.{joined}
+use Rattle.table.specs.Table.{item}
+use Rattle.table.specs.Text.{needLine, needStart}
+use Rattle.table.proofs.Lengths.{length-need}
+use Rattle.range.proofs.Sets.{joined-then}
+
+abbrev Inv-loop : tie.InvT-loop
+Inv-loop out₀ probes needs v₀ out v = (v ≤ probes) × (out ≡ sets out₀ (needStart 0) (joined (λ u. needLine (item needs u)) v)) × (length out ≡ length out₀)
+
+abbrev μ-loop : tie.MeasureT-loop
+μ-loop out₀ probes needs v₀ out v = probes - v
+
+loop-holds : tie.Need-loop-holds Inv-loop μ-loop
+unfolding joined
+loop-holds c = (search needs, refl, refl)
+
+mul-put-need : tie.Need-mul-put-need Inv-loop μ-loop
+mul-put-need c = search needs
+
+add-put-need : tie.Need-add-put-need Inv-loop μ-loop
+add-put-need c = search needs
+
+mul-put-need-2 : tie.Need-mul-put-need-2 Inv-loop μ-loop
+mul-put-need-2 c = search needs
+
+shared-slice-read-put-need : tie.Need-shared-slice-read-put-need Inv-loop μ-loop
+shared-slice-read-put-need c = search needs
+
+put-need-requires : tie.Need-put-need-requires Inv-loop μ-loop
+put-need-requires c κs = search needs
+
+add-v : tie.Need-add-v Inv-loop μ-loop
+add-v c = search needs
+
+loop-less : tie.Need-loop-less Inv-loop μ-loop
+loop-less c = search needs
+
+loop-again : tie.Need-loop-again Inv-loop μ-loop
+loop-again c =
+    let l = c .before .before .before .before .before .before .loop in
+    let a = c .before .before .before .before .before .before .before .before .before .args in
+    (search needs, joined-then (λ u. needLine (item (a .needs .now) u)) 5 (l .v) (a .out .now) (l .out) _ (needStart 0) (λ u. length-need (item (a .needs .now) u)) (l .inv .1) (c .before .before .put-need .ensures), c .before .before .put-need .kept .0 ∙ l .inv .2)
+
+same-length : tie.Need-same-length Inv-loop μ-loop
+same-length c = c .before .loop .inv .2
+
+returns : tie.Need-returns Inv-loop μ-loop
+returns c =
+    let e : c .before .loop .v ≡ c .before .before .before .before .args .probes = omega arith in
+    rw (← e) (c .before .loop .inv .1)
+
+pub put-needs-spec : {M : Type 1} → statement M
+put-needs-spec =
+    tie.close
+    (tie.spec
+    Inv-loop
+    μ-loop
+    loop-holds
+    mul-put-need
+    add-put-need
+    mul-put-need-2
+    shared-slice-read-put-need
+    put-need-requires
+    add-v
+    loop-less
+    loop-again
+    same-length
+    returns)

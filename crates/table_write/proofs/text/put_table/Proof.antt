@@ -1,0 +1,54 @@
+-- `table_write::text::put_table` meets its contract.
+use borrow.Author.Needs.{needs}
+use Rattle.table_write.proofs.text.put_table.Statement.{statement}
+use Rattle.table_write.proofs.text.put_table.Tie as tie
+use Rattle.table.specs.Table.{ofSlices}
+use Rattle.table_write.proofs.Laws.{text-then}
+
+put-triple-requires : tie.Need-put-triple-requires
+put-triple-requires c κs = search needs
+
+put-needs-requires : tie.Need-put-needs-requires
+put-needs-requires c κs = search needs
+
+put-links-requires : tie.Need-put-links-requires
+put-links-requires c κs = search needs
+
+mul-put-closing : tie.Need-mul-put-closing
+mul-put-closing c = search needs
+
+add-put-closing : tie.Need-add-put-closing
+add-put-closing c = search needs
+
+mul-put-closing-2 : tie.Need-mul-put-closing-2
+mul-put-closing-2 c = search needs
+
+add-put-closing-2 : tie.Need-add-put-closing-2
+add-put-closing-2 c = search needs
+
+put-closing-requires : tie.Need-put-closing-requires
+put-closing-requires c κs = search needs
+
+same-length : tie.Need-same-length
+same-length c = search needs
+
+returns : tie.Need-returns
+returns c =
+    let a = c .before .before .before .before .before .before .before .before .before .before .before .before .before .before .before .before .before .before .before .before .before .args in
+    let t = ofSlices (a .number) (a .probes) (a .links) (a .needs .now) (a .lows .now) (a .highs .now) (a .costs .now) in
+    text-then t _ _ _ _ _ (c .before .before .before .before .before .before .before .before .before .before .before .before .before .before .put-triple .ensures) (c .before .before .before .before .before .before .before .before .before .before .put-needs .ensures) (c .before .before .before .before .before .before .put-links .ensures) (c .before .before .put-closing .ensures)
+
+pub put-table-spec : {M : Type 1} → statement M
+put-table-spec =
+    tie.close
+    (tie.spec
+    put-triple-requires
+    put-needs-requires
+    put-links-requires
+    mul-put-closing
+    add-put-closing
+    mul-put-closing-2
+    add-put-closing-2
+    put-closing-requires
+    same-length
+    returns)

@@ -1,0 +1,38 @@
+// A table written within limits.
+ghost use Prim.Native.Nat.{_+_, _≤_};
+ghost use lib.ListN.{length};
+ghost use Rattle.table.specs.Table.{ofSlices};
+ghost use Rattle.table_write.specs.Writing.{writeFault, Writes};
+
+// The limits are parameters. `write_table` calls this with 256 and 2,048.
+pub fn write_limited(
+    pmax: usize,
+    lmax: usize,
+    number: u16,
+    probes: u16,
+    links: u16,
+    needs: &[u16],
+    lows: &[u16],
+    highs: &[u16],
+    costs: &[u16],
+    out: &mut [u8],
+) -> super::Writing
+    requires { ⌜ (pmax ≤ 256) × (lmax ≤ 65535) ⌝ }
+    ensures { λ r. ⌜ Writes
+        (writeFault pmax lmax number probes links (now (needs .entry)) (now (lows .entry)) (now (highs .entry)) (now (costs .entry)) (length (now (out .entry))))
+        (ofSlices number probes links (now (needs .entry)) (now (lows .entry)) (now (highs .entry)) (now (costs .entry)))
+        r (now (out .entry)) (now (out .exit)) ⌝ }
+{
+    let n = probes as usize;
+    let m = links as usize;
+    let end = 13 + 5 * n + 13 * m + 5;
+    if out.len() < end {
+        return super::Writing::Refused(8);
+    }
+    let fault = table::checks::slice_fault(pmax, lmax, n, m, needs, lows, highs, costs);
+    if fault != 0 {
+        return super::Writing::Refused(fault);
+    }
+    super::text::put_table(out, number, probes, links, needs, lows, highs, costs);
+    super::Writing::Length(end)
+}

@@ -1,0 +1,65 @@
+// The functions, each within the bounds that it asks.
+ghost use mathlib.Core.Path.{_≡_};
+ghost use Prim.Native.Nat.{_+_, _≤_};
+ghost use lib.ListN.{length};
+ghost use lib.Seq.{sets};
+ghost use Rattle.range.specs.Lists.{joined};
+ghost use Rattle.table.specs.Table.{item, ofSlices};
+ghost use Rattle.table.specs.Text.{needLine, tripleLine, needStart, linkStart, textEnd, textOf};
+use super::line::put_closing;
+use super::line::put_need;
+use super::line::put_triple;
+
+fn put_needs(out: &mut [u8], probes: usize, needs: &[u16])
+    requires { ⌜ (needStart probes ≤ length (now out)) × (probes ≤ length (now needs)) ⌝ }
+    ensures { λ _. ⌜ now (out .exit) ≡ sets (now (out .entry)) (needStart 0) (joined (λ v. needLine (item (now (needs .entry)) v)) probes) ⌝ }
+{
+    let mut v = 0;
+    while v < probes {
+        put_need(out, 13 + 5 * v, needs[v]);
+        v += 1;
+    }
+}
+
+fn put_links(
+    out: &mut [u8],
+    probes: usize,
+    links: usize,
+    lows: &[u16],
+    highs: &[u16],
+    costs: &[u16],
+)
+    requires { ⌜ (linkStart probes links ≤ length (now out))
+        × (links ≤ length (now lows)) × (links ≤ length (now highs)) × (links ≤ length (now costs)) ⌝ }
+    ensures { λ _. ⌜ now (out .exit) ≡ sets (now (out .entry)) (needStart probes)
+        (joined (λ i. tripleLine (item (now (lows .entry)) i) (item (now (highs .entry)) i) (item (now (costs .entry)) i)) links) ⌝ }
+{
+    let mut i = 0;
+    while i < links {
+        put_triple(out, 13 + 5 * probes + 13 * i, lows[i], highs[i], costs[i]);
+        i += 1;
+    }
+}
+
+pub fn put_table(
+    out: &mut [u8],
+    number: u16,
+    probes: u16,
+    links: u16,
+    needs: &[u16],
+    lows: &[u16],
+    highs: &[u16],
+    costs: &[u16],
+)
+    requires { ⌜ (textEnd (ofSlices number probes links (now needs) (now lows) (now highs) (now costs)) ≤ length (now out))
+        × (probes ≤ length (now needs)) × (links ≤ length (now lows)) × (links ≤ length (now highs)) × (links ≤ length (now costs)) ⌝ }
+    ensures { λ _. ⌜ now (out .exit) ≡ sets (now (out .entry)) 0
+        (textOf (ofSlices number probes links (now (needs .entry)) (now (lows .entry)) (now (highs .entry)) (now (costs .entry)))) ⌝ }
+{
+    let n = probes as usize;
+    let m = links as usize;
+    put_triple(out, 0, number, probes, links);
+    put_needs(out, n, needs);
+    put_links(out, n, m, lows, highs, costs);
+    put_closing(out, 13 + 5 * n + 13 * m);
+}

@@ -1,2 +1,0 @@
-// The checks of a table's text, line by line.
-pub mod core;

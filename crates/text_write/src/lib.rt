@@ -1,2 +1,0 @@
-// A table's text, written as a whole.
-pub mod core;

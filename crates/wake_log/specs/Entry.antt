@@ -1,0 +1,47 @@
+-- The entries of the wake log: document 01, "The ends and their frames". For each case 01's code, and its values.
+use Prim.Native.Nat.{ℕ}
+use mathlib.Core.Bool.{cond}
+use lib.Dec.{eqb}
+use Rattle.wake_log.specs.declared.Entry.{Entry}
+use Rattle.wake_log.specs.declared.Answer.{Answer}
+use Rattle.wake_log.specs.declared.Answer.the-variants as answer
+use Rattle.wake_log.specs.declared.What.{What}
+use Rattle.wake_log.specs.declared.What.the-variants.{Opened, NothingToOpen, Taken, TakenDisplacing, Refused, RefusalLearnt, NoChange}
+
+-- "00 opened, 01 nothing to open, 02 taken, 03 taken with the displaced probe, 04 refused, 05 refusal learnt, 06 heard with no change"
+abbrev pub codeOf : What → ℕ
+codeOf (Opened link) = 0
+codeOf NothingToOpen = 1
+codeOf (Taken link) = 2
+codeOf (TakenDisplacing link displaced) = 3
+codeOf (Refused link) = 4
+codeOf (RefusalLearnt link) = 5
+codeOf (NoChange link) = 6
+
+-- `ffff` "for a link or probe that is absent"
+abbrev pub absent : ℕ
+absent = 65535
+
+-- the link's place
+abbrev pub linkOf : What → ℕ
+linkOf (Opened link) = link
+linkOf NothingToOpen = absent
+linkOf (Taken link) = link
+linkOf (TakenDisplacing link displaced) = link
+linkOf (Refused link) = link
+linkOf (RefusalLearnt link) = link
+linkOf (NoChange link) = link
+
+-- the displaced probe
+abbrev pub displacedOf : What → ℕ
+displacedOf (Opened link) = absent
+displacedOf NothingToOpen = absent
+displacedOf (Taken link) = absent
+displacedOf (TakenDisplacing link displaced) = displaced
+displacedOf (Refused link) = absent
+displacedOf (RefusalLearnt link) = absent
+displacedOf (NoChange link) = absent
+
+-- the answer to an event by the fault found: its entry, or the number of the refusal alone
+abbrev pub answerOf : ℕ → Entry → Answer
+answerOf fault entry = cond (eqb fault 0) (answer.Logged entry) (answer.Refused fault)
