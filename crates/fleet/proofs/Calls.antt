@@ -10,7 +10,7 @@ use native.Mathlib.Omega.{arith}
 use Rattle.range.specs.First.{orElse}
 use Rattle.range.proofs.Faults.{or-here, or-none, or-through}
 use Rattle.table.specs.Table.{Table, ofSlices, between}
-use Rattle.table.specs.Legal.{sliceFault}
+use Rattle.table.specs.Slices.{sliceFault, Slices, tableOf, slicesFault, slicesOf}
 use Rattle.probe_frame.specs.Frame.{Frame, frameOf}
 use Rattle.wake_log.specs.declared.Entry.{Entry}
 use Rattle.wake_log.specs.declared.Answer.{Answer}
@@ -23,9 +23,9 @@ use Rattle.probe_rules.specs.declared.Event.the-variants.{Opening, Offer, Refus
 use Rattle.probe_rules.specs.declared.Outcome.{Outcome}
 use Rattle.probe_rules.specs.Rules.{befalls, entryOf}
 use Rattle.probe_rules.proofs.OutcomeLaws.{entry-same, befalls-same}
-use Rattle.fleet_theory.specs.Fleet.{Slices, tableOf, slicesFault, own, fleetFault, lineFault, eventOf, unsentFault, eventFault, outcomeOf, alterFleet, alteredBy, State, faultOf, answerTo, accepted, next}
+use Rattle.fleet_theory.specs.Fleet.{own, fleetFault, lineFault, eventOf, unsentFault, eventFault, outcomeOf, alterFleet, alteredBy, State, faultOf, answerTo, accepted, next}
 use Rattle.fleet.specs.declared.Finishing.the-variants as finishing
-use Rattle.fleet.specs.Answers.{slicesOf, Handled, finishingOf}
+use Rattle.fleet.specs.Answers.{Handled, finishingOf}
 use Rattle.fleet_theory.proofs.Own.{own-same, fleet-same}
 
 refused-answer : (fault n : ℕ) (entry : Entry) → n ≡ fault → (n ≡ 0 → ⊥) → Refused n ≡ answerOf fault entry
@@ -67,7 +67,7 @@ module _ (number probes links : ℕ) (needs lows highs costs : List ℕ) (used r
 
   -- the faults of table and record, as the code finds them
   pub state-is : (n : ℕ)
-      → n ≡ orElse (sliceFault 256 2048 0 probes links needs lows highs costs) (fleetFault (ofSlices 0 probes links needs lows highs costs) r)
+      → n ≡ orElse (sliceFault 256 2048 (slicesOf 0 probes links needs lows highs costs)) (fleetFault (ofSlices 0 probes links needs lows highs costs) r)
       → n ≡ orElse (slicesFault x) (fleetFault t r)
   state-is n e =
       e ∙ ap (orElse (slicesFault x)) (sym (fleet-same 0 probes links needs lows highs costs r) ∙ fleet-same number probes links needs lows highs costs r)

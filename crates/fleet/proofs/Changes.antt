@@ -19,7 +19,7 @@ use Rattle.table.specs.Table.{Table, item, touches, spare, dearer, cheaper}
 use Rattle.table.specs.Legal.{Legal}
 use Rattle.plan_theory.proofs.Places.{opposite}
 use Rattle.plan_theory.proofs.Order.{dearer-order}
-use Rattle.fleet_theory.proofs.EndBytes.{legal-sound}
+use Rattle.table.proofs.LegalLaws.{legal-table}
 use Rattle.probe_record.specs.Record.{outbound, inbound, ownWith, standing, held, dearestUntried, cheapestHeld}
 use Rattle.probe_frame.specs.Frame.{Frame, frameOf}
 use Rattle.wake_log.specs.declared.Entry.{Entry}
@@ -30,7 +30,8 @@ use Rattle.probe_rules.specs.declared.Event.the-variants.{Opening, Offer, Refus
 use Rattle.probe_rules.specs.declared.Outcome.{Outcome}
 use Rattle.probe_rules.specs.declared.Outcome.the-variants.{Opened, NothingToOpen, Taken, Displacing, Refused, Learnt, NoChange}
 use Rattle.probe_rules.specs.Rules.{befalls, offer, whatOf, entryOf}
-use Rattle.fleet_theory.specs.Fleet.{outAt, inAt, own, Slices, tableOf, slicesFault, fleetFault, eventFault, eventOf, outcomeOf, alterFleet, alteredBy, State, start, faultOf, answerTo, accepted, next, differs, linkChanges, changes, allChanges}
+use Rattle.fleet_theory.specs.Fleet.{outAt, inAt, own, fleetFault, eventFault, eventOf, outcomeOf, alterFleet, alteredBy, State, start, faultOf, answerTo, accepted, next, differs, linkChanges, changes, allChanges}
+use Rattle.table.specs.Slices.{Slices, tableOf, slicesFault}
 use Rattle.fleet_theory.proofs.Own.{out-reads, in-reads}
 use Rattle.probe_rules.specs.Within.{OwnLink, OwnOutcome}
 use Rattle.probe_record.proofs.SearchLaws.{dearest}
@@ -54,7 +55,7 @@ NewBytes e (NoChange i) = Unit
 module _ (t : Table) (legal : Legal t) (p : ℕ) (e : List ℕ) where
   cheapest : Best (cheaper t) (ownWith t p (inbound e) 1) (t .links) (t .links) (cheapestHeld t p e)
   cheapest =
-      let o = opposite (dearer-order t (legal-sound t legal .order)) in
+      let o = opposite (dearer-order t (legal-table 256 2048 t legal .order)) in
       best-is (cheaper t) (ownWith t p (inbound e) 1) (t .links) (o .irreflexive) (o .transitive) (t .links) (le-refl (t .links))
 
   befalls-new : (v : Event) → NewBytes e (befalls t p v e)

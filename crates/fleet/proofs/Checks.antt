@@ -8,8 +8,8 @@ use Rattle.range.specs.First.{orElse}
 use Rattle.range.proofs.Faults.{or-left}
 use Rattle.table.specs.Table.{Table, ofSlices}
 use Rattle.table.specs.Legal.{Legal}
-use Rattle.table.proofs.Slices.{Given}
-use Rattle.plan_theory.proofs.Order.{sound}
+use Rattle.table.specs.Slices.{LegalSlices, slicesOf}
+use Rattle.table.proofs.LegalLaws.{legal-table}
 use Rattle.plan_theory.proofs.Settled.{Across, up, down}
 use Rattle.probe_frame.specs.Frame.{Frame, frameOf, frameFault}
 use Rattle.probe_rules.specs.Frames.{numberFault}
@@ -23,7 +23,7 @@ module _ (number probes links : ℕ) (needs lows highs costs : List ℕ) where
   abbrev table : Table
   table = ofSlices number probes links needs lows highs costs
 
-  pub checked : (r : List ℕ) → Given 256 2048 number probes links needs lows highs costs → fleetFault table r ≡ 0
+  pub checked : (r : List ℕ) → LegalSlices 256 2048 (slicesOf number probes links needs lows highs costs) → fleetFault table r ≡ 0
       → Ready (ofSlices 0 probes links needs lows highs costs) r (length lows) (length highs) (length costs)
   checked r g e =
       let f = fleet-good table r e in
@@ -55,9 +55,9 @@ module _ (t : Table) (l : List ℕ) (e : lineFault t l ≡ 0) where
   line-to legal = go (says t l e)
     where
       far : {i a b : ℕ} → i < t .links → Across t i a b → b < t .probes
-      far {i} k up = sound 256 2048 t legal .ends i k .below
+      far {i} k up = legal-table 256 2048 t legal .ends i k .below
       far {i} k down =
-          let g = sound 256 2048 t legal .ends i k in
+          let g = legal-table 256 2048 t legal .ends i k in
           let m = g .rises in
           let n = g .below in
           omega arith

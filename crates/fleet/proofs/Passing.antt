@@ -21,7 +21,8 @@ use Rattle.probe_rules.specs.declared.Outcome.the-variants.{Opened, NothingToOp
 use Rattle.probe_rules.specs.Rules.{alter}
 use Rattle.probe_rules.specs.Within.{OwnEvent, OwnOutcome}
 use Rattle.probe_theory.proofs.EndLaws.{end-laws}
-use Rattle.fleet_theory.specs.Fleet.{outAt, inAt, own, Slices, tableOf, slicesFault, fleetFault, lineFault, eventFault, eventOf, outcomeOf, alterFleet, alteredBy}
+use Rattle.fleet_theory.specs.Fleet.{outAt, inAt, own, fleetFault, lineFault, eventFault, eventOf, outcomeOf, alterFleet, alteredBy}
+use Rattle.table.specs.Slices.{Slices, tableOf, slicesFault}
 use Rattle.fleet_theory.proofs.Own.{length-own}
 use Rattle.fleet_theory.proofs.Bytes.{length-altered}
 use Rattle.fleet_theory.proofs.Events.{Says, an-opening, an-offer, a-refusal, says, unsentOf, NotUnsent, line-step}

@@ -13,12 +13,8 @@ use Rattle.wake_log.specs.Entry.{answerOf}
 use Rattle.probe_rules.specs.Rules.{entryOf}
 use Rattle.fleet.specs.declared.Finishing.{Finishing}
 use Rattle.fleet.specs.declared.Finishing.the-variants as finishing
-use Rattle.fleet_theory.specs.Fleet.{Slices, tableOf, eventFault, outcomeOf, alteredBy, State, answerTo, next}
-
--- a table in slices, by its parts
-abbrev pub slicesOf : ℕ → ℕ → ℕ → List ℕ → List ℕ → List ℕ → List ℕ → Slices
-slicesOf number probes links needs lows highs costs =
-    record { number = number; probes = probes; links = links; needs = needs; lows = lows; highs = highs; costs = costs }
+use Rattle.fleet_theory.specs.Fleet.{eventFault, outcomeOf, alteredBy, State, answerTo, next}
+use Rattle.table.specs.Slices.{Slices, tableOf}
 
 -- a line: the entry and the altered record, or the refusal alone and the record unchanged
 pub record Handled (x : Slices) (used room : ℕ) (line : List ℕ) (r : Answer) (before after : List ℕ) : Type 0 where

@@ -3,8 +3,9 @@
 // Laws of a fleet on any record: it stays usable, and an event alters as many bytes as its entry says. No function of its own.
 ghost use mathlib.Core.Path.{_≡_};
 ghost use Rattle.range.specs.First.{orElse};
-ghost use Rattle.fleet_theory.specs.Fleet.{tableOf, slicesFault, fleetFault, finished};
-ghost use Rattle.fleet.specs.Answers.{slicesOf, Handled, finishingOf, changesOf};
+ghost use Rattle.fleet_theory.specs.Fleet.{fleetFault, finished};
+ghost use Rattle.table.specs.Slices.{tableOf, slicesFault, slicesOf};
+ghost use Rattle.fleet.specs.Answers.{Handled, finishingOf, changesOf};
 
 pub mod line_checks;
 pub mod steps;

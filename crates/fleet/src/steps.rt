@@ -4,9 +4,10 @@ ghost use lib.ListN.{length};
 ghost use Rattle.table.specs.Table.{ofSlices};
 ghost use Rattle.probe_rules.specs.Rules.{befalls, entryOf};
 ghost use Rattle.probe_rules.specs.Within.{EventWithin};
-ghost use Rattle.fleet_theory.specs.Fleet.{own, fleetFault, slicesFault, tableOf, alterFleet};
+ghost use Rattle.fleet_theory.specs.Fleet.{own, fleetFault, alterFleet};
+ghost use Rattle.table.specs.Slices.{slicesFault, tableOf, slicesOf};
 ghost use Rattle.fleet_rules.specs.Survey.{Ready};
-ghost use Rattle.fleet.specs.Answers.{slicesOf, Handled};
+ghost use Rattle.fleet.specs.Answers.{Handled};
 
 // Lets the event befall the probe: the fleet's record altered, and the entry.
 fn apply(

@@ -3,7 +3,7 @@ use Prim.Native.Nat.{ℕ}
 use mathlib.Core.Path.{_≡_, refl, _∙_, ap}
 use mathlib.Core.List.{List}
 use Rattle.wake_log.specs.declared.Answer.{Answer}
-use Rattle.fleet_theory.specs.Fleet.{Slices}
+use Rattle.table.specs.Slices.{Slices}
 use Rattle.fleet.specs.Answers.{Handled}
 use Rattle.packed_answers.specs.Packed.{packedAnswer}
 use Rattle.fleet_exports.specs.Packed.{HandledPacked}

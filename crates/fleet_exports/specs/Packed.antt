@@ -7,7 +7,8 @@ use mathlib.Core.List.{List}
 use Rattle.wake_log.specs.Entry.{answerOf}
 use Rattle.probe_rules.specs.Rules.{entryOf}
 use Rattle.probe_frame.specs.Frame.{frameOf}
-use Rattle.fleet_theory.specs.Fleet.{Slices, tableOf, eventFault, outcomeOf}
+use Rattle.fleet_theory.specs.Fleet.{eventFault, outcomeOf}
+use Rattle.table.specs.Slices.{Slices, tableOf}
 use Rattle.fleet.specs.Answers.{Handled}
 use Rattle.packed_answers.specs.Packed.{packedAnswer}
 use Rattle.fleet.specs.declared.Finishing.{Finishing}

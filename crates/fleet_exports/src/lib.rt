@@ -1,8 +1,9 @@
 // The library of a fleet for C and Rust: one line, finished.
 ghost use mathlib.Core.Path.{_≡_};
 ghost use Rattle.range.specs.First.{orElse};
-ghost use Rattle.fleet_theory.specs.Fleet.{tableOf, slicesFault, fleetFault, finished};
-ghost use Rattle.fleet.specs.Answers.{slicesOf, finishingOf};
+ghost use Rattle.fleet_theory.specs.Fleet.{fleetFault, finished};
+ghost use Rattle.table.specs.Slices.{tableOf, slicesFault, slicesOf};
+ghost use Rattle.fleet.specs.Answers.{finishingOf};
 ghost use Rattle.fleet_exports.specs.Packed.{packedFinishing, HandledPacked};
 use fleet::Finishing;
 use packed_answers::packed_answer;

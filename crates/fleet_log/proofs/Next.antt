@@ -15,7 +15,8 @@ use Rattle.probe_frame.specs.Frame.{frameOf}
 use Rattle.wake_log.specs.declared.Entry.{Entry}
 use Rattle.wake_log.specs.declared.Answer.{Answer}
 use Rattle.probe_rules.specs.Rules.{entryOf}
-use Rattle.fleet_theory.specs.Fleet.{Slices, tableOf, slicesFault, fleetFault, lineFault, unsentFault, eventOf, own, outcomeOf, State, faultOf, answerTo, accepted, next}
+use Rattle.fleet_theory.specs.Fleet.{fleetFault, lineFault, unsentFault, eventOf, own, outcomeOf, State, faultOf, answerTo, accepted, next}
+use Rattle.table.specs.Slices.{Slices, tableOf, slicesFault}
 use Rattle.fleet.proofs.Calls.{handled-next}
 use Rattle.fleet_log.specs.Logged.{Logs}
 

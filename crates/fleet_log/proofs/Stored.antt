@@ -8,7 +8,8 @@ use Rattle.wake_log.specs.declared.Entry.{Entry}
 use Rattle.probe_rules.specs.Rules.{entryOf}
 use Rattle.wake_log.specs.declared.storing.Told.{Told}
 use Rattle.wake_log.proofs.Stored as wake
-use Rattle.fleet_theory.specs.Fleet.{Slices, tableOf, eventFault, outcomeOf}
+use Rattle.fleet_theory.specs.Fleet.{eventFault, outcomeOf}
+use Rattle.table.specs.Slices.{Slices, tableOf}
 use Rattle.fleet_log.specs.Logged.{ToldLine, Logs}
 
 pub stored : (x : Slices) (used : ℕ) (line : List ℕ) (r : Told) (before after : List ℕ) (log log′ : List Entry)

@@ -12,7 +12,8 @@ use Rattle.wake_log.specs.Entry.{answerOf}
 use Rattle.probe_rules.specs.Rules.{entryOf}
 use Rattle.wake_log.specs.declared.storing.Told.{Told}
 use Rattle.wake_log.specs.Log.{toldOf}
-use Rattle.fleet_theory.specs.Fleet.{Slices, tableOf, eventFault, outcomeOf, alteredBy}
+use Rattle.fleet_theory.specs.Fleet.{eventFault, outcomeOf, alteredBy}
+use Rattle.table.specs.Slices.{Slices, tableOf}
 use Rattle.fleet.specs.Answers.{Handled}
 
 -- the line's answer and record as without a log; the log has the entry behind its used ones, or is unchanged

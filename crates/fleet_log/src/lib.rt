@@ -1,5 +1,5 @@
 // A fleet's lines with its wake log: a lent slice of entries, and the count of its used ones.
-ghost use Rattle.fleet.specs.Answers.{slicesOf};
+ghost use Rattle.table.specs.Slices.{slicesOf};
 ghost use Rattle.fleet_log.specs.Logged.{ToldLine, Logs};
 use wake_log::storing::Told;
 

@@ -15,7 +15,7 @@ use Rattle.range.proofs.Bools.{decided}
 use Rattle.range.proofs.Sums.{weigh-same, count-none}
 use Rattle.table.specs.Table.{Table, item, degree, dearer}
 use Rattle.table.specs.Legal.{Legal}
-use Rattle.plan_theory.proofs.Order.{sound}
+use Rattle.table.proofs.LegalLaws.{legal-table}
 use Rattle.probe_record.specs.Record.{outbound, ownWith}
 use Rattle.fleet_theory.specs.Fleet.{own, opens, stirs, finished}
 use Rattle.fleet_theory.proofs.Bytes.{first-byte, second-byte, third-byte, fourth-byte}
@@ -72,7 +72,7 @@ module _ (t : Table) (r : List ℕ) where
 
   stirs-at : Legal t → (i : ℕ) → i < t .links → stirsOf r i ≡ (stirs t r (t .low i) (t .high i) i || stirs t r (t .high i) (t .low i) i)
   stirs-at legal i l =
-      let s = sound 256 2048 t legal in
+      let s = legal-table 256 2048 t legal in
       rw (first-byte t s r i l, second-byte t s r i l, third-byte t s r i l, fourth-byte t s r i l)
 
   pub finished-is : Legal t → finished t r ≡ (eqb (count (t .probes) (opens t r)) 0 && eqb (count (t .links) (stirsOf r)) 0)

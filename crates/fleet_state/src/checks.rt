@@ -4,7 +4,7 @@ ghost use mathlib.Core.List.{[]};
 ghost use Prim.Native.Nat.{_*_, _-_, _<_, _≤_};
 ghost use lib.ListN.{length};
 ghost use Rattle.range.specs.First.{orElse, first};
-ghost use Rattle.table.specs.Legal.{sliceFault};
+ghost use Rattle.table.specs.Slices.{sliceFault, slicesOf};
 ghost use Rattle.probe_record.specs.Record.{spareFault};
 ghost use Rattle.table.specs.Table.{item, ofSlices};
 ghost use Rattle.fleet_theory.specs.Fleet.{own, fleetFault};
@@ -105,7 +105,7 @@ pub fn state_fault(
     costs: &[u16],
     rec: &[u8],
 ) -> u8
-    ensures { λ r. ⌜ r ≡ orElse (sliceFault 256 2048 0 probes links (now (needs .entry)) (now (lows .entry)) (now (highs .entry)) (now (costs .entry)))
+    ensures { λ r. ⌜ r ≡ orElse (sliceFault 256 2048 (slicesOf 0 probes links (now (needs .entry)) (now (lows .entry)) (now (highs .entry)) (now (costs .entry))))
         (fleetFault (ofSlices 0 probes links (now (needs .entry)) (now (lows .entry)) (now (highs .entry)) (now (costs .entry))) (now (rec .entry))) ⌝ }
 {
     let fault = table::checks::slice_fault(256, 2048, probes, links, needs, lows, highs, costs);

@@ -5,7 +5,7 @@ ghost use Prim.Native.Nat.{ℕ, _+_, _*_, _-_, _<_, _≤_};
 ghost use lib.Dec.{eqb};
 ghost use lib.ListN.{length, set, getD};
 ghost use Rattle.range.specs.Sum.{count};
-ghost use Rattle.table.proofs.Faults.{Ends};
+ghost use Rattle.table.specs.Legal.{Ends};
 ghost use Rattle.table.specs.Table.{item};
 ghost use Rattle.fleet_state.specs.Within.{endWith};
 

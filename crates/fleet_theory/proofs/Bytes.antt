@@ -9,7 +9,7 @@ use native.Mathlib.Decide.{ℕ-discrete}
 use lib.ListN.{length, set, length-set}
 use borrow.Author.Tests.{eq-eqb, ne-eqb}
 use Rattle.table.specs.Table.{Table, item}
-use Rattle.plan_theory.proofs.Order.{Sound}
+use Rattle.table.specs.Legal.{LegalTable}
 use Rattle.plan_theory.proofs.Plan.{touches-low, touches-high}
 use Rattle.probe_rules.specs.declared.Outcome.{Outcome}
 use Rattle.probe_rules.specs.declared.Outcome.the-variants.{Opened, NothingToOpen, Taken, Displacing, Refused, Learnt, NoChange}
@@ -19,7 +19,7 @@ use Rattle.fleet_theory.specs.Fleet.{outAt, inAt, alterFleet}
 use Rattle.fleet_theory.proofs.Own.{outOf, inOf, out-reads, in-reads, out-not-in, set-other, set-own}
 
 -- "outbound from low, inbound at high, outbound from high, inbound at low"
-module _ (t : Table) (s : Sound t) (r : List ℕ) (i : ℕ) (l : i < t .links) where
+module _ (t : Table) (s : LegalTable 256 2048 t) (r : List ℕ) (i : ℕ) (l : i < t .links) where
   abbrev low : OwnLink t (t .low i) i
   low = (l, touches-low t i)
 
@@ -42,7 +42,7 @@ module _ (t : Table) (s : Sound t) (r : List ℕ) (i : ℕ) (l : i < t .links) w
   fourth-byte = sym (rw (eq-eqb (t .low i) (t .low i) refl) at (in-reads t .own-byte r (t .low i) i low))
 
 -- each byte is an end's outbound or inbound byte on its link
-pub byte-of : (t : Table) → Sound t → (r : List ℕ) (j : ℕ) → j < 4 * t .links
+pub byte-of : (t : Table) → LegalTable 256 2048 t → (r : List ℕ) (j : ℕ) → j < 4 * t .links
     → (p : ℕ) × ((item r j ≡ outOf t r p (j / 4)) ⊎ (item r j ≡ inOf t r p (j / 4)))
 byte-of t s r j l = go (ℕ-discrete (j % 4) 0) (ℕ-discrete (j % 4) 1) (ℕ-discrete (j % 4) 2)
   where

@@ -12,10 +12,11 @@ use Rattle.range.proofs.Sums.{sum-same, none-count}
 use Rattle.table.specs.Table.{Table, item}
 use Rattle.table.specs.Legal.{Legal}
 use Rattle.fleet_theory.proofs.EndState.{Good, four}
-use Rattle.fleet_theory.proofs.EndBytes.{legal-sound}
+use Rattle.table.proofs.LegalLaws.{legal-table}
 use Rattle.fleet_theory.proofs.EndRise.{out-rises, in-rises}
 use Rattle.fleet_theory.proofs.EndFinish.{four-most}
-use Rattle.fleet_theory.specs.Fleet.{Slices, tableOf, slicesFault, State, start, next, run, differs, linkChanges, changes}
+use Rattle.fleet_theory.specs.Fleet.{State, start, next, run, differs, linkChanges, changes}
+use Rattle.table.specs.Slices.{Slices, tableOf, slicesFault}
 use Rattle.fleet_theory.proofs.Own.{outOf, inOf}
 use Rattle.fleet_theory.proofs.Bytes.{first-byte, second-byte, third-byte, fourth-byte}
 use Rattle.fleet_theory.proofs.Run.{slices-legal, Holds, Steps, start-holds, next-holds, next-steps, run-holds}
@@ -45,7 +46,7 @@ step-changes : (t : Table) → Legal t → (r r′ : List ℕ) → Good t (outOf
     → linkChanges r r′ i + fourOf t r i ≤ fourOf t r′ i
 unfolding sum
 step-changes t legal r r′ good step i l =
-    let s = legal-sound t legal in
+    let s = legal-table 256 2048 t legal in
     let rise = out-rises t legal (outOf t r) (inOf t r) (outOf t r′) (inOf t r′) good step in
     let grow = in-rises t legal (outOf t r) (inOf t r) (outOf t r′) (inOf t r′) good step in
     let a = differs-rises r r′ (4 * i + 0) (outOf t r (t .low i) i) (outOf t r′ (t .low i) i) (ap (item r) (add-zero (4 * i)) ∙ first-byte t s r i l)

@@ -5,7 +5,8 @@ use mathlib.Core.List.{List}
 use native.Mathlib.Omega.{arith}
 use Rattle.table.specs.Table.{Table}
 use Rattle.plan_theory.proofs.Plan.{touches-low, touches-high}
-use Rattle.fleet_theory.specs.Fleet.{Slices, tableOf, slicesFault, State, start, run}
+use Rattle.fleet_theory.specs.Fleet.{State, start, run}
+use Rattle.table.specs.Slices.{Slices, tableOf, slicesFault}
 use Rattle.fleet_theory.specs.Demand3.{moments, Demand3}
 use Rattle.fleet_theory.proofs.Run.{Holds, start-holds, run-holds}
 use Rattle.fleet_theory.proofs.Changes.{changes-four}

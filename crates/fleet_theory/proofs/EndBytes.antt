@@ -11,13 +11,9 @@ use Rattle.range.proofs.Bools.{and-left, and-right, and-intro, or-cases}
 use Rattle.range.proofs.Sums.{weigh-le}
 use Rattle.range.proofs.Counts.{count-except, count-swap}
 use Rattle.table.specs.Table.{Table, touches, spare}
-use Rattle.table.specs.Legal.{Legal}
-use Rattle.plan_theory.proofs.Order.{Sound, sound}
+use Rattle.table.specs.Legal.{LegalTable}
 use Rattle.plan_theory.proofs.Settled.{Across, up, down}
 use Rattle.fleet_theory.proofs.EndState.{onesAt, store, Same}
-
-pub legal-sound : (t : Table) → Legal t → Sound t
-legal-sound = sound 256 2048
 
 -- the byte of q on j, where the byte of p on i is stored
 pub data Cell (b b′ : ℕ → ℕ → ℕ) (p i v q j : ℕ) : Type 0 where
@@ -71,7 +67,7 @@ far t p i e = go (or-cases (eqb p (t .low i)) (eqb p (t .high i)) e)
     go (inr a) = (t .low i, rw (eqb-true p (t .high i) a) up)
 
 -- a link has one end across from p
-pub far-one : (t : Table) → Sound t → (i p u w : ℕ) → i < t .links → Across t i u p → Across t i w p → u ≡ w
+pub far-one : (t : Table) → LegalTable 256 2048 t → (i p u w : ℕ) → i < t .links → Across t i u p → Across t i w p → u ≡ w
 far-one t s i p u w l x y = go (by-ends u p x) (by-ends w p y)
   where
     by-ends : (a b : ℕ) → Across t i a b → ((a ≡ t .low i) × (b ≡ t .high i)) ⊎ ((a ≡ t .high i) × (b ≡ t .low i))

@@ -10,19 +10,20 @@ use borrow.Author.Tests.{eqb-true, eqb-false, eq-eqb}
 use Rattle.range.proofs.Bools.{and-left, and-right, and-intro, decided}
 use Rattle.range.proofs.Counts.{member-outside, other-outside}
 use Rattle.table.specs.Table.{Table, touches, spare, dearer}
-use Rattle.table.specs.Legal.{Legal}
+use Rattle.table.specs.Legal.{Legal, RisingLinks}
 use Rattle.plan_theory.specs.Pass.{place}
 use Rattle.plan_theory.specs.Plan.{rested}
 use Rattle.plan_theory.proofs.Places.{Order, place-lt}
-use Rattle.plan_theory.proofs.Order.{Rising, dearer-order}
+use Rattle.plan_theory.proofs.Order.{dearer-order}
 use Rattle.plan_theory.proofs.Plan.{dearerAt, UnderSpare, plan-criterion, rested-at}
 use Rattle.plan_theory.proofs.Settled.{Across, up, down, near, back, both}
 use Rattle.fleet_theory.proofs.EndState.{Inv, Sent, Denied, Good, Quiet, four}
-use Rattle.fleet_theory.proofs.EndBytes.{legal-sound, far}
+use Rattle.table.proofs.LegalLaws.{legal-table}
+use Rattle.fleet_theory.proofs.EndBytes.{far}
 
 module _ (t : Table) (legal : Legal t) (F G : ℕ → ℕ → Type 0) (o n : ℕ → ℕ → ℕ) (inv : Inv t F G o n) where
-  abbrev rises : Rising t
-  rises = legal-sound t legal .order
+  abbrev rises : RisingLinks t
+  rises = legal-table 256 2048 t legal .order
 
   -- a link that both ends offered is rested
   both-offered : (i p w : ℕ) → i < t .links → Across t i p w → F p i → F w i → rested t i ≡ true

@@ -9,17 +9,18 @@ use borrow.Author.Tests.{eqb-true, eq-eqb}
 use Rattle.range.proofs.Bools.{and-left, and-right, and-intro, decided}
 use Rattle.range.proofs.Sums.{weigh-le}
 use Rattle.table.specs.Table.{Table, touches, spare, dearer}
-use Rattle.table.specs.Legal.{Legal}
+use Rattle.table.specs.Legal.{Legal, LegalTable}
 use Rattle.plan_theory.specs.Plan.{rested}
 use Rattle.plan_theory.proofs.Places.{Order}
-use Rattle.plan_theory.proofs.Order.{Sound, dearer-order}
+use Rattle.plan_theory.proofs.Order.{dearer-order}
 use Rattle.plan_theory.proofs.Plan.{UnderSpare, plan-criterion, rested-at}
 use Rattle.plan_theory.proofs.Settled.{Across, near, back, both}
 use Rattle.fleet_theory.proofs.EndState.{onesAt, store, Same, Step, idle, opens, takes, displaces, refuses, learns, Inv, Offered, Refused}
-use Rattle.fleet_theory.proofs.EndBytes.{legal-sound, Cell, here, there, cell, before-store, Swap, gone, new, old, swap, far, far-one, Fits, fits-fewer, fits-same, fits-more, fits-swap, swap-many}
+use Rattle.table.proofs.LegalLaws.{legal-table}
+use Rattle.fleet_theory.proofs.EndBytes.{Cell, here, there, cell, before-store, Swap, gone, new, old, swap, far, far-one, Fits, fits-fewer, fits-same, fits-more, fits-swap, swap-many}
 use Rattle.fleet_theory.proofs.EndNext.{Out, out-same, out-open, out-learn, In, in-same, in-take, in-refuse, Ordered, next}
 
-module _ (t : Table) (s : Sound t) (F G : ℕ → ℕ → Type 0) (o n : ℕ → ℕ → ℕ) (inv : Inv t F G o n) (o′ n′ : ℕ → ℕ → ℕ) where
+module _ (t : Table) (s : LegalTable 256 2048 t) (F G : ℕ → ℕ → Type 0) (o n : ℕ → ℕ → ℕ) (inv : Inv t F G o n) (o′ n′ : ℕ → ℕ → ℕ) where
   abbrev After : Type 0
   After = Inv t (Offered F o′) (Refused t G n′) o′ n′
 
@@ -176,8 +177,8 @@ pub inv-step : (t : Table) → Legal t → (F G : ℕ → ℕ → Type 0) (o n o
     → Inv t (Offered F o′) (Refused t G n′) o′ n′
 inv-step t legal F G o n o′ n′ inv step = go step
   where
-    s : Sound t
-    s = legal-sound t legal
+    s : LegalTable 256 2048 t
+    s = legal-table 256 2048 t legal
 
     go : Step t F G o n o′ n′ → Inv t (Offered F o′) (Refused t G n′) o′ n′
     go (idle so sn) = next-in t s F G o n inv o′ n′ so (λ q j. in-same (sn q j)) (fits-same t n n′ sn (inv .holding))

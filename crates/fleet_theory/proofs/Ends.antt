@@ -33,7 +33,8 @@ use Rattle.probe_checks.specs.Checks as end
 use Rattle.probe_checks.specs.Checks.{toFault, probeFault, linkFault, untriedFault, fullFault, heardFault, hearFault, openFault, linkCallFault}
 use Rattle.probe.specs.Answers.{Asks, askedEvent, askedFrame, askedLine, lentFault}
 use Rattle.probe.proofs.Calls.{asked-event}
-use Rattle.fleet_theory.specs.Fleet.{own, kindFault, endsFault, eventOf, Slices, tableOf, slicesFault, outcomeOf, State, start, run}
+use Rattle.fleet_theory.specs.Fleet.{own, kindFault, endsFault, eventOf, outcomeOf, State, start, run}
+use Rattle.table.specs.Slices.{Slices, tableOf, slicesFault}
 use Rattle.fleet_theory.specs.Demand3.{IsFrame, MaySend}
 use Rattle.fleet_theory.specs.Ends.{SameAlone, EndsAlone}
 use Rattle.fleet_theory.proofs.Own.{outOf, inOf, length-own}

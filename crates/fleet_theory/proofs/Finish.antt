@@ -18,11 +18,12 @@ use Rattle.plan_theory.proofs.Bound.{bound}
 use Rattle.probe_frame.specs.Frame.{Frame, frameOf}
 use Rattle.probe_rules.specs.Rules.{entryOf}
 use Rattle.fleet_theory.proofs.EndState.{Same, Sent, Denied, Quiet, Live, total}
-use Rattle.fleet_theory.proofs.EndBytes.{legal-sound}
+use Rattle.table.proofs.LegalLaws.{legal-table}
 use Rattle.fleet_theory.proofs.EndRise.{grows, total-most}
 use Rattle.fleet_theory.proofs.EndFinish.{rested-in, finished-plan}
 use Rattle.fleet_theory.proofs.EndLive.{live-or-quiet}
-use Rattle.fleet_theory.specs.Fleet.{lineFault, Slices, tableOf, slicesFault, outcomeOf, State, accepted, next, run, finished}
+use Rattle.fleet_theory.specs.Fleet.{lineFault, outcomeOf, State, accepted, next, run, finished}
+use Rattle.table.specs.Slices.{Slices, tableOf, slicesFault}
 use Rattle.fleet_theory.specs.Demand3.{MaySend, moments, TrulySent, endRests, LeadsOn}
 use Rattle.fleet_theory.proofs.Own.{outOf, inOf}
 use Rattle.fleet_theory.proofs.Run.{slices-legal, Holds, Passed, passed-fault, next-accepted, accepted-holds, accepted-steps}
@@ -107,7 +108,7 @@ module _ (x : Slices) (fine : slicesFault x ≡ 0) where
 
       pub cost-kept : (choice : ℕ → Bool) → Meets t choice → costOf t (λ i. not (endRests t r (t .low i) i)) ≤ 2 * costOf t choice
       cost-kept choice meets =
-          let a = bound t (legal-sound t legal) choice meets in
+          let a = bound t (legal-table 256 2048 t legal) choice meets in
           let b = weigh-same (x .links) (λ i. not (endRests t r (t .low i) i)) (kept t) (t .cost) (λ i k. rw (ends-plan i (t .low i) k (touches-low t i))) in
           omega arith
 

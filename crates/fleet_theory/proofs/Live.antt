@@ -22,7 +22,8 @@ use Rattle.probe_rules.specs.declared.Event.the-variants.{Opening, Offer, Refus
 use Rattle.probe_rules.specs.declared.Outcome.the-variants.{Opened, Learnt}
 use Rattle.probe_rules.specs.Rules.{offer, befalls}
 use Rattle.fleet_theory.proofs.EndState.{onesAt, store, Same, Live, may-open, may-hear, may-learn}
-use Rattle.fleet_theory.proofs.EndBytes.{legal-sound, stored, Swap, gone, new, old, swap}
+use Rattle.table.proofs.LegalLaws.{legal-table}
+use Rattle.fleet_theory.proofs.EndBytes.{stored, Swap, gone, new, old, swap}
 use Rattle.fleet_theory.specs.Fleet.{own, lineFault, alterFleet, alteredBy}
 use Rattle.fleet_theory.specs.Demand3.{MaySend}
 use Rattle.fleet_theory.proofs.Own.{outOf, inOf}
@@ -132,7 +133,7 @@ module _ (t : Table) (legal : Legal t) (r : List ℕ) (long : length r ≡ 4 * t
 
   pub live-line : t .number < 65536 → Live t (outOf t r) (inOf t r) → (l : List ℕ) × Altering t r l
   live-line digits (may-open p i l at z room) =
-      let ends = legal-sound t legal .ends i l in
+      let ends = legal-table 256 2048 t legal .ends i l in
       let a = opening-line t legal digits p (at-end t (λ v. v < t .probes) p i at (omega arith) (ends .below)) in
       altering (record { kind = 0; number = t .number; from = p; to = p }) (a .0) (a .1) (inl refl) (opening-alters p i l at z room)
   live-line digits (may-hear i p w l x e z) =

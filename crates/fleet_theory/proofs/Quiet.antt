@@ -20,7 +20,7 @@ use Rattle.probe_record.specs.Record.{outbound, ownWith, standing, dearestUntri
 use Rattle.probe_record.proofs.SearchLaws.{dearest}
 use Rattle.probe_frame.specs.Frame.{Frame, frameOf}
 use Rattle.fleet_theory.proofs.EndState.{onesAt, Quiet}
-use Rattle.fleet_theory.proofs.EndBytes.{legal-sound}
+use Rattle.table.proofs.LegalLaws.{legal-table}
 use Rattle.fleet_theory.specs.Fleet.{own, lineFault, alteredBy, opens, stirs, finished}
 use Rattle.fleet_theory.specs.Demand3.{MaySend}
 use Rattle.fleet_theory.proofs.Own.{outOf, inOf}
@@ -94,7 +94,7 @@ module _ (t : Table) (legal : Legal t) (r : List ℕ) where
       no-stirs = eqb (count (t .links) stirring) 0
 
       below : (p i : ℕ) → i < t .links → touches t p i ≡ true → p < t .probes
-      below p i l at = let a = legal-sound t legal .ends i l in at-end t (λ v. v < t .probes) p i at (omega arith) (a .below)
+      below p i l at = let a = legal-table 256 2048 t legal .ends i l in at-end t (λ v. v < t .probes) p i at (omega arith) (a .below)
 
       opened : (p i : ℕ) → i < t .links → touches t p i ≡ true → outOf t r p i ≡ 0 → Dec (standing t p (own t p r) < spare t p)
           → Best (dearer t) (ownWith t p (outbound (own t p r)) 0) (t .links) (t .links) (dearestUntried t p (own t p r)) → spare t p ≤ onesAt t (outOf t r) p

@@ -14,16 +14,18 @@ use Rattle.range.proofs.Bools.{unless-none}
 use Rattle.range.proofs.Faults.{or-left, or-right, or-none, none-first}
 use Rattle.range.proofs.Lists.{zeros-at}
 use Rattle.table.specs.Table.{Table, item, spare}
-use Rattle.table.specs.Legal.{Legal, tableFault, roomFault}
+use Rattle.table.specs.Legal.{Legal}
 use Rattle.probe_record.specs.Record.{standing, held, spareFault}
 use Rattle.probe_frame.specs.Frame.{frameOf}
 use Rattle.probe_rules.specs.declared.Outcome.{Outcome}
 use Rattle.probe_rules.specs.Rules.{whatOf, entryOf}
 use Rattle.probe_rules.specs.Within.{OwnLink}
 use Rattle.fleet_theory.proofs.EndState.{Same, Step, idle, Sent, Denied, Good}
-use Rattle.fleet_theory.proofs.EndBytes.{legal-sound}
+use Rattle.table.proofs.LegalLaws.{legal-table}
 use Rattle.fleet_theory.proofs.EndRise.{fresh-good, in-rises, good-step}
-use Rattle.fleet_theory.specs.Fleet.{outAt, inAt, own, fleetFault, lineFault, Slices, tableOf, slicesFault, outcomeOf, State, start, faultOf, accepted, next, run}
+use Rattle.fleet_theory.specs.Fleet.{outAt, inAt, own, fleetFault, lineFault, outcomeOf, State, start, faultOf, accepted, next, run}
+use Rattle.table.proofs.Slices.{legal-slices}
+use Rattle.table.specs.Slices.{Slices, tableOf, slicesFault}
 use Rattle.fleet_theory.specs.Demand3.{RefusedIn, Refuses}
 use Rattle.fleet_theory.proofs.Own.{outOf, inOf, own-or-not, Reads, out-reads, in-reads}
 use Rattle.fleet_theory.proofs.Bytes.{byte-of, length-altered, altered-in}
@@ -32,9 +34,7 @@ use Rattle.fleet_theory.proofs.Events.{unsentOf, NotUnsent, line-step}
 use Rattle.fleet_theory.proofs.Log.{in-before, in-new, before-or-new, two-new, new-two}
 
 pub slices-legal : (x : Slices) → slicesFault x ≡ 0 → Legal (tableOf x)
-slices-legal x e =
-    or-right (roomFault (x .probes) (x .links) (length (x .needs)) (length (x .lows)) (length (x .highs)) (length (x .costs)))
-    (tableFault 256 2048 (tableOf x)) e
+slices-legal x e = legal-slices 256 2048 x e .legal
 
 pub record Holds (t : Table) (s : State) : Type 0 where
   pub long : length (s .bytes) ≡ 4 * t .links
@@ -96,7 +96,7 @@ module _ (x : Slices) (fine : slicesFault x ≡ 0) where
     r = s .bytes
 
     byte-small : (j : ℕ) → j < 4 * x .links → item r j ≤ 2
-    byte-small j l = go (byte-of t (legal-sound t legal) r j l)
+    byte-small j l = go (byte-of t (legal-table 256 2048 t legal) r j l)
       where
         go : ((p : ℕ) × ((item r j ≡ outOf t r p (j / 4)) ⊎ (item r j ≡ inOf t r p (j / 4)))) → item r j ≤ 2
         go (p, inl e) = let a = h .good .out-small p (j / 4) in omega arith

@@ -23,10 +23,11 @@ use Rattle.probe_rules.specs.declared.Event.the-variants.{Offer, Refusal}
 use Rattle.probe_rules.specs.Rules.{entryOf}
 use Rattle.probe_rules.specs.Frames.{heardOf}
 use Rattle.fleet_theory.proofs.EndState.{Sent, Denied}
-use Rattle.fleet_theory.proofs.EndBytes.{legal-sound}
+use Rattle.table.proofs.LegalLaws.{legal-table}
 use Rattle.fleet_theory.proofs.EndRise.{out-rises, in-rises, out-next}
 use Rattle.fleet_theory.proofs.EndFinish.{refused-plan}
-use Rattle.fleet_theory.specs.Fleet.{lineFault, Slices, tableOf, slicesFault, outcomeOf, State, start, faultOf, answerTo, next, run}
+use Rattle.fleet_theory.specs.Fleet.{lineFault, outcomeOf, State, start, faultOf, answerTo, next, run}
+use Rattle.table.specs.Slices.{Slices, tableOf, slicesFault}
 use Rattle.fleet_theory.specs.Demand3.{IsFrame, MaySend, moments, TrulySent, RefusedIn}
 use Rattle.fleet_theory.proofs.Own.{outOf, inOf}
 use Rattle.fleet_theory.proofs.Bytes.{byte-of}
@@ -71,7 +72,7 @@ module _ (x : Slices) (fine : slicesFault x ≡ 0) where
         by (p, inr f) = h .in-log p (j / 4) (sym f ∙ e)
 
         go : Dec (j < 4 * x .links) → RefusedIn t (j / 4) (s .log)
-        go (yes l) = by (byte-of t (legal-sound t legal) (s .bytes) j l)
+        go (yes l) = by (byte-of t (legal-table 256 2048 t legal) (s .bytes) j l)
         go (no d) =
             let a = h .long in
             let z = List·getD-eq-default (s .bytes) 0 {n = j} (omega arith) in

@@ -14,7 +14,8 @@ use Rattle.wake_log.specs.declared.What.the-variants as what
 use Rattle.wake_log.specs.declared.Answer.the-variants.{Logged, Refused}
 use Rattle.probe_rules.specs.Rules.{sendable, rests}
 use Rattle.probe_rules.specs.Frames.{heardOf}
-use Rattle.fleet_theory.specs.Fleet.{Slices, tableOf, State, start, own, lineFault, answerTo, next, run, changes, finished}
+use Rattle.fleet_theory.specs.Fleet.{State, start, own, lineFault, answerTo, next, run, changes, finished}
+use Rattle.table.specs.Slices.{Slices, tableOf}
 
 -- "a frame": a line's frame that is no opening
 abbrev pub IsFrame : Frame → Type 0

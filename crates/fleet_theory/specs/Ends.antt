@@ -20,7 +20,8 @@ use Rattle.probe.specs.declared.Asked.{Asked}
 use Rattle.probe.specs.declared.Asked.the-variants.{Written}
 use Rattle.probe_checks.specs.Checks.{hearFault, openFault, linkCallFault}
 use Rattle.probe.specs.Answers.{Befallen, Asks, askedEvent, askedFrame, askedLine, lentFault}
-use Rattle.fleet_theory.specs.Fleet.{Slices, tableOf, slicesFault, State, start, own, faultOf, answerTo, next, run}
+use Rattle.fleet_theory.specs.Fleet.{State, start, own, faultOf, answerTo, next, run}
+use Rattle.table.specs.Slices.{Slices, tableOf, slicesFault}
 use Rattle.fleet_theory.specs.Demand3.{IsFrame, MaySend}
 
 -- the line l at the state s, and the probe `to` called alone: `event` is what reaches it, `fault` the fault of its call

@@ -7,8 +7,7 @@ use lib.ListN.{length, replicate}
 use Rattle.range.specs.Sum.{sum, count}
 use Rattle.range.specs.First.{orElse, first}
 use Rattle.range.specs.Lists.{joined}
-use Rattle.table.specs.Table.{Table, item, ofSlices, touches, spare, between}
-use Rattle.table.specs.Legal.{sliceFault}
+use Rattle.table.specs.Table.{Table, item, touches, spare, between}
 use Rattle.probe_frame.specs.Frame.{Frame, frameOf, frameFault}
 use Rattle.probe_record.specs.Record.{outbound, inbound, standing, dearestUntried, spareFault}
 use Rattle.wake_log.specs.declared.Entry.{Entry}
@@ -19,6 +18,7 @@ use Rattle.probe_rules.specs.declared.Event.the-variants.{Opening, Offer, Refus
 use Rattle.probe_rules.specs.declared.Outcome.{Outcome}
 use Rattle.probe_rules.specs.Rules.{befalls, alterAt, entryOf}
 use Rattle.probe_rules.specs.Frames.{numberFault, heardOf}
+use Rattle.table.specs.Slices.{Slices, tableOf, slicesFault}
 
 -- "A fleet's record has four bytes a link: outbound from low, inbound at high, outbound from high, inbound at low."
 abbrev pub outAt : Table → ℕ → ℕ → ℕ
@@ -64,22 +64,6 @@ abbrev pub unsentFault : Event → List ℕ → ℕ
 unsentFault Opening e = 0
 unsentFault (Offer i) e = cond (eqb (outbound e i) 0) 27 0
 unsentFault (Refusal i) e = cond (eqb (inbound e i) 2) 0 27
-
--- "Every call gets the same legal table, in slices": "A table in slices goes with its number, probe count and link count."
-pub record Slices : Type 0 where
-  pub number : ℕ
-  pub probes : ℕ
-  pub links : ℕ
-  pub needs : List ℕ
-  pub lows : List ℕ
-  pub highs : List ℕ
-  pub costs : List ℕ
-
-abbrev pub tableOf : Slices → Table
-tableOf x = ofSlices (x .number) (x .probes) (x .links) (x .needs) (x .lows) (x .highs) (x .costs)
-
-abbrev pub slicesFault : Slices → ℕ
-slicesFault x = sliceFault 256 2048 (x .number) (x .probes) (x .links) (x .needs) (x .lows) (x .highs) (x .costs)
 
 -- "These come after the table's checks: 20, 21, 22, then the frame's 1, 2, 9, 23, 24, then .. 27, then 26." `used` of the log's `room` entries are used.
 abbrev pub eventFault : Slices → List ℕ → ℕ → ℕ → List ℕ → ℕ

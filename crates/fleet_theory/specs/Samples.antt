@@ -10,7 +10,8 @@ use Rattle.wake_log.specs.declared.Entry.{Entry}
 use Rattle.wake_log.specs.declared.What.{What}
 use Rattle.wake_log.specs.declared.What.the-variants as what
 use Rattle.wake_log.specs.declared.Answer.the-variants.{Refused}
-use Rattle.fleet_theory.specs.Fleet.{Slices, tableOf, slicesFault, State, start, answerTo, run, allChanges, finished}
+use Rattle.fleet_theory.specs.Fleet.{State, start, answerTo, run, allChanges, finished}
+use Rattle.table.specs.Slices.{Slices, tableOf, slicesFault}
 
 -- table 1 by its needs and its links' low ends, high ends and costs
 abbrev pub slices : List ℕ → List ℕ → List ℕ → List ℕ → Slices

@@ -8,7 +8,7 @@ use lib.ListN.{length, replicate}
 use Rattle.range.specs.First.{orElse}
 use Rattle.range.specs.Lists.{stored}
 use Rattle.table.specs.Table.{Table}
-use Rattle.table.specs.Legal.{sliceFault}
+use Rattle.table.specs.Slices.{sliceFault, slicesOf}
 use Rattle.plan_theory.specs.Plan.{kept, keptCount, costOf}
 use Rattle.plan_slse.specs.Ordered.{planByte}
 use Rattle.plan_methods.specs.declared.Planning.{Planning}
@@ -21,7 +21,7 @@ lentFault lent needed = cond (ltb lent needed) 8 0
 -- 8 for the plan, then the faults of the table's slices; `plan` is the length of the lent plan
 abbrev pub planFault : ℕ → ℕ → ℕ → ℕ → ℕ → List ℕ → List ℕ → List ℕ → List ℕ → ℕ → ℕ
 planFault pmax lmax number probes links needs lows highs costs plan =
-    orElse (lentFault plan links) (sliceFault pmax lmax number probes links needs lows highs costs)
+    orElse (lentFault plan links) (sliceFault pmax lmax (slicesOf number probes links needs lows highs costs))
 
 -- "Working bytes lent for this, at least four a link": 8 for them, then as above
 abbrev pub turnsFault : ℕ → ℕ → ℕ → ℕ → ℕ → List ℕ → List ℕ → List ℕ → List ℕ → ℕ → ℕ → ℕ

@@ -15,7 +15,7 @@ use Rattle.table.proofs.Same.{degree-same}
 use Rattle.table_laws.specs.Same.{Same}
 use Rattle.plan_theory.specs.Pass.{passAfter, pass}
 use Rattle.plan_theory.specs.Plan.{linksAt, hasMore, rested, kept, keptCount, costOf}
-use Rattle.plan_theory.proofs.Order.{sound}
+use Rattle.table.proofs.LegalLaws.{legal-table}
 use Rattle.plan_output.specs.Output.{headLine, keptLines, planText}
 
 -- two passes whose order and tests agree below m
@@ -54,7 +54,7 @@ module _ (t u : Table) (same : Same t u) (legal : tableFault 256 2048 t ≡ 0) w
   tests-same : (r s : ℕ → Bool) → ((g : ℕ) → g < t .links → r g ≡ s g) → (i : ℕ) → i < t .links
       → (hasMore t r (t .low i) && hasMore t r (t .high i)) ≡ (hasMore u s (u .low i) && hasMore u s (u .high i))
   tests-same r s h i l =
-      let e = sound 256 2048 t legal .ends i l in
+      let e = legal-table 256 2048 t legal .ends i l in
       let below = e .below in
       let rises = e .rises in
       and-same (more-same r s h (t .low i) (omega arith) ∙ ap (hasMore u s) (same .low i l)) (more-same r s h (t .high i) below ∙ ap (hasMore u s) (same .high i l))

@@ -9,20 +9,18 @@ use native.Mathlib.Decide.{ℕ-discrete}
 use lib.Dec.{eqb}
 use lib.ListN.{length, getD, set}
 use borrow.Author.Tests.{eq-eqb, ne-eqb}
-use Rattle.range.specs.First.{orElse, first}
-use Rattle.range.proofs.Faults.{or-left}
 use Rattle.range.specs.Lists.{stored}
 use Rattle.range.proofs.Bools.{decided}
 use Rattle.range.proofs.Sums.{weigh-more, weigh-same, none-count, count-le}
 use Rattle.range.proofs.Lists.{stored-update, stored-same, stored-self, stored-again, stored-at, length-stored}
 use Rattle.table.specs.Table.{Table, item, ofSlices, touches, dearer, cheaper}
-use Rattle.table.specs.Legal.{sizeFault, linkFault, needFault, tableFault}
-use Rattle.table.proofs.Faults.{Ends, Size, size-good}
+use Rattle.table.specs.Legal.{tableFault, Ends, Size, RisingLinks, LegalTable}
 use Rattle.table.proofs.DegreeLaws.{ends-changed}
 use Rattle.plan_theory.specs.Pass.{place, passAfter}
 use Rattle.plan_theory.specs.Plan.{linksAt, isShort, added, hasMoreAdded, removed, slse, kept}
 use Rattle.plan_theory.proofs.Places.{Order, opposite, place-opposite}
-use Rattle.plan_theory.proofs.Order.{Rising, Sound, sound, dearer-order}
+use Rattle.plan_theory.proofs.Order.{dearer-order}
+use Rattle.table.proofs.LegalLaws.{legal-table}
 use Rattle.plan_theory.proofs.Plan.{at-same}
 use Rattle.plan_theory.proofs.Slse.{slse-is-plan}
 use Rattle.plan_theory.proofs.Pass.{early, pass-step}
@@ -102,7 +100,7 @@ module _ (probes links : ℕ) (needs lows highs costs : List ℕ) where
     pub plans : plan ≡ stored (λ j. planByte (added t j && not (down k j))) links plan₀
     pub counted : (v : ℕ) → v < probes → item counts v ≡ linksAt t (added t) v - linksAt t (down k) v
 
-  module _ (rises : Rising t) (k i : ℕ) (plan₀ plan counts : List ℕ) (l : i < links) (ends : Ends probes (item lows i) (item highs i)) (wide : probes ≤ length counts) (room : links ≤ length plan₀) where
+  module _ (rises : RisingLinks t) (k i : ℕ) (plan₀ plan counts : List ℕ) (l : i < links) (ends : Ends probes (item lows i) (item highs i)) (wide : probes ≤ length counts) (room : links ≤ length plan₀) where
     -- the counts after a link's turn
     more-at : (p q : ℕ → Bool) (v : ℕ) → More t p q i → item counts v ≡ linksAt t p v → item (oneMore counts (item lows i) (item highs i)) v ≡ linksAt t q v
     more-at p q v m e =
@@ -209,11 +207,11 @@ module _ (probes links : ℕ) (needs lows highs costs : List ℕ) where
 
   -- What a legal table gives to a turn: the link in place k, by an entry of the order.
   module _ (legal : tableFault 256 2048 t ≡ 0) where
-    pub whole : Sound t
-    whole = sound 256 2048 t legal
+    pub whole : LegalTable 256 2048 t
+    whole = legal-table 256 2048 t legal
 
     pub size : Size 256 2048 probes links
-    size = size-good 256 2048 probes links (or-left (sizeFault 256 2048 probes links) (orElse (first (linkFault probes (item lows) (item highs)) links) (first (needFault t) probes)) legal)
+    size = whole .size
 
     pub up-place : (k i : ℕ) → 0 < k → k ≤ links → i < links → place links (dearer t) i ≡ k - 1 → place links (cheaper t) i ≡ links - k
     up-place k i some most l e =

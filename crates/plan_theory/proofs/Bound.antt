@@ -13,7 +13,8 @@ use Rattle.range.proofs.Sums.{sum-le, sum-add, sum-swap, sum-one, sum-at, weigh
 use Rattle.table.specs.Table.{Table, touches, spare, dearer}
 use Rattle.plan_theory.specs.Plan.{linksAt, rested, kept, costOf, Meets}
 use Rattle.plan_theory.proofs.Places.{Order, opposite, Last, last, all-before}
-use Rattle.plan_theory.proofs.Order.{Sound, dearer-order, Dear, dear, on-dear}
+use Rattle.plan_theory.proofs.Order.{dearer-order, Dear, dear, on-dear}
+use Rattle.table.specs.Legal.{LegalTable}
 use Rattle.plan_theory.proofs.Plan.{dearerAt, UnderSpare, at-split, at-both, touches-low, touches-high, plan-criterion, rested-fits}
 
 -- outside the choice, no probe has more links than its spare
@@ -45,7 +46,7 @@ rests true true c h = refl
 rests true false c h = and-right c false h
 rests false r c h = h
 
-module _ (t : Table) (s : Sound t) (choice : ℕ → Bool) (within : WithinSpare t choice) where
+module _ (t : Table) (s : LegalTable 256 2048 t) (choice : ℕ → Bool) (within : WithinSpare t choice) where
   abbrev order : Order (t .links) (dearer t)
   order = dearer-order t (s .order)
 
@@ -181,7 +182,7 @@ meets-within t choice meets v l =
     let b = meets v l in
     omega arith
 
-module _ (t : Table) (s : Sound t) (choice : ℕ → Bool) (meets : Meets t choice) where
+module _ (t : Table) (s : LegalTable 256 2048 t) (choice : ℕ → Bool) (meets : Meets t choice) where
   pub bound-apart : costOf t (without (kept t) choice) ≤ 2 * costOf t (without choice (kept t))
   bound-apart = within-apart t s choice (meets-within t choice meets)
 

@@ -10,11 +10,12 @@ use Rattle.range.specs.Sum.{count}
 use Rattle.range.proofs.Bools.{and-left, and-right, and-intro, and-swap, or-intro-left, or-intro-right, or-cases, same-bool}
 use Rattle.range.proofs.Sums.{weigh-same, weigh-split}
 use Rattle.table.specs.Table.{Table, touches, degree, spare, dearer}
-use Rattle.table.specs.Legal.{Legal}
+use Rattle.table.specs.Legal.{Legal, RisingLinks}
 use Rattle.plan_theory.specs.Plan.{linksAt, hasMore, rested, kept, Meets}
 use Rattle.plan_theory.proofs.Places.{bounded}
 use Rattle.plan_theory.proofs.Pass.{OnlyBelow, Solves, criterion, only-pass}
-use Rattle.plan_theory.proofs.Order.{Rising, sound, enough, dearer-order}
+use Rattle.plan_theory.proofs.Order.{dearer-order}
+use Rattle.table.proofs.LegalLaws.{legal-table}
 
 -- how many links of r at v are dearer than i
 abbrev pub dearerAt : Table → (ℕ → Bool) → ℕ → ℕ → ℕ
@@ -83,7 +84,7 @@ module _ (t : Table) where
       let both = test-under (λ g. dearer t g i && r g) i in
       (λ e. both .0 (sym (h i l) ∙ e), λ f. h i l ∙ both .1 f)
 
-module _ (t : Table) (rises : Rising t) where
+module _ (t : Table) (rises : RisingLinks t) where
   pub plan-criterion : Criterion t (rested t)
   unfolding rested
   plan-criterion = by-test t (rested t) (criterion (t .links) (dearer t) (dearer-order t rises) (bothMore t) (more-below t))
@@ -113,6 +114,6 @@ module _ (t : Table) (rises : Rising t) where
 pub plan-meets : (t : Table) → Legal t → Meets t (kept t)
 plan-meets t legal v l =
     let a = at-split t (rested t) v in
-    let b = rested-fits t (sound 256 2048 t legal .order) v in
-    let c = enough 256 2048 t legal v l in
+    let b = rested-fits t (legal-table 256 2048 t legal .order) v in
+    let c = legal-table 256 2048 t legal .enough v l in
     omega arith

@@ -10,7 +10,8 @@ use Rattle.table.specs.Table.{Table, touches, spare, dearer}
 use Rattle.plan_theory.specs.Pass.{place}
 use Rattle.plan_theory.specs.Plan.{linksAt, rested}
 use Rattle.plan_theory.proofs.Places.{Order, place-lt}
-use Rattle.plan_theory.proofs.Order.{Rising, dearer-order}
+use Rattle.plan_theory.proofs.Order.{dearer-order}
+use Rattle.table.specs.Legal.{RisingLinks}
 use Rattle.plan_theory.proofs.Plan.{dearerAt, UnderSpare, at-end, touches-low, touches-high, plan-criterion, rested-at}
 
 -- a link from one of its ends to the other
@@ -44,7 +45,7 @@ and-same true true c d h = h refl refl
 and-same true false c d h = refl
 and-same false b c d h = refl
 
-module _ (t : Table) (rises : Rising t) (stand held : ℕ → ℕ → Bool) (settled : Settled t stand held) where
+module _ (t : Table) (rises : RisingLinks t) (stand held : ℕ → ℕ → Bool) (settled : Settled t stand held) where
   abbrev order : Order (t .links) (dearer t)
   order = dearer-order t rises
 

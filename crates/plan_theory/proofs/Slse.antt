@@ -13,7 +13,8 @@ use Rattle.table.specs.Table.{Table, touches, degree, dearer, cheaper}
 use Rattle.plan_theory.specs.Plan.{linksAt, hasMore, isShort, added, hasMoreAdded, removed, slse, kept}
 use Rattle.plan_theory.proofs.Places.{Order, opposite, Side, here, earlier, later, side, three}
 use Rattle.plan_theory.proofs.Pass.{Solves, criterion}
-use Rattle.plan_theory.proofs.Order.{Rising, dearer-order}
+use Rattle.plan_theory.proofs.Order.{dearer-order}
+use Rattle.table.specs.Legal.{RisingLinks}
 use Rattle.plan_theory.proofs.Plan.{at-same, at-end, touches-low, touches-high, bothMore, by-test, plan-unique}
 
 -- One link in five sets: at the probe, added, removed, dearer, cheaper.
@@ -33,7 +34,7 @@ and-move true true c d h e = h e
 and-move true false c d h e = e
 and-move false b c d h e = absurd (true≢false (sym e))
 
-module _ (t : Table) (rises : Rising t) where
+module _ (t : Table) (rises : RisingLinks t) where
   abbrev order : Order (t .links) (dearer t)
   order = dearer-order t rises
 

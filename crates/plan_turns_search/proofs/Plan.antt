@@ -16,12 +16,11 @@ use Rattle.range.proofs.Bools.{same-bool, or-cases}
 use Rattle.range.proofs.Sums.{sum-same, weigh-same, none-count}
 use Rattle.range.proofs.Lists.{stored-same, stored-at, stored-beyond}
 use Rattle.table.specs.Table.{Table, item, ofSlices, touches, degree, spare, dearer}
-use Rattle.table.specs.Legal.{Legal, sizeFault, linkFault, needFault}
-use Rattle.table.proofs.Faults.{Ends, size-good}
-use Rattle.range.specs.First.{orElse, first}
-use Rattle.range.proofs.Faults.{or-left, or-right}
+use Rattle.table.specs.Legal.{Legal, linkFault, LegalTable, Ends}
+use Rattle.range.specs.First.{first}
 use Rattle.plan_theory.specs.Plan.{linksAt, rested, kept}
-use Rattle.plan_theory.proofs.Order.{Sound, sound, dear, on-dear, Dear}
+use Rattle.plan_theory.proofs.Order.{dear, on-dear, Dear}
+use Rattle.table.proofs.LegalLaws.{legal-table}
 use Rattle.plan_theory.proofs.Plan.{dearerAt}
 use Rattle.plan_theory.proofs.Settled.{Across, up, down, Settled, settled-is-plan}
 use Rattle.plan_turns_search.specs.Record.{atSource, atTarget, endOf, keyOf, siteOf, keptByte, Fits, Over}
@@ -82,18 +81,14 @@ module _ (probes links : ℕ) (needs lows highs costs : List ℕ) (legal : Legal
   abbrev table : Table
   table = ofSlices 0 probes links needs lows highs costs
 
-  abbrev good : Sound table
-  good = sound 256 2048 table legal
+  abbrev good : LegalTable 256 2048 table
+  good = legal-table 256 2048 table legal
 
   pub small : (probes ≤ 256) × (links ≤ 2048)
-  small =
-      let s = size-good 256 2048 probes links (or-left (sizeFault 256 2048 probes links) (orElse (first (linkFault probes (item lows) (item highs)) links) (first (needFault table) probes)) legal) in
-      (s .few, s .within)
+  small = (good .size .few, good .size .within)
 
   pub no-fault : first (linkFault probes (item lows) (item highs)) links ≡ 0
-  no-fault =
-      or-left (first (linkFault probes (item lows) (item highs)) links) (first (needFault table) probes)
-      (or-right (sizeFault 256 2048 probes links) (orElse (first (linkFault probes (item lows) (item highs)) links) (first (needFault table) probes)) legal)
+  no-fault = good .links-pass
 
   pub ends : (i : ℕ) → i < links → Ends probes (item lows i) (item highs i)
   ends = good .ends

@@ -3,7 +3,7 @@ ghost use mathlib.Core.Path.{_≡_};
 ghost use lib.ListN.{length};
 ghost use Rattle.range.specs.First.{orElse};
 ghost use Rattle.table.specs.Table.{ofSlices};
-ghost use Rattle.table.specs.Legal.{sliceFault};
+ghost use Rattle.table.specs.Slices.{sliceFault, slicesOf};
 ghost use Rattle.probe_frame.specs.Frame.{frameOf};
 ghost use Rattle.probe_rules.specs.declared.Event.the-variants.{Opening};
 ghost use Rattle.probe_rules.specs.Rules.{rests};
@@ -46,7 +46,7 @@ pub fn open(
     free: usize,
 ) -> wake_log::Answer
     ensures { λ r. ⌜ Befallen
-        (openFault (sliceFault 256 2048 number probes links (now (needs .entry)) (now (lows .entry)) (now (highs .entry)) (now (costs .entry)))
+        (openFault (sliceFault 256 2048 (slicesOf number probes links (now (needs .entry)) (now (lows .entry)) (now (highs .entry)) (now (costs .entry))))
         (ofSlices number probes links (now (needs .entry)) (now (lows .entry)) (now (highs .entry)) (now (costs .entry))) probe (now (rec .entry)) free)
         (ofSlices number probes links (now (needs .entry)) (now (lows .entry)) (now (highs .entry)) (now (costs .entry))) probe Opening
         r (now (rec .entry)) (now (rec .exit)) ⌝ }
@@ -94,7 +94,7 @@ pub fn hear(
     free: usize,
 ) -> wake_log::Answer
     ensures { λ r. ⌜ Befallen
-        (hearFault (sliceFault 256 2048 number probes links (now (needs .entry)) (now (lows .entry)) (now (highs .entry)) (now (costs .entry)))
+        (hearFault (sliceFault 256 2048 (slicesOf number probes links (now (needs .entry)) (now (lows .entry)) (now (highs .entry)) (now (costs .entry))))
         (ofSlices number probes links (now (needs .entry)) (now (lows .entry)) (now (highs .entry)) (now (costs .entry))) probe (now (rec .entry)) (now (frame .entry)) free)
         (ofSlices number probes links (now (needs .entry)) (now (lows .entry)) (now (highs .entry)) (now (costs .entry))) probe
         (heardOf (ofSlices number probes links (now (needs .entry)) (now (lows .entry)) (now (highs .entry)) (now (costs .entry))) (frameOf (now (frame .entry))))
@@ -147,7 +147,7 @@ pub fn ask(
     out: &mut [u8],
 ) -> Asked
     ensures { λ r. ⌜ Asks
-        (orElse (lentFault (length (now (out .entry)))) (linkCallFault (sliceFault 256 2048 number probes links (now (needs .entry)) (now (lows .entry)) (now (highs .entry)) (now (costs .entry)))
+        (orElse (lentFault (length (now (out .entry)))) (linkCallFault (sliceFault 256 2048 (slicesOf number probes links (now (needs .entry)) (now (lows .entry)) (now (highs .entry)) (now (costs .entry))))
         (ofSlices number probes links (now (needs .entry)) (now (lows .entry)) (now (highs .entry)) (now (costs .entry))) probe (now (rec .entry)) link))
         (ofSlices number probes links (now (needs .entry)) (now (lows .entry)) (now (highs .entry)) (now (costs .entry))) probe kind link (now (rec .entry))
         r (now (out .entry)) (now (out .exit)) ⌝ }
@@ -191,7 +191,7 @@ pub fn rests(
     link: u16,
 ) -> Resting
     ensures { λ r. ⌜ r ≡ restingOf
-        (linkCallFault (sliceFault 256 2048 number probes links (now (needs .entry)) (now (lows .entry)) (now (highs .entry)) (now (costs .entry)))
+        (linkCallFault (sliceFault 256 2048 (slicesOf number probes links (now (needs .entry)) (now (lows .entry)) (now (highs .entry)) (now (costs .entry))))
         (ofSlices number probes links (now (needs .entry)) (now (lows .entry)) (now (highs .entry)) (now (costs .entry))) probe (now (rec .entry)) link)
         (rests (now (rec .entry)) link) ⌝ }
 {

@@ -5,7 +5,7 @@ ghost use Prim.Native.Nat.{_*_, _<_, _≤_};
 ghost use lib.ListN.{length};
 ghost use Rattle.range.specs.First.{orElse};
 ghost use Rattle.table.specs.Table.{ofSlices};
-ghost use Rattle.table.specs.Legal.{sliceFault};
+ghost use Rattle.table.specs.Slices.{sliceFault, slicesOf};
 ghost use Rattle.probe_frame.specs.Frame.{frameOf, frameFault};
 ghost use Rattle.probe_record.specs.Record.{recordFault};
 ghost use Rattle.probe_rules.specs.Frames.{heardOf};
@@ -99,7 +99,7 @@ fn state_fault(
     probe: usize,
     rec: &[u8],
 ) -> u8
-    ensures { λ r. ⌜ r ≡ orElse (sliceFault 256 2048 0 probes links (now (needs .entry)) (now (lows .entry)) (now (highs .entry)) (now (costs .entry)))
+    ensures { λ r. ⌜ r ≡ orElse (sliceFault 256 2048 (slicesOf 0 probes links (now (needs .entry)) (now (lows .entry)) (now (highs .entry)) (now (costs .entry))))
         (recordFault (ofSlices 0 probes links (now (needs .entry)) (now (lows .entry)) (now (highs .entry)) (now (costs .entry))) probe (now (rec .entry))) ⌝ }
 {
     let fault = table::checks::slice_fault(256, 2048, probes, links, needs, lows, highs, costs);
@@ -121,7 +121,7 @@ pub fn open_fault(
     rec: &[u8],
     free: usize,
 ) -> u8
-    ensures { λ r. ⌜ r ≡ openFault (sliceFault 256 2048 0 probes links (now (needs .entry)) (now (lows .entry)) (now (highs .entry)) (now (costs .entry)))
+    ensures { λ r. ⌜ r ≡ openFault (sliceFault 256 2048 (slicesOf 0 probes links (now (needs .entry)) (now (lows .entry)) (now (highs .entry)) (now (costs .entry))))
         (ofSlices 0 probes links (now (needs .entry)) (now (lows .entry)) (now (highs .entry)) (now (costs .entry))) probe (now (rec .entry)) free ⌝ }
 {
     let fault = state_fault(probes, links, needs, lows, highs, costs, probe, rec);
@@ -151,7 +151,7 @@ pub fn hear_fault(
     frame: &[u8],
     free: usize,
 ) -> u8
-    ensures { λ r. ⌜ r ≡ hearFault (sliceFault 256 2048 0 probes links (now (needs .entry)) (now (lows .entry)) (now (highs .entry)) (now (costs .entry)))
+    ensures { λ r. ⌜ r ≡ hearFault (sliceFault 256 2048 (slicesOf 0 probes links (now (needs .entry)) (now (lows .entry)) (now (highs .entry)) (now (costs .entry))))
         (ofSlices number probes links (now (needs .entry)) (now (lows .entry)) (now (highs .entry)) (now (costs .entry))) probe (now (rec .entry)) (now (frame .entry)) free ⌝ }
 {
     let fault = state_fault(probes, links, needs, lows, highs, costs, probe, rec);
@@ -185,7 +185,7 @@ pub fn link_call_fault(
     rec: &[u8],
     link: usize,
 ) -> u8
-    ensures { λ r. ⌜ r ≡ linkCallFault (sliceFault 256 2048 0 probes links (now (needs .entry)) (now (lows .entry)) (now (highs .entry)) (now (costs .entry)))
+    ensures { λ r. ⌜ r ≡ linkCallFault (sliceFault 256 2048 (slicesOf 0 probes links (now (needs .entry)) (now (lows .entry)) (now (highs .entry)) (now (costs .entry))))
         (ofSlices 0 probes links (now (needs .entry)) (now (lows .entry)) (now (highs .entry)) (now (costs .entry))) probe (now (rec .entry)) link ⌝ }
 {
     let fault = state_fault(probes, links, needs, lows, highs, costs, probe, rec);

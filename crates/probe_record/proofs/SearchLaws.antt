@@ -14,12 +14,13 @@ use Rattle.range.proofs.Choice.{Best, best-is}
 use Rattle.table.specs.Table.{Table, dearer, cheaper}
 use Rattle.table.specs.Legal.{Legal}
 use Rattle.plan_theory.proofs.Places.{Order, opposite}
-use Rattle.plan_theory.proofs.Order.{sound, dearer-by-place, dearer-order}
+use Rattle.plan_theory.proofs.Order.{dearer-by-place, dearer-order}
+use Rattle.table.proofs.LegalLaws.{legal-table}
 use Rattle.probe_record.specs.Record.{outbound, inbound, ownWith, dearestUntried, cheapestHeld}
 
 module _ (t : Table) (legal : Legal t) (p : ℕ) (e : List ℕ) where
   abbrev order : Order (t .links) (dearer t)
-  order = dearer-order t (sound 256 2048 t legal .order)
+  order = dearer-order t (legal-table 256 2048 t legal .order)
 
   pub dearest : Best (dearer t) (ownWith t p (outbound e) 0) (t .links) (t .links) (dearestUntried t p e)
   dearest = best-is (dearer t) (ownWith t p (outbound e) 0) (t .links) (order .irreflexive) (order .transitive) (t .links) (le-refl (t .links))
@@ -31,7 +32,7 @@ module _ (t : Table) (legal : Legal t) (p : ℕ) (e : List ℕ) where
 
 module _ (t : Table) (legal : Legal t) (k b : ℕ) (l : k < t .links) where
   later-dearer : b < k → dearer t k b ≡ leb (t .cost b) (t .cost k)
-  later-dearer m = dearer-by-place t (sound 256 2048 t legal .order) k b l (omega arith) ∙ rw (lt-ltb b k m) (go (decLt (t .cost b) (t .cost k)) (decLt (t .cost k) (t .cost b)))
+  later-dearer m = dearer-by-place t (legal-table 256 2048 t legal .order) k b l (omega arith) ∙ rw (lt-ltb b k m) (go (decLt (t .cost b) (t .cost k)) (decLt (t .cost k) (t .cost b)))
     where
       go : Dec (t .cost b < t .cost k) → Dec (t .cost k < t .cost b) → (ltb (t .cost b) (t .cost k) || (eqb (t .cost k) (t .cost b) && true)) ≡ leb (t .cost b) (t .cost k)
       go (yes c) d = rw (lt-ltb (t .cost b) (t .cost k) c, le-leb (t .cost b) (t .cost k) (omega arith))
@@ -39,7 +40,7 @@ module _ (t : Table) (legal : Legal t) (k b : ℕ) (l : k < t .links) where
       go (no c) (no d) = rw (le-ltb (t .cost b) (t .cost k) (omega arith), le-leb (t .cost b) (t .cost k) (omega arith), eq-eqb (t .cost k) (t .cost b) (omega arith))
 
   later-cheaper : b < k → dearer t b k ≡ ltb (t .cost k) (t .cost b)
-  later-cheaper m = dearer-by-place t (sound 256 2048 t legal .order) b k (omega arith) l ∙ rw (le-ltb k b (omega arith)) (go (eqb (t .cost b) (t .cost k)) (ltb (t .cost k) (t .cost b)))
+  later-cheaper m = dearer-by-place t (legal-table 256 2048 t legal .order) b k (omega arith) l ∙ rw (le-ltb k b (omega arith)) (go (eqb (t .cost b) (t .cost k)) (ltb (t .cost k) (t .cost b)))
     where
       go : (e c : Bool) → (c || (e && false)) ≡ c
       go e true = refl

@@ -12,7 +12,8 @@ use Rattle.range.proofs.Choice.{Best, nobody, chosen}
 use Rattle.table.specs.Table.{Table, touches, spare, dearer, cheaper}
 use Rattle.table.specs.Legal.{Legal}
 use Rattle.plan_theory.proofs.Places.{Order, Side, here, earlier, later, side}
-use Rattle.plan_theory.proofs.Order.{sound, dearer-order}
+use Rattle.plan_theory.proofs.Order.{dearer-order}
+use Rattle.table.proofs.LegalLaws.{legal-table}
 use Rattle.probe_record.specs.Record.{outbound, inbound, ownWith, standing, held, dearestUntried, cheapestHeld}
 use Rattle.probe_record.proofs.SearchLaws.{dearest, cheapest}
 use Rattle.probe_rules.specs.declared.Event.{Event}
@@ -37,7 +38,7 @@ pub data Befell (t : Table) (p : ℕ) (e : List ℕ) : Event → Outcome → Typ
 
 module _ (t : Table) (legal : Legal t) (p : ℕ) (e : List ℕ) where
   abbrev order : Order (t .links) (dearer t)
-  order = dearer-order t (sound 256 2048 t legal .order)
+  order = dearer-order t (legal-table 256 2048 t legal .order)
 
   befell-opening : Befell t p e Opening (opening t p e)
   befell-opening = go (decided (room && some))

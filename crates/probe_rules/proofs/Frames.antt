@@ -7,14 +7,11 @@ use native.Mathlib.Omega.{arith}
 use native.Mathlib.Decide.{decLt}
 use lib.Dec.{eqb}
 use borrow.Author.Tests.{eqb-true, eq-eqb}
-use Rattle.range.specs.First.{orElse, first}
 use Rattle.range.proofs.Bools.{and-left, and-right, or-intro-right, or-cases, decided}
-use Rattle.range.proofs.Faults.{or-left}
 use Rattle.range.proofs.Choice.{lowest-is, is-lowest}
 use Rattle.table.specs.Table.{Table, touches, other, joins, between}
-use Rattle.table.specs.Legal.{Legal, sizeFault, linkFault, needFault}
-use Rattle.table.proofs.Faults.{size-good}
-use Rattle.plan_theory.proofs.Order.{After, Sound, sound}
+use Rattle.table.specs.Legal.{Legal, After, LegalTable}
+use Rattle.table.proofs.LegalLaws.{legal-table}
 use Rattle.plan_theory.proofs.Settled.{Across, up, down}
 use Rattle.probe_frame.proofs.Laws.{Writable}
 
@@ -54,8 +51,8 @@ ways up = inl (refl, refl)
 ways down = inr (refl, refl)
 
 module _ (t : Table) (legal : Legal t) where
-  abbrev good : Sound t
-  good = sound 256 2048 t legal
+  abbrev good : LegalTable 256 2048 t
+  good = legal-table 256 2048 t legal
 
   one-place : (i j : ℕ) → i < t .links → j < t .links → t .low i ≡ t .low j → t .high i ≡ t .high j → i ≡ j
   one-place i j li lj a b = go (decLt i j) (decLt j i)
@@ -103,11 +100,7 @@ module _ (t : Table) (legal : Legal t) where
       go (inr y) = let e = good .ends i l in let r = e .rises in let b = e .below in (omega arith, omega arith)
 
   few : t .probes ≤ 256
-  few =
-      size-good 256 2048 (t .probes) (t .links)
-      (or-left (sizeFault 256 2048 (t .probes) (t .links))
-      (orElse (first (linkFault (t .probes) (t .low) (t .high)) (t .links)) (first (needFault t) (t .probes))) legal)
-      .few
+  few = good .size .few
 
   pub writable : t .number < 65536 → (kind p w : ℕ) → kind < 3 → p < t .probes → w < t .probes
       → Writable (record { kind = kind; number = t .number; from = p; to = w })

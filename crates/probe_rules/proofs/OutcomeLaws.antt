@@ -8,10 +8,8 @@ use native.Mathlib.Omega.{arith}
 use lib.Dec.{ltb, eqb}
 use borrow.Author.Tests.{ltb-true}
 use Rattle.range.proofs.Bools.{and-left, and-right, decided}
-use Rattle.range.specs.First.{orElse, first}
-use Rattle.range.proofs.Faults.{or-left}
-use Rattle.table.specs.Legal.{Legal, sizeFault, linkFault, needFault}
-use Rattle.table.proofs.Faults.{size-good}
+use Rattle.table.specs.Legal.{Legal}
+use Rattle.table.proofs.LegalLaws.{legal-table}
 use Rattle.table.specs.Table.{Table, ofSlices, spare, dearer}
 use Rattle.probe_record.specs.Record.{outbound, inbound, standing, held, dearestUntried, cheapestHeld}
 use Rattle.probe_rules.specs.declared.Event.{Event}
@@ -57,8 +55,7 @@ within-wider n m (NoChange i) l w = omega arith
 
 pub few-links : (t : Table) → Legal t → t .links ≤ 65536
 few-links t legal =
-    let s = size-good 256 2048 (t .probes) (t .links)
-    (or-left (sizeFault 256 2048 (t .probes) (t .links)) (orElse (first (linkFault (t .probes) (t .low) (t .high)) (t .links)) (first (needFault t) (t .probes))) legal) in
+    let s = legal-table 256 2048 t legal .size in
     omega (arith, s .within)
 
 -- what the entry and the outcome take from the table

@@ -5,12 +5,12 @@ use mathlib.Core.List.{List}
 use native.Mathlib.Omega.{arith}
 use lib.ListN.{length}
 use Rattle.table.specs.Table.{ofSlices}
-use Rattle.table.proofs.Slices.{Given}
+use Rattle.table.specs.Slices.{LegalSlices, slicesOf}
 use Rattle.probe_record.specs.Record.{recordFault}
 use Rattle.probe_record.proofs.Bytes.{record-good}
 use Rattle.probe_rules.specs.Within.{Ready}
 
-pub ready : (number probes links : ℕ) (needs lows highs costs : List ℕ) (p : ℕ) (e : List ℕ) → Given 256 2048 number probes links needs lows highs costs
+pub ready : (number probes links : ℕ) (needs lows highs costs : List ℕ) (p : ℕ) (e : List ℕ) → LegalSlices 256 2048 (slicesOf number probes links needs lows highs costs)
     → recordFault (ofSlices number probes links needs lows highs costs) p e ≡ 0
     → Ready (ofSlices number probes links needs lows highs costs) p e (length lows) (length highs) (length costs)
 ready number probes links needs lows highs costs p e g f =

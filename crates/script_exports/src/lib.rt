@@ -5,7 +5,7 @@ ghost use lib.Dec.{ltb};
 ghost use lib.ListN.{length, take};
 ghost use Rattle.range.specs.First.{orElse};
 ghost use Rattle.table.specs.Table.{item};
-ghost use Rattle.fleet.specs.Answers.{slicesOf};
+ghost use Rattle.table.specs.Slices.{slicesOf};
 ghost use Rattle.script_theory.specs.Script.{afterPiece, endText, scriptOutput};
 ghost use Rattle.script_output.specs.Handling.{callFault, pieceFault, before};
 ghost use Rattle.packed_answers.specs.Packed.{PrintsPacked};

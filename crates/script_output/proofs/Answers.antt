@@ -14,7 +14,8 @@ use Rattle.range.proofs.Bools.{when-none}
 use Rattle.range.proofs.Faults.{or-left, or-right}
 use Rattle.range.proofs.Sets.{sets-start}
 use Rattle.output.proofs.Printing.{filled-within}
-use Rattle.fleet_theory.specs.Fleet.{Slices, tableOf, slicesFault, fleetFault}
+use Rattle.fleet_theory.specs.Fleet.{fleetFault}
+use Rattle.table.specs.Slices.{Slices, tableOf, slicesFault}
 use Rattle.script_theory.specs.Script.{Script}
 use Rattle.script_steps.specs.declared.Progress.{Progress}
 use Rattle.script_steps.specs.declared.pieces.Place.{Place}

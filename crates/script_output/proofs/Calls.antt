@@ -9,7 +9,7 @@ use lib.Dec.{eqb}
 use lib.ListN.{length, drop}
 use lib.Seq.{take-take, take-append-seam}
 use Rattle.range.proofs.Bools.{decided}
-use Rattle.fleet_theory.specs.Fleet.{Slices}
+use Rattle.table.specs.Slices.{Slices}
 use Rattle.script_theory.specs.Script.{Script, afterByte, afterPiece, carried}
 use Rattle.script_steps.proofs.PieceLaws.{short-take}
 use Rattle.script_output.specs.Handling.{before}

@@ -22,8 +22,7 @@ use Rattle.output.specs.Output.{refusalLine, shortFault, Prints}
 use Rattle.output.specs.declared.Output.{Output}
 use Rattle.output.specs.declared.Output.the-variants.{Length}
 use Rattle.output.proofs.Printing.{prints-done, long-enough}
-use Rattle.fleet_theory.specs.Fleet.{Slices, slicesFault}
-use Rattle.fleet.specs.Answers.{slicesOf}
+use Rattle.table.specs.Slices.{Slices, slicesFault, slicesOf}
 use Rattle.script_theory.specs.Script.{inSlices, scriptText, scriptOutput}
 use Rattle.script_steps.proofs.Ends.{links-within}
 

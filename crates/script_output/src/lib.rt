@@ -7,7 +7,7 @@ ghost use Prim.Native.Nat.{ℕ, _+_, _*_};
 ghost use lib.Dec.{ltb};
 ghost use lib.ListN.{length, take};
 ghost use Rattle.output.specs.Output.{Prints};
-ghost use Rattle.fleet.specs.Answers.{slicesOf};
+ghost use Rattle.table.specs.Slices.{slicesOf};
 ghost use Rattle.script_theory.specs.Script.{afterPiece, endText, scriptOutput};
 ghost use Rattle.script_output.specs.Handling.{callFault, pieceFault, before, Handles};
 

@@ -9,7 +9,7 @@ use lib.Dec.{ltb}
 use lib.ListN.{length, take, set, length-append}
 use lib.Seq.{take-suc-set, take-set-le, take-all, take-append-le, take-take, length-take-le}
 use borrow.Author.Tests.{eq-eqb, ne-eqb, lt-ltb, le-ltb}
-use Rattle.fleet_theory.specs.Fleet.{Slices}
+use Rattle.table.specs.Slices.{Slices}
 use Rattle.script_theory.specs.Script.{afterLine, afterByte}
 use Rattle.script_steps.specs.Within.{underWay, Buffered}
 use Rattle.script_steps.specs.declared.Progress.{Progress}

@@ -9,9 +9,10 @@ use lib.ListN.{length, take, replicate, length-append}
 use lib.Seq.{sets}
 use Rattle.range.proofs.Sets.{sets-then}
 use Rattle.output.specs.Output.{refusalLine}
-use Rattle.fleet_theory.specs.Fleet.{Slices, tableOf, slicesFault, fleetFault, start, finished}
+use Rattle.fleet_theory.specs.Fleet.{fleetFault, start, finished}
+use Rattle.table.specs.Slices.{Slices, tableOf, slicesFault}
 use Rattle.fleet_theory.proofs.Run.{slices-legal, start-holds, fleet-passes}
-use Rattle.fleet_state.proofs.Legal.{legal-size}
+use Rattle.table.proofs.LegalLaws.{legal-table}
 use Rattle.script_lines.proofs.Lines.{length-last}
 use Rattle.script_theory.specs.Script.{Script, lastLine, endText, scriptText, afterPiece, begun}
 use Rattle.script_theory.proofs.Pieces.{whole}
@@ -58,7 +59,7 @@ zeros-part (suc n) zero l = absurd (omega arith)
 zeros-part (suc n) (suc m) l = ap (λ (z : List ℕ). 0 ∷ z) (zeros-part n m (omega arith))
 
 pub links-within : (x : Slices) → slicesFault x ≡ 0 → x .links ≤ 2048
-links-within x fine = legal-size (tableOf x) (slices-legal x fine) .within
+links-within x fine = legal-table 256 2048 (tableOf x) (slices-legal x fine) .size .within
 
 -- a script from its start
 module _ (x : Slices) (fine : slicesFault x ≡ 0) (within : 4 * x .links ≤ 8192) where

@@ -12,7 +12,8 @@ use lib.Seq.{take-suc, take-all, length-take-le}
 use borrow.Author.Tests.{ne-eqb}
 use Rattle.range.proofs.Bools.{decided}
 use Rattle.range.proofs.Sets.{sets-then}
-use Rattle.fleet_theory.specs.Fleet.{Slices, tableOf, slicesFault, fleetFault, eventFault}
+use Rattle.fleet_theory.specs.Fleet.{fleetFault, eventFault}
+use Rattle.table.specs.Slices.{Slices, tableOf, slicesFault}
 use Rattle.fleet.proofs.Passing.{passed-line, record-stays}
 use Rattle.script_theory.specs.Script.{Script, bytesAfter, afterByte, afterPiece, carried}
 use Rattle.script_theory.proofs.Pieces.{in-pieces, onto, byte-onto, carried-onto}

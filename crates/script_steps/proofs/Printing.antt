@@ -21,7 +21,8 @@ use Rattle.wake_log.specs.declared.Answer.{Answer}
 use Rattle.wake_log.specs.declared.Answer.the-variants.{Logged, Refused}
 use Rattle.wake_log.specs.Entry.{answerOf}
 use Rattle.probe_rules.specs.Rules.{entryOf}
-use Rattle.fleet_theory.specs.Fleet.{Slices, tableOf, slicesFault, fleetFault, lineFault, eventFault, outcomeOf, linkChanges}
+use Rattle.fleet_theory.specs.Fleet.{fleetFault, lineFault, eventFault, outcomeOf, linkChanges}
+use Rattle.table.specs.Slices.{Slices, tableOf, slicesFault}
 use Rattle.fleet_theory.proofs.Events.{unsentOf}
 use Rattle.fleet.specs.Answers.{Handled, changesBy}
 use Rattle.fleet.proofs.Checks.{line-frame}

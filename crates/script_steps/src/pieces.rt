@@ -7,9 +7,10 @@ ghost use Prim.Native.Nat.{ℕ, _+_, _*_, _%_, _≤_};
 ghost use lib.Dec.{ltb, eqb};
 ghost use lib.ListN.{length, take};
 ghost use lib.Seq.{sets};
-ghost use Rattle.fleet_theory.specs.Fleet.{slicesFault, fleetFault, tableOf};
+ghost use Rattle.fleet_theory.specs.Fleet.{fleetFault};
+ghost use Rattle.table.specs.Slices.{slicesFault, tableOf, slicesOf};
 ghost use Rattle.fleet_state.specs.Within.{Fits};
-ghost use Rattle.fleet.specs.Answers.{slicesOf, changesBy};
+ghost use Rattle.fleet.specs.Answers.{changesBy};
 ghost use Rattle.script_theory.specs.Script.{endText, scriptText, afterLine, afterByte, afterPiece};
 ghost use Rattle.script_steps.specs.Within.{acceptedBy, underWay, Buffered};
 

@@ -15,7 +15,8 @@ use Rattle.range.proofs.Faults.{or-right}
 use Rattle.range.proofs.Sums.{sum-add, none-count}
 use Rattle.probe_frame.specs.Frame.{frameOf, frameFault}
 use Rattle.probe_rules.specs.Rules.{entryOf}
-use Rattle.fleet_theory.specs.Fleet.{Slices, tableOf, slicesFault, fleetFault, outcomeOf, faultOf, State, start, accepted, answerTo, next, run, linkChanges, changes, allChanges, finished}
+use Rattle.fleet_theory.specs.Fleet.{fleetFault, outcomeOf, faultOf, State, start, accepted, answerTo, next, run, linkChanges, changes, allChanges, finished}
+use Rattle.table.specs.Slices.{Slices, tableOf, slicesFault}
 use Rattle.fleet_theory.proofs.Changes.{no-changes}
 use Rattle.fleet_theory.proofs.Run.{Holds, start-holds, fault-is, next-holds}
 use Rattle.script_theory.specs.Script.{answerLine, linesFrom, printed, lastLine, scriptText, Script, afterLine, afterByte, afterPiece, begun, endText, together, carried, printedBy}

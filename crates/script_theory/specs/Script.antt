@@ -16,7 +16,8 @@ use Rattle.wake_log.specs.declared.Answer.the-variants.{Logged, Refused}
 use Rattle.wake_log.specs.Entry.{answerOf, codeOf, linkOf, displacedOf}
 use Rattle.probe_frame.specs.Frame.{frameOf}
 use Rattle.probe_rules.specs.Rules.{entryOf}
-use Rattle.fleet_theory.specs.Fleet.{Slices, tableOf, eventFault, outcomeOf, alteredBy, State, start, answerTo, next, run, linkChanges, allChanges, finished}
+use Rattle.fleet_theory.specs.Fleet.{eventFault, outcomeOf, alteredBy, State, start, answerTo, next, run, linkChanges, allChanges, finished}
+use Rattle.table.specs.Slices.{Slices, tableOf}
 
 -- "the entry: probe, what (two digits), link's place in the table from 0, displaced probe; four digits each but for the second"
 abbrev pub entryLine : Entry → List ℕ

@@ -1,5 +1,5 @@
 -- What it means that a table's checks find no fault.
-use Prim.Native.Nat.{ℕ, _-_, _≤_, _<_}
+use Prim.Native.Nat.{ℕ, _-_, _<_}
 use mathlib.Core.Path.{_≡_, sym, _∙_}
 use mathlib.Core.Bool.{cond, not, _&&_, _||_}
 use lib.Dec.{ltb, eqb}
@@ -9,11 +9,7 @@ use Rattle.range.proofs.Bools.{and-left, and-right, or-false-left, or-false-rig
 use Rattle.range.proofs.Faults.{or-left, or-here, or-next, first-all}
 use Rattle.table.specs.Checking.{checkingOf}
 use Rattle.table.specs.declared.Checking.the-variants.{Fine, Refused}
-use Rattle.table.specs.Legal.{endsFault, orderFault, linkFault, sizeFault, roomFault}
-
-pub record Ends (probes low high : ℕ) : Type 0 where
-  pub rises : low < high
-  pub below : high < probes
+use Rattle.table.specs.Legal.{endsFault, orderFault, linkFault, sizeFault, roomFault, Ends, Size, Room}
 
 pub ends-good : (probes low high : ℕ) → endsFault probes low high ≡ 0 → Ends probes low high
 ends-good probes low high e =
@@ -32,11 +28,6 @@ link-ends probes low high i e =
 pub links-ends : (probes links : ℕ) (low high : ℕ → ℕ) → first (linkFault probes low high) links ≡ 0 → (i : ℕ) → i < links → Ends probes (low i) (high i)
 links-ends probes links low high e i l = link-ends probes low high i (first-all (linkFault probes low high) links i e l)
 
-pub record Size (pmax lmax probes links : ℕ) : Type 0 where
-  pub some : probes ≡ 0 → ⊥
-  pub few : probes ≤ pmax
-  pub within : links ≤ lmax
-
 pub size-good : (pmax lmax probes links : ℕ) → sizeFault pmax lmax probes links ≡ 0 → Size pmax lmax probes links
 size-good pmax lmax probes links e =
     let b = when-none (eqb probes 0 || (ltb pmax probes || ltb lmax links)) 2 e in
@@ -49,12 +40,6 @@ size-good pmax lmax probes links e =
 
 pub good-size : (pmax lmax probes links : ℕ) → Size pmax lmax probes links → sizeFault pmax lmax probes links ≡ 0
 good-size pmax lmax probes links g = rw (ne-eqb probes 0 (g .some), le-ltb pmax probes (g .few), le-ltb lmax links (g .within))
-
-pub record Room (probes links needs lows highs costs : ℕ) : Type 0 where
-  pub needed : probes ≤ needs
-  pub linked : links ≤ lows
-  pub equal : lows ≡ highs
-  pub equal₂ : highs ≡ costs
 
 pub room-good : (probes links needs lows highs costs : ℕ) → roomFault probes links needs lows highs costs ≡ 0 → Room probes links needs lows highs costs
 room-good probes links needs lows highs costs e =

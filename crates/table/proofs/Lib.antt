@@ -3,4 +3,5 @@ pub mod DegreeLaws
 pub mod Same
 pub mod Accepted
 pub mod Lengths
+pub mod LegalLaws
 pub mod Slices

@@ -1,12 +1,11 @@
 -- Refusals of a table: document 01, "Turned down for the input", 3, 4, 5, 7 and 8. A fault is a refusal's number, or 0 for none.
-use Prim.Native.Nat.{ℕ, _-_}
+use Prim.Native.Nat.{ℕ, _-_, _≤_, _<_}
 use mathlib.Core.Path.{_≡_}
+use mathlib.Core.Logic.{_⊎_}
 use mathlib.Core.Bool.{cond, _&&_, _||_, not}
-use mathlib.Core.List.{List}
 use lib.Dec.{ltb, eqb}
-use lib.ListN.{length}
 use Rattle.range.specs.First.{orElse, first}
-use Rattle.table.specs.Table.{Table, ofSlices, degree}
+use Rattle.table.specs.Table.{Table, degree}
 
 -- "Probes 0 or over 256, or links over 2,048": the limits are parameters
 abbrev pub sizeFault : ℕ → ℕ → ℕ → ℕ → ℕ
@@ -42,13 +41,47 @@ tableFault pmax lmax t =
 abbrev pub Legal : Table → Type 0
 Legal t = tableFault 256 2048 t ≡ 0
 
+-- What a legal table gives, in numbers; the law is `legal-table`.
+
+-- "1 to 256 probes .. and 0 to 2,048 links": the limits are parameters
+pub record Size (pmax lmax probes links : ℕ) : Type 0 where
+  pub some : probes ≡ 0 → ⊥
+  pub few : probes ≤ pmax
+  pub within : links ≤ lmax
+
+-- "A link joins a low probe to a higher one"
+pub record Ends (probes low high : ℕ) : Type 0 where
+  pub rises : low < high
+  pub below : high < probes
+
+-- the link j's ends come after those of the link i: "in rising order of low end, then high end"
+abbrev pub After : Table → ℕ → ℕ → Type 0
+After t i j = (t .low i < t .low j) ⊎ ((t .low i ≡ t .low j) × (t .high i < t .high j))
+
+-- "Links stand in rising order of low end, then high end, none twice."
+pub record RisingLinks (t : Table) : Type 0 where
+  pub rising : (i j : ℕ) → i < j → j < t .links → After t i j
+
+pub record LegalTable (pmax lmax : ℕ) (t : Table) : Type 0 where
+  pub size : Size pmax lmax (t .probes) (t .links)
+  pub links-pass : first (linkFault (t .probes) (t .low) (t .high)) (t .links) ≡ 0
+  pub ends : (i : ℕ) → i < t .links → Ends (t .probes) (t .low i) (t .high i)
+  pub order : RisingLinks t
+  -- no need is above the probe's links
+  pub enough : (v : ℕ) → v < t .probes → t .need v ≤ degree t v
+
+-- 8 for a lent slice shorter than it must be
+abbrev pub lentFault : ℕ → ℕ → ℕ
+lentFault lent needed = cond (ltb lent needed) 8 0
+
 -- "Low, high and cost slices of unequal length, or a lent table .. slice too short": by the lengths of needs, lows, highs and costs
 abbrev pub roomFault : ℕ → ℕ → ℕ → ℕ → ℕ → ℕ → ℕ
 roomFault probes links needs lows highs costs =
     cond (ltb needs probes || (not (eqb lows highs) || (not (eqb highs costs) || ltb lows links))) 8 0
 
--- "Slices of numbers: 8, 3, then 4 and 5 link by link, 7."
-abbrev pub sliceFault : ℕ → ℕ → ℕ → ℕ → ℕ → List ℕ → List ℕ → List ℕ → List ℕ → ℕ
-sliceFault pmax lmax number probes links needs lows highs costs =
-    orElse (roomFault probes links (length needs) (length lows) (length highs) (length costs))
-    (tableFault pmax lmax (ofSlices number probes links needs lows highs costs))
+-- what it gives, by the same lengths
+pub record Room (probes links needs lows highs costs : ℕ) : Type 0 where
+  pub needed : probes ≤ needs
+  pub linked : links ≤ lows
+  pub equal : lows ≡ highs
+  pub equal₂ : highs ≡ costs

@@ -1,4 +1,5 @@
 pub mod Table
 pub mod Legal
+pub mod Slices
 pub mod Text
 pub mod Checking

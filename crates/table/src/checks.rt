@@ -7,7 +7,8 @@ ghost use Prim.Native.Nat.{_-_, _<_, _≤_};
 ghost use lib.ListN.{length};
 ghost use Rattle.range.specs.First.{first};
 ghost use Rattle.table.specs.Table.{item, ofSlices};
-ghost use Rattle.table.specs.Legal.{sizeFault, endsFault, orderFault, linkFault, aboveFault, needFault, tableFault, roomFault, sliceFault};
+ghost use Rattle.table.specs.Legal.{sizeFault, endsFault, orderFault, linkFault, aboveFault, needFault, tableFault, roomFault};
+ghost use Rattle.table.specs.Slices.{sliceFault, slicesOf};
 
 // 3
 pub fn size_fault(pmax: usize, lmax: usize, probes: usize, links: usize) -> u8
@@ -175,7 +176,7 @@ pub fn slice_fault(
     costs: &[u16],
 ) -> u8
     requires { ⌜ (pmax ≤ 256) × (lmax ≤ 65535) ⌝ }
-    ensures { λ r. ⌜ r ≡ sliceFault pmax lmax 0 probes links (now (needs .entry)) (now (lows .entry)) (now (highs .entry)) (now (costs .entry)) ⌝ }
+    ensures { λ r. ⌜ r ≡ sliceFault pmax lmax (slicesOf 0 probes links (now (needs .entry)) (now (lows .entry)) (now (highs .entry)) (now (costs .entry))) ⌝ }
 {
     let room = room_fault(
         probes,

@@ -4,7 +4,7 @@ ghost use mathlib.Core.Bool.{true, false};
 ghost use Prim.Native.Nat.{_+_, _*_, ℕ, _^_, _<_};
 ghost use lib.ListN.{length};
 ghost use Rattle.table.specs.Table.{ofSlices};
-ghost use Rattle.table.specs.Legal.{sliceFault};
+ghost use Rattle.table.specs.Slices.{sliceFault, slicesOf};
 ghost use Rattle.table.specs.Checking.{checkingOf, refusalOf};
 ghost use Rattle.table.specs.Text.{ofText, readFault};
 ghost use Rattle.table_write.specs.Writing.{writeFault};
@@ -62,7 +62,7 @@ pub extern "C" fn planner_check_table(
     highs: &[u16],
     costs: &[u16],
 ) -> u8
-    ensures { λ r. ⌜ r ≡ refusalOf (checkingOf (sliceFault 256 2048 number probes links (now (needs .entry)) (now (lows .entry)) (now (highs .entry)) (now (costs .entry)))) ⌝ }
+    ensures { λ r. ⌜ r ≡ refusalOf (checkingOf (sliceFault 256 2048 (slicesOf number probes links (now (needs .entry)) (now (lows .entry)) (now (highs .entry)) (now (costs .entry))))) ⌝ }
 {
     refusal_of(table::check_table(number, probes, links, needs, lows, highs, costs))
 }

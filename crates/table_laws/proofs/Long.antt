@@ -19,9 +19,8 @@ use Rattle.lines.specs.declared.Line.{Line}
 use Rattle.lines.specs.declared.Line.the-variants.{Here, Missing}
 use Rattle.lines.proofs.Feeds.{until-at, until-before, until-is}
 use Rattle.lines.proofs.Lines.{there}
-use Rattle.table.specs.Legal.{linkFault}
+use Rattle.table.specs.Legal.{linkFault, Size}
 use Rattle.table.specs.Text.{ofText, needStart, linkStart, begins, closingLine, closingFault, needLineFault, linkLineFault, headFault, bodyFault, textFault}
-use Rattle.table.proofs.Faults.{Size}
 use Rattle.table_text.proofs.Good.{head-good, text-head}
 use Rattle.table_laws.specs.Same.{Same}
 use Rattle.table_laws.proofs.Tables.{same-needs}

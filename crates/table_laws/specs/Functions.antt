@@ -5,7 +5,7 @@ use mathlib.Core.List.{List}
 use lib.ListN.{length}
 use Rattle.table.specs.Table.{Table, ofSlices}
 use Rattle.table.specs.Text.{ofText, readFault}
-use Rattle.table.proofs.Faults.{Room}
+use Rattle.table.specs.Legal.{Room}
 use Rattle.table_read.specs.Reading.{Reads}
 use Rattle.table_read.specs.declared.Reading.{Reading}
 use Rattle.table_write.specs.Writing.{writeFault, Writes}

@@ -12,9 +12,9 @@ use Rattle.range.specs.Choice.{lowest}
 use Rattle.range.proofs.Bools.{and-left, and-right, and-intro, or-intro-left, or-intro-right, or-cases, decided}
 use Rattle.range.proofs.Choice.{lowest-is, is-lowest}
 use Rattle.table.specs.Table.{item, ofSlices, joins, between}
-use Rattle.table.specs.Legal.{sliceFault}
-use Rattle.table.proofs.Slices.{given}
-use Rattle.plan_theory.proofs.Order.{sound}
+use Rattle.table.specs.Slices.{sliceFault, slicesOf}
+use Rattle.table.proofs.Slices.{legal-slices}
+use Rattle.table.proofs.LegalLaws.{legal-table}
 use Rattle.table_links.specs.Ordered.{Ordered, earlier}
 
 -- the order of ends, by numbers
@@ -107,10 +107,10 @@ module _ (links : ℕ) (lows highs : List ℕ) (o : Ordered links lows highs) (l
       (record { within = omega arith; inside = λ l. ap not (s .above start (omega arith) l); before = λ j l. ap not (s .below j l) })
 
 -- the slices of a legal table
-pub ordered : (pmax lmax number probes links : ℕ) (needs lows highs costs : List ℕ) → sliceFault pmax lmax number probes links needs lows highs costs ≡ 0 → Ordered links lows highs
+pub ordered : (pmax lmax number probes links : ℕ) (needs lows highs costs : List ℕ) → sliceFault pmax lmax (slicesOf number probes links needs lows highs costs) ≡ 0 → Ordered links lows highs
 ordered pmax lmax number probes links needs lows highs costs e =
-    let g = given pmax lmax number probes links needs lows highs costs e in
-    let s = sound pmax lmax (ofSlices number probes links needs lows highs costs) (g .legal) in
+    let g = legal-slices pmax lmax (slicesOf number probes links needs lows highs costs) e in
+    let s = legal-table pmax lmax (ofSlices number probes links needs lows highs costs) (g .legal) in
     record { in-lows = g .in-lows; in-highs = g .in-highs; ends = λ i l. s .ends i l .rises; rising = s .order .rising }
 
 module _ (links : ℕ) (lows highs : List ℕ) (o : Ordered links lows highs) (low high : ℕ) (k : low ≤ high) where

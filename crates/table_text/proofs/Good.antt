@@ -14,8 +14,8 @@ use Rattle.hex.specs.Digits.{numberAt}
 use Rattle.hex.proofs.Laws.{number-fits}
 use Rattle.lines.specs.Digits.{lineFault}
 use Rattle.lines.proofs.Lines.{GoodLine, line-good}
-use Rattle.table.specs.Legal.{sizeFault, linkFault}
-use Rattle.table.proofs.Faults.{Size, size-good}
+use Rattle.table.specs.Legal.{sizeFault, linkFault, Size}
+use Rattle.table.proofs.Faults.{size-good}
 use Rattle.table.specs.Text.{ofText, needStart, linkStart, needLineFault, linkLineFault, headFault, bodyFault, textFault}
 
 -- a number of four digits stands at the offset

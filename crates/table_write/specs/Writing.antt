@@ -7,7 +7,7 @@ use lib.Dec.{ltb, eqb}
 use lib.ListN.{length, drop}
 use Rattle.range.specs.First.{orElse}
 use Rattle.table.specs.Table.{Table, ofSlices}
-use Rattle.table.specs.Legal.{sliceFault}
+use Rattle.table.specs.Slices.{sliceFault, slicesOf}
 use Rattle.table.specs.Text.{textOf, textEnd}
 use Rattle.table_write.specs.declared.Writing.{Writing}
 use Rattle.table_write.specs.declared.Writing.the-variants.{Length, Refused}
@@ -16,7 +16,7 @@ use Rattle.table_write.specs.declared.Writing.the-variants.{Length, Refu
 abbrev pub writeFault : ℕ → ℕ → ℕ → ℕ → ℕ → List ℕ → List ℕ → List ℕ → List ℕ → ℕ → ℕ
 writeFault pmax lmax number probes links needs lows highs costs out =
     orElse (cond (ltb out (textEnd (ofSlices number probes links needs lows highs costs))) 8 0)
-    (sliceFault pmax lmax number probes links needs lows highs costs)
+    (sliceFault pmax lmax (slicesOf number probes links needs lows highs costs))
 
 -- the answer: the text's length, or the number of the refusal alone
 abbrev pub writingOf : ℕ → Table → Writing

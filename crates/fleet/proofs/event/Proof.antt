@@ -5,8 +5,8 @@ use Rattle.fleet.proofs.event.Tie as tie
 use mathlib.Core.Path.{_≡_, sym, _∙_}
 use Rattle.range.specs.First.{orElse}
 use Rattle.range.proofs.Faults.{or-left, or-right}
-use Rattle.fleet_theory.specs.Fleet.{Slices, tableOf, slicesFault, fleetFault}
-use Rattle.fleet.specs.Answers.{slicesOf}
+use Rattle.fleet_theory.specs.Fleet.{fleetFault}
+use Rattle.table.specs.Slices.{Slices, tableOf, slicesFault, slicesOf}
 use Rattle.fleet.proofs.Calls.{state-is, state-refused}
 
 state-fault-requires : tie.Need-state-fault-requires

@@ -7,9 +7,9 @@ use mathlib.Core.List.{[]}
 use native.Mathlib.Omega.{arith}
 use Rattle.range.specs.First.{orElse}
 use Rattle.range.proofs.Faults.{or-left, or-right}
-use Rattle.table.proofs.Slices.{given}
-use Rattle.fleet_theory.specs.Fleet.{Slices, tableOf, slicesFault, fleetFault}
-use Rattle.fleet.specs.Answers.{slicesOf}
+use Rattle.table.proofs.Slices.{legal-slices}
+use Rattle.fleet_theory.specs.Fleet.{fleetFault}
+use Rattle.table.specs.Slices.{Slices, tableOf, slicesFault, slicesOf}
 use Rattle.fleet_state.proofs.Legal.{fits}
 use Rattle.fleet_state.proofs.CheckLaws.{fleet-good}
 use Rattle.fleet.proofs.Calls.{state-is, finishing-refused, finishing-says}
@@ -28,7 +28,7 @@ is-finished-requires c κs =
     let x : Slices = slicesOf (a .number) (a .probes) (a .links) (a .needs .now) (a .lows .now) (a .highs .now) (a .costs .now) in
     let z : orElse (slicesFault x) (fleetFault (tableOf x) (a .rec .now)) ≡ 0 = sym (state-is (a .number) (a .probes) (a .links) (a .needs .now) (a .lows .now) (a .highs .now) (a .costs .now) 0 0 [] (a .rec .now) _ (c .before .state-fault .ensures)) ∙ c .if1 .left in
     let f = fleet-good (tableOf x) (a .rec .now) (or-right (slicesFault x) (fleetFault (tableOf x) (a .rec .now)) z) in
-    (fits (a .number) (a .probes) (a .links) (a .needs .now) (a .lows .now) (a .highs .now) (a .costs .now) (given 256 2048 (a .number) (a .probes) (a .links) (a .needs .now) (a .lows .now) (a .highs .now) (a .costs .now) (or-left (slicesFault x) (fleetFault (tableOf x) (a .rec .now)) z)), omega (arith, f .0))
+    (fits (a .number) (a .probes) (a .links) (a .needs .now) (a .lows .now) (a .highs .now) (a .costs .now) (legal-slices 256 2048 (slicesOf (a .number) (a .probes) (a .links) (a .needs .now) (a .lows .now) (a .highs .now) (a .costs .now)) (or-left (slicesFault x) (fleetFault (tableOf x) (a .rec .now)) z)), omega (arith, f .0))
 
 returns-2 : tie.Need-returns-2
 returns-2 c =

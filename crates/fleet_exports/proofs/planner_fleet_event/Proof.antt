@@ -2,7 +2,7 @@
 use borrow.Author.Needs.{needs}
 use Rattle.fleet_exports.proofs.planner_fleet_event.Statement.{statement}
 use Rattle.fleet_exports.proofs.planner_fleet_event.Tie as tie
-use Rattle.fleet.specs.Answers.{slicesOf}
+use Rattle.table.specs.Slices.{slicesOf}
 use Rattle.fleet_exports.proofs.Answers.{handled-packed}
 
 event-requires : tie.Need-event-requires

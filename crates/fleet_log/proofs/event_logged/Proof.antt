@@ -45,7 +45,7 @@ use Rattle.wake_log.proofs.Call.{Append, appends}
 use Rattle.wake_log.proofs.append.Symbol as append-def
 use Rattle.wake_log.proofs.append.Symbol.{name as #wake-log·append}
 use Rattle.wake_log.proofs.append.Met as append-thm
-use Rattle.fleet.specs.Answers.{slicesOf}
+use Rattle.table.specs.Slices.{slicesOf}
 use Rattle.fleet_log.specs.Logged.{ToldLine}
 use Rattle.fleet_log.proofs.Stored.{stored}
 use Rattle.wake_log.specs.declared.storing.Told.{Told}

@@ -6,8 +6,8 @@ use mathlib.Core.Path.{sym, _∙_}
 use native.Mathlib.Omega.{arith}
 use borrow.Author.Tests.{eq-eqb, ne-eqb, lt-ltb, le-ltb, not-true, not-false}
 use Rattle.table.specs.Table.{Table, ofSlices}
-use Rattle.table.specs.Legal.{sliceFault}
-use Rattle.table.proofs.Slices.{given}
+use Rattle.table.specs.Slices.{sliceFault, slicesOf}
+use Rattle.table.proofs.Slices.{legal-slices}
 use Rattle.probe_record.proofs.Bytes.{record-good}
 use Rattle.probe_checks.specs.Checks.{linkCallFault}
 use Rattle.probe_checks.proofs.Accepted.{link-parts}
@@ -26,7 +26,7 @@ is-sendable-requires : tie.Need-is-sendable-requires
 is-sendable-requires c κs =
     let a = c .before .before .before .before .before .before .before .before .before .args in
     let t : Table = ofSlices 0 (a .probes) (a .links) (a .needs .now) (a .lows .now) (a .highs .now) (a .costs .now) in
-    let s = sliceFault 256 2048 0 (a .probes) (a .links) (a .needs .now) (a .lows .now) (a .highs .now) (a .costs .now) in
+    let s = sliceFault 256 2048 (slicesOf 0 (a .probes) (a .links) (a .needs .now) (a .lows .now) (a .highs .now) (a .costs .now)) in
     let p = link-parts s t (a .probe) (a .rec .now) (a .link) (sym (c .before .link-call-fault .ensures) ∙ c .if2 .left) in
     let r = record-good t (a .probe) (a .rec .now) (p .1) in
     omega (arith, r .0, p .2)
@@ -39,9 +39,9 @@ other-requires : tie.Need-other-requires
 other-requires c κs =
     let a = c .before .before .before .before .before .before .before .before .before .before .before .args in
     let t : Table = ofSlices 0 (a .probes) (a .links) (a .needs .now) (a .lows .now) (a .highs .now) (a .costs .now) in
-    let s = sliceFault 256 2048 0 (a .probes) (a .links) (a .needs .now) (a .lows .now) (a .highs .now) (a .costs .now) in
+    let s = sliceFault 256 2048 (slicesOf 0 (a .probes) (a .links) (a .needs .now) (a .lows .now) (a .highs .now) (a .costs .now)) in
     let p = link-parts s t (a .probe) (a .rec .now) (a .link) (sym (c .before .before .before .link-call-fault .ensures) ∙ c .before .before .if2 .left) in
-    let g = given 256 2048 0 (a .probes) (a .links) (a .needs .now) (a .lows .now) (a .highs .now) (a .costs .now) (p .0) in
+    let g = legal-slices 256 2048 (slicesOf 0 (a .probes) (a .links) (a .needs .now) (a .lows .now) (a .highs .now) (a .costs .now)) (p .0) in
     (omega (arith, g .in-lows, p .2), omega (arith, g .in-highs, p .2))
 
 kind-of-requires : tie.Need-kind-of-requires

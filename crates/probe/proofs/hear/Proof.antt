@@ -4,8 +4,8 @@ use Rattle.probe.proofs.hear.Statement.{statement}
 use Rattle.probe.proofs.hear.Tie as tie
 use mathlib.Core.Path.{sym, _∙_}
 use Rattle.table.specs.Table.{Table, ofSlices}
-use Rattle.table.specs.Legal.{sliceFault}
-use Rattle.table.proofs.Slices.{given}
+use Rattle.table.specs.Slices.{sliceFault, slicesOf}
+use Rattle.table.proofs.Slices.{legal-slices}
 use Rattle.table_links.proofs.Search.{ordered}
 use Rattle.probe_rules.specs.Frames.{heardOf}
 use Rattle.probe_rules.proofs.Ready.{ready}
@@ -26,7 +26,7 @@ event-of-requires : tie.Need-event-of-requires
 event-of-requires c κs =
     let a = c .before .before .before .before .before .before .before .before .before .args in
     let t : Table = ofSlices (a .number) (a .probes) (a .links) (a .needs .now) (a .lows .now) (a .highs .now) (a .costs .now) in
-    let s = sliceFault 256 2048 0 (a .probes) (a .links) (a .needs .now) (a .lows .now) (a .highs .now) (a .costs .now) in
+    let s = sliceFault 256 2048 (slicesOf 0 (a .probes) (a .links) (a .needs .now) (a .lows .now) (a .highs .now) (a .costs .now)) in
     let p = hear-parts s t (a .probe) (a .rec .now) (a .frame .now) (a .free) (sym (c .before .hear-fault .ensures) ∙ c .if1 .left) in
     (ordered 256 2048 0 (a .probes) (a .links) (a .needs .now) (a .lows .now) (a .highs .now) (a .costs .now) (p .0), heard-frame t (a .probe) (a .frame .now) (p .2))
 
@@ -34,9 +34,9 @@ apply-requires : tie.Need-apply-requires
 apply-requires c κs =
     let a = c .before .before .before .before .before .before .before .before .before .before .before .args in
     let t : Table = ofSlices (a .number) (a .probes) (a .links) (a .needs .now) (a .lows .now) (a .highs .now) (a .costs .now) in
-    let s = sliceFault 256 2048 0 (a .probes) (a .links) (a .needs .now) (a .lows .now) (a .highs .now) (a .costs .now) in
+    let s = sliceFault 256 2048 (slicesOf 0 (a .probes) (a .links) (a .needs .now) (a .lows .now) (a .highs .now) (a .costs .now)) in
     let p = hear-parts s t (a .probe) (a .rec .now) (a .frame .now) (a .free) (sym (c .before .before .before .hear-fault .ensures) ∙ c .before .before .if1 .left) in
-    (ready 0 (a .probes) (a .links) (a .needs .now) (a .lows .now) (a .highs .now) (a .costs .now) (a .probe) (a .rec .now) (given 256 2048 0 (a .probes) (a .links) (a .needs .now) (a .lows .now) (a .highs .now) (a .costs .now) (p .0)) (p .1), rw (c .before .event-of .ensures) (heard-within t (a .probe) (a .frame .now) (p .2)))
+    (ready 0 (a .probes) (a .links) (a .needs .now) (a .lows .now) (a .highs .now) (a .costs .now) (a .probe) (a .rec .now) (legal-slices 256 2048 (slicesOf 0 (a .probes) (a .links) (a .needs .now) (a .lows .now) (a .highs .now) (a .costs .now)) (p .0)) (p .1), rw (c .before .event-of .ensures) (heard-within t (a .probe) (a .frame .now) (p .2)))
 
 same-length-2 : tie.Need-same-length-2
 same-length-2 c = search needs

@@ -4,8 +4,8 @@ use Rattle.probe.proofs.open.Statement.{statement}
 use Rattle.probe.proofs.open.Tie as tie
 use mathlib.Core.Path.{sym, _∙_}
 use Rattle.table.specs.Table.{Table, ofSlices}
-use Rattle.table.specs.Legal.{sliceFault}
-use Rattle.table.proofs.Slices.{given}
+use Rattle.table.specs.Slices.{sliceFault, slicesOf}
+use Rattle.table.proofs.Slices.{legal-slices}
 use Rattle.probe_rules.specs.declared.Event.the-variants.{Opening}
 use Rattle.probe_rules.proofs.Ready.{ready}
 use Rattle.probe_checks.specs.Checks.{openFault}
@@ -27,9 +27,9 @@ unfolding openFault
 apply-requires c κs =
     let a = c .before .before .before .before .before .before .before .before .before .args in
     let t : Table = ofSlices 0 (a .probes) (a .links) (a .needs .now) (a .lows .now) (a .highs .now) (a .costs .now) in
-    let s = sliceFault 256 2048 0 (a .probes) (a .links) (a .needs .now) (a .lows .now) (a .highs .now) (a .costs .now) in
+    let s = sliceFault 256 2048 (slicesOf 0 (a .probes) (a .links) (a .needs .now) (a .lows .now) (a .highs .now) (a .costs .now)) in
     let p = open-parts s t (a .probe) (a .rec .now) (a .free) (sym (c .before .before .open-fault .ensures) ∙ c .before .if1 .left) in
-    (ready 0 (a .probes) (a .links) (a .needs .now) (a .lows .now) (a .highs .now) (a .costs .now) (a .probe) (a .rec .now) (given 256 2048 0 (a .probes) (a .links) (a .needs .now) (a .lows .now) (a .highs .now) (a .costs .now) (p .0)) (p .1), tt)
+    (ready 0 (a .probes) (a .links) (a .needs .now) (a .lows .now) (a .highs .now) (a .costs .now) (a .probe) (a .rec .now) (legal-slices 256 2048 (slicesOf 0 (a .probes) (a .links) (a .needs .now) (a .lows .now) (a .highs .now) (a .costs .now)) (p .0)) (p .1), tt)
 
 same-length-2 : tie.Need-same-length-2
 same-length-2 c = search needs

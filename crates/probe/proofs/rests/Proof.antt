@@ -6,7 +6,7 @@ use mathlib.Core.Path.{sym, _∙_}
 use native.Mathlib.Omega.{arith}
 use borrow.Author.Tests.{eq-eqb, ne-eqb}
 use Rattle.table.specs.Table.{Table, ofSlices}
-use Rattle.table.specs.Legal.{sliceFault}
+use Rattle.table.specs.Slices.{sliceFault, slicesOf}
 use Rattle.probe_record.proofs.Bytes.{record-good}
 use Rattle.probe_checks.specs.Checks.{linkCallFault}
 use Rattle.probe_checks.proofs.Accepted.{link-parts}
@@ -22,7 +22,7 @@ both-one-requires : tie.Need-both-one-requires
 both-one-requires c κs =
     let a = c .before .before .before .before .before .before .before .args in
     let t : Table = ofSlices 0 (a .probes) (a .links) (a .needs .now) (a .lows .now) (a .highs .now) (a .costs .now) in
-    let s = sliceFault 256 2048 0 (a .probes) (a .links) (a .needs .now) (a .lows .now) (a .highs .now) (a .costs .now) in
+    let s = sliceFault 256 2048 (slicesOf 0 (a .probes) (a .links) (a .needs .now) (a .lows .now) (a .highs .now) (a .costs .now)) in
     let p = link-parts s t (a .probe) (a .rec .now) (a .link) (sym (c .before .link-call-fault .ensures) ∙ c .if1 .left) in
     let r = record-good t (a .probe) (a .rec .now) (p .1) in
     omega (arith, r .0, p .2)

@@ -46,7 +46,7 @@ use Rattle.wake_log.proofs.append.Symbol as append-def
 use Rattle.wake_log.proofs.append.Symbol.{name as #wake-log·append}
 use Rattle.wake_log.proofs.append.Met as append-thm
 use Rattle.table.specs.Table.{ofSlices}
-use Rattle.table.specs.Legal.{sliceFault}
+use Rattle.table.specs.Slices.{sliceFault, slicesOf}
 use Rattle.probe_frame.specs.Frame.{frameOf}
 use Rattle.probe_rules.specs.Frames.{heardOf}
 use Rattle.probe_checks.specs.Checks.{hearFault}
@@ -102,7 +102,7 @@ module _ {M : Type 1} (𝓤 : URA M) (H : Heap 𝓤) (A : Atoms 𝓤) (W : Given
   to = ((κs′, (q₀, (q₁, (q₂, (q₃, (q₄, (q₅, tt)))))), tt, a′, (vint w16 number ∷ [], (vint w16 probes ∷ [], (vint w16 links ∷ [], (slice needs ∷ [], (slice lows ∷ [], (slice highs ∷ [], (slice costs ∷ [], (vint w16 probe ∷ [], (slice rec ∷ [], (slice frame′ ∷ [], (vint w64 used ∷ [], (vint w64 (length (log .now)) ∷ [], tt))))))))))))), tt)
 
   abbrev Said : Told → List ℕ → Type 0
-  Said r zs = ToldCall (hearFault (sliceFault 256 2048 number probes links (needs .now) (lows .now) (highs .now) (costs .now)) (ofSlices number probes links (needs .now) (lows .now) (highs .now) (costs .now)) probe (rec .now) (frame′ .now) ((length (log .now)) - used)) (ofSlices number probes links (needs .now) (lows .now) (highs .now) (costs .now)) probe (heardOf (ofSlices number probes links (needs .now) (lows .now) (highs .now) (costs .now)) (frameOf (frame′ .now))) used (length (log .now)) r (rec .now) zs
+  Said r zs = ToldCall (hearFault (sliceFault 256 2048 (slicesOf number probes links (needs .now) (lows .now) (highs .now) (costs .now))) (ofSlices number probes links (needs .now) (lows .now) (highs .now) (costs .now)) probe (rec .now) (frame′ .now) ((length (log .now)) - used)) (ofSlices number probes links (needs .now) (lows .now) (highs .now) (costs .now)) probe (heardOf (ofSlices number probes links (needs .now) (lows .now) (highs .now) (costs .now)) (frameOf (frame′ .now))) used (length (log .now)) r (rec .now) zs
 
   abbrev Tokens : Item 𝓤
   Tokens = ‵ (flft κ₀ q₀) ⊛ ‵ (flft κ₁ q₁) ⊛ ‵ (flft κ₂ q₂) ⊛ ‵ (flft κ₃ q₃) ⊛ ‵ (flft κ₄ q₄) ⊛ ‵ (flft κ₅ q₅) ⊛ ‵ ftrue

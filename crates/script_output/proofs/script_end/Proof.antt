@@ -8,10 +8,10 @@ use lib.Dec.{eqb}
 use borrow.Author.Tests.{lt-ltb, le-ltb}
 use Rattle.range.specs.First.{orElse}
 use Rattle.range.proofs.Faults.{or-left, or-right}
-use Rattle.table.proofs.Slices.{given}
+use Rattle.table.proofs.Slices.{legal-slices}
 use Rattle.output.proofs.Printing.{prints-refused, prints-done}
-use Rattle.fleet_theory.specs.Fleet.{tableOf, slicesFault, fleetFault}
-use Rattle.fleet.specs.Answers.{slicesOf}
+use Rattle.fleet_theory.specs.Fleet.{fleetFault}
+use Rattle.table.specs.Slices.{tableOf, slicesFault, slicesOf}
 use Rattle.fleet_state.proofs.Legal.{fits}
 use Rattle.fleet_state.proofs.CheckLaws.{fleet-good}
 use Rattle.script_steps.proofs.Ends.{length-end, end-most}
@@ -31,7 +31,7 @@ put-end-requires c κs =
     let x = slicesOf (a .number) (a .probes) (a .links) (a .needs .now) (a .lows .now) (a .highs .now) (a .costs .now) in
     let z : orElse (slicesFault x) (fleetFault (tableOf x) (a .rec .now)) ≡ 0 = sym (c .before .before .call-fault .ensures (a .number)) ∙ c .before .if2 .left in
     let f = fleet-good (tableOf x) (a .rec .now) (or-right (slicesFault x) (fleetFault (tableOf x) (a .rec .now)) z) in
-    (fits (a .number) (a .probes) (a .links) (a .needs .now) (a .lows .now) (a .highs .now) (a .costs .now) (given 256 2048 (a .number) (a .probes) (a .links) (a .needs .now) (a .lows .now) (a .highs .now) (a .costs .now) (or-left (slicesFault x) (fleetFault (tableOf x) (a .rec .now)) z)), omega (arith, f .0), omega (arith, c .before .before .before .if1 .left))
+    (fits (a .number) (a .probes) (a .links) (a .needs .now) (a .lows .now) (a .highs .now) (a .costs .now) (legal-slices 256 2048 (slicesOf (a .number) (a .probes) (a .links) (a .needs .now) (a .lows .now) (a .highs .now) (a .costs .now)) (or-left (slicesFault x) (fleetFault (tableOf x) (a .rec .now)) z)), omega (arith, f .0), omega (arith, c .before .before .before .if1 .left))
 
 same-length : tie.Need-same-length
 same-length c = search needs

@@ -7,7 +7,7 @@ use mathlib.Core.Path.{sym, _∙_}
 use mathlib.Core.List.{List}
 use native.Mathlib.Omega.{arith}
 use lib.ListN.{length, replicate}
-use Rattle.fleet.specs.Answers.{slicesOf}
+use Rattle.table.specs.Slices.{slicesOf}
 use Rattle.script_output.proofs.Answers.{unhandled, handled-all, copied-same, call-is, call-given}
 
 begun-requires : tie.Need-begun-requires

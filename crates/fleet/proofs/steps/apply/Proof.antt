@@ -11,7 +11,7 @@ use Rattle.probe_rules.specs.declared.Outcome.{Outcome}
 use Rattle.probe_rules.specs.Rules.{befalls, entryOf}
 use Rattle.probe_rules.proofs.OutcomeLaws.{befalls-within, within-wider, entry-same}
 use Rattle.fleet_theory.specs.Fleet.{own, alterFleet}
-use Rattle.fleet_state.proofs.Legal.{legal-size}
+use Rattle.table.proofs.LegalLaws.{legal-table}
 
 decide-requires : tie.Need-decide-requires
 decide-requires c κs = search needs
@@ -23,7 +23,7 @@ alter-fleet-requires c κs =
     let t : Table = (ofSlices 0 (a .probes) (a .links) (a .needs .now) (a .lows .now) (a .highs .now) (a .costs .now)) in
     let o : Outcome = befalls t (a .probe) (a .event) (own t (a .probe) (a .rec .now)) in
     let w = befalls-within t (a .probe) (a .event) (own t (a .probe) (a .rec .now)) (p .1) in
-    let s = legal-size t (p .0 .legal) in
+    let s = legal-table 256 2048 t (p .0 .legal) .size in
     let l : a .links ≤ length (a .rec .now) / 4 = omega (arith, p .0 .long) in
     rw (c .before .decide .ensures) (within-wider (a .links) (length (a .rec .now) / 4) o l w, within-wider (a .links) (length (a .lows .now)) o (p .0 .in-lows) w, within-wider (a .links) 65536 o (omega (arith, s .within)) w)
 
@@ -34,7 +34,7 @@ entry-of-requires c κs =
     let t : Table = (ofSlices 0 (a .probes) (a .links) (a .needs .now) (a .lows .now) (a .highs .now) (a .costs .now)) in
     let o : Outcome = befalls t (a .probe) (a .event) (own t (a .probe) (a .rec .now)) in
     let w = befalls-within t (a .probe) (a .event) (own t (a .probe) (a .rec .now)) (p .1) in
-    let s = legal-size t (p .0 .legal) in
+    let s = legal-table 256 2048 t (p .0 .legal) .size in
     rw (c .before .before .before .before .decide .ensures) (within-wider (a .links) 65536 o (omega (arith, s .within)) w, within-wider (a .links) (length (a .lows .now)) o (p .0 .in-lows) w, within-wider (a .links) (length (a .highs .now)) o (p .0 .in-highs) w)
 
 same-length : tie.Need-same-length

@@ -5,11 +5,12 @@ use Rattle.fleet.proofs.steps.handle_line.Tie as tie
 use mathlib.Core.Path.{sym, _∙_}
 use native.Mathlib.Omega.{arith}
 use Rattle.table.specs.Table.{ofSlices}
-use Rattle.table.proofs.Slices.{given}
+use Rattle.table.proofs.Slices.{legal-slices}
 use Rattle.table_links.proofs.Search.{ordered}
 use Rattle.fleet_state.proofs.CheckLaws.{fleet-good}
 use Rattle.fleet.proofs.Checks.{checked, line-frame, line-within, line-to}
 use Rattle.fleet.proofs.Calls.{event-of, unsent-is, line-refused, unsent-refused, full-refused, line-accepted}
+use Rattle.table.specs.Slices.{slicesOf}
 
 check-line-requires : tie.Need-check-line-requires
 check-line-requires c κs =
@@ -34,7 +35,7 @@ field-requires c κs =
 unsent-fault-requires : tie.Need-unsent-fault-requires
 unsent-fault-requires c κs =
     let a = c .before .before .before .before .before .before .before .before .before .before .before .before .args in
-    let g = given 256 2048 (a .number) (a .probes) (a .links) (a .needs .now) (a .lows .now) (a .highs .now) (a .costs .now) (c .before .before .before .before .before .before .before .before .before .before .before .before .pre .0) in
+    let g = legal-slices 256 2048 (slicesOf (a .number) (a .probes) (a .links) (a .needs .now) (a .lows .now) (a .highs .now) (a .costs .now)) (c .before .before .before .before .before .before .before .before .before .before .before .before .pre .0) in
     let f = fleet-good (ofSlices (a .number) (a .probes) (a .links) (a .needs .now) (a .lows .now) (a .highs .now) (a .costs .now)) (a .rec .now) (c .before .before .before .before .before .before .before .before .before .before .before .before .pre .1) in
     (rw (event-of (a .number) (a .probes) (a .links) (a .needs .now) (a .lows .now) (a .highs .now) (a .costs .now) (a .line .now) _ _ (c .before .before .line-event .ensures) (c .before .before .before .before .before .check-line .ensures .1 (c .before .before .before .if1 .left))) (line-within (ofSlices (a .number) (a .probes) (a .links) (a .needs .now) (a .lows .now) (a .highs .now) (a .costs .now)) (a .line .now) (sym (c .before .before .before .before .before .check-line .ensures .0) ∙ c .before .before .before .if1 .left)), omega (arith, f .0), g .in-lows, g .in-highs, omega (arith, g .within))
 
@@ -63,7 +64,7 @@ field-requires-2 c κs =
 cast-apply : tie.Need-cast-apply
 cast-apply c =
     let a = c .before .before .before .before .before .before .before .before .before .before .before .before .before .before .before .before .args in
-    let g = given 256 2048 (a .number) (a .probes) (a .links) (a .needs .now) (a .lows .now) (a .highs .now) (a .costs .now) (c .before .before .before .before .before .before .before .before .before .before .before .before .before .before .before .before .pre .0) in
+    let g = legal-slices 256 2048 (slicesOf (a .number) (a .probes) (a .links) (a .needs .now) (a .lows .now) (a .highs .now) (a .costs .now)) (c .before .before .before .before .before .before .before .before .before .before .before .before .before .before .before .before .pre .0) in
     let l = line-to (ofSlices (a .number) (a .probes) (a .links) (a .needs .now) (a .lows .now) (a .highs .now) (a .costs .now)) (a .line .now) (sym (c .before .before .before .before .before .before .before .before .before .check-line .ensures .0) ∙ c .before .before .before .before .before .before .before .if1 .left) (g .legal) in
     let e = c .field2 .ensures in
     omega (arith, g .few)
@@ -71,7 +72,7 @@ cast-apply c =
 apply-requires : tie.Need-apply-requires
 apply-requires c κs =
     let a = c .before .before .before .before .before .before .before .before .before .before .before .before .before .before .before .before .before .args in
-    let g = given 256 2048 (a .number) (a .probes) (a .links) (a .needs .now) (a .lows .now) (a .highs .now) (a .costs .now) (c .before .before .before .before .before .before .before .before .before .before .before .before .before .before .before .before .before .pre .0) in
+    let g = legal-slices 256 2048 (slicesOf (a .number) (a .probes) (a .links) (a .needs .now) (a .lows .now) (a .highs .now) (a .costs .now)) (c .before .before .before .before .before .before .before .before .before .before .before .before .before .before .before .before .before .pre .0) in
     (checked (a .number) (a .probes) (a .links) (a .needs .now) (a .lows .now) (a .highs .now) (a .costs .now) (a .rec .now) g (c .before .before .before .before .before .before .before .before .before .before .before .before .before .before .before .before .before .pre .1), rw (event-of (a .number) (a .probes) (a .links) (a .needs .now) (a .lows .now) (a .highs .now) (a .costs .now) (a .line .now) _ _ (c .before .before .before .before .before .before .before .line-event .ensures) (c .before .before .before .before .before .before .before .before .before .before .check-line .ensures .1 (c .before .before .before .before .before .before .before .before .if1 .left))) (line-within (ofSlices (a .number) (a .probes) (a .links) (a .needs .now) (a .lows .now) (a .highs .now) (a .costs .now)) (a .line .now) (sym (c .before .before .before .before .before .before .before .before .before .before .check-line .ensures .0) ∙ c .before .before .before .before .before .before .before .before .if1 .left)))
 
 same-length-3 : tie.Need-same-length-3

@@ -7,7 +7,7 @@ use native.Mathlib.Omega.{arith}
 use borrow.Author.Tests.{eq-eqb, ne-eqb}
 use Rattle.table.specs.Table.{Table, ofSlices}
 use Rattle.fleet_theory.proofs.Own.{out-is, in-is}
-use Rattle.fleet_state.proofs.Legal.{legal-size}
+use Rattle.table.proofs.LegalLaws.{legal-table}
 
 enum-told : tie.Need-enum-told
 enum-told c = search needs
@@ -23,7 +23,7 @@ in-byte-requires c κs =
     let a = c .before .before .before .before .before .before .before .before .args in
     let p = c .before .before .before .before .before .before .before .before .pre in
     let w = rw (c .before .event .given .1) at (p .1) in
-    let z = legal-size (ofSlices 0 (a .probes) (a .links) (a .needs .now) (a .lows .now) (a .highs .now) (a .costs .now)) (p .0 .legal) .within in
+    let z = legal-table 256 2048 (ofSlices 0 (a .probes) (a .links) (a .needs .now) (a .lows .now) (a .highs .now) (a .costs .now)) (p .0 .legal) .size .within in
     (omega (arith, p .0 .in-lows), omega (arith, p .0 .in-highs), omega arith, omega (arith, p .0 .long))
 
 returns : tie.Need-returns
@@ -44,7 +44,7 @@ out-byte-requires c κs =
     let a = c .before .before .before .before .before .before .before .before .args in
     let p = c .before .before .before .before .before .before .before .before .pre in
     let w = rw (c .before .event2 .given .1) at (p .1) in
-    let z = legal-size (ofSlices 0 (a .probes) (a .links) (a .needs .now) (a .lows .now) (a .highs .now) (a .costs .now)) (p .0 .legal) .within in
+    let z = legal-table 256 2048 (ofSlices 0 (a .probes) (a .links) (a .needs .now) (a .lows .now) (a .highs .now) (a .costs .now)) (p .0 .legal) .size .within in
     (omega (arith, p .0 .in-lows), omega (arith, p .0 .in-highs), omega arith, omega (arith, p .0 .long))
 
 returns-2 : tie.Need-returns-2

@@ -5,7 +5,8 @@ use Rattle.fleet_rules.proofs.decisions.decide_offer.Tie as tie
 use mathlib.Core.Path.{sym, _∙_}
 use native.Mathlib.Omega.{arith}
 use Rattle.table.specs.Table.{Table, ofSlices}
-use Rattle.plan_theory.proofs.Order.{sound, dearer-by-place}
+use Rattle.plan_theory.proofs.Order.{dearer-by-place}
+use Rattle.table.proofs.LegalLaws.{legal-table}
 use Rattle.fleet_theory.specs.Fleet.{own}
 use Rattle.fleet_rules.proofs.Outcomes.{offer-taken, offer-none, offer-displacing, offer-refused}
 
@@ -37,7 +38,7 @@ returns-3 c =
     let a = c .before .before .before .before .before .before .before .before .before .before .before .before .args in
     let p = c .before .before .before .before .before .before .before .before .before .before .before .before .pre in
     let t : Table = (ofSlices 0 (a .probes) (a .links) (a .needs .now) (a .lows .now) (a .highs .now) (a .costs .now)) in
-    let d = dearer-by-place t (sound 256 2048 t (p .0 .legal) .order) (a .i) _ (p .1) (c .before .before .if2 .left) ∙ sym (c .before .dearer .ensures) ∙ c .if3 .taken in
+    let d = dearer-by-place t (legal-table 256 2048 t (p .0 .legal) .order) (a .i) _ (p .1) (c .before .before .if2 .left) ∙ sym (c .before .dearer .ensures) ∙ c .if3 .taken in
     offer-displacing t (a .probe) (own t (a .probe) (a .rec .now)) (c .before .before .before .before .before .before .survey .result) _ (c .before .before .before .before .before .spare-of .ensures) (c .before .before .before .before .before .before .survey .ensures) (a .i) (c .before .before .before .if1 .left) (c .before .before .if2 .left) d
 
 returns-4 : tie.Need-returns-4
@@ -45,7 +46,7 @@ returns-4 c =
     let a = c .before .before .before .before .before .before .before .before .before .before .before .before .args in
     let p = c .before .before .before .before .before .before .before .before .before .before .before .before .pre in
     let t : Table = (ofSlices 0 (a .probes) (a .links) (a .needs .now) (a .lows .now) (a .highs .now) (a .costs .now)) in
-    let d = dearer-by-place t (sound 256 2048 t (p .0 .legal) .order) (a .i) _ (p .1) (c .before .before .if2 .left) ∙ sym (c .before .dearer .ensures) ∙ c .if3 .left in
+    let d = dearer-by-place t (legal-table 256 2048 t (p .0 .legal) .order) (a .i) _ (p .1) (c .before .before .if2 .left) ∙ sym (c .before .dearer .ensures) ∙ c .if3 .left in
     offer-refused t (a .probe) (own t (a .probe) (a .rec .now)) (c .before .before .before .before .before .before .survey .result) _ (c .before .before .before .before .before .spare-of .ensures) (c .before .before .before .before .before .before .survey .ensures) (a .i) (c .before .before .before .if1 .left) (c .before .before .if2 .left) d
 
 pub decide-offer-spec : {M : Type 1} → statement M

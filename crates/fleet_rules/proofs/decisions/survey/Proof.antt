@@ -14,7 +14,7 @@ use Rattle.fleet_theory.specs.Fleet.{own}
 use Rattle.fleet_theory.proofs.Own.{own-same}
 use Rattle.fleet_rules.specs.Survey.{sideByte, sideBetter}
 use Rattle.fleet_rules.proofs.Passing.{one-most, Passing, passing-start, passing-skip, passing-own, passing-all, side-before, side-behind}
-use Rattle.fleet_state.proofs.Legal.{legal-size}
+use Rattle.table.proofs.LegalLaws.{legal-table}
 
 abbrev Inv-loop : tie.InvT-loop
 Inv-loop value rec probes links needs lows highs costs probe s₀ i₀ s i =
@@ -52,7 +52,7 @@ side-byte-requires c κs =
     let a = c .before .before .before .before .before .before .before .before .before .args in
     let p = c .before .before .before .before .before .before .before .before .before .pre in
     let w = c .before .before .loop-test .taken in
-    let z = legal-size (ofSlices 0 (a .probes) (a .links) (a .needs .now) (a .lows .now) (a .highs .now) (a .costs .now)) (p .legal) .within in
+    let z = legal-table 256 2048 (ofSlices 0 (a .probes) (a .links) (a .needs .now) (a .lows .now) (a .highs .now) (a .costs .now)) (p .legal) .size .within in
     (w, z, p .in-lows, p .in-highs, p .long)
 
 add-t16 : tie.Need-add-t16 Inv-loop μ-loop

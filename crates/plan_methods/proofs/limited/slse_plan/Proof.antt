@@ -7,7 +7,7 @@ use native.Mathlib.Omega.{arith}
 use lib.ListN.{length}
 use Rattle.table.specs.Table.{ofSlices}
 use Rattle.table.proofs.Faults.{room-good}
-use Rattle.plan_theory.proofs.Order.{sound}
+use Rattle.table.proofs.LegalLaws.{legal-table}
 use Rattle.plan_order.proofs.Order.{place-later}
 use Rattle.plan_slse.proofs.Turns.{size}
 
@@ -40,7 +40,7 @@ plan-in-order-requires c κs =
       r .needed,
       r .linked,
       omega arith,
-      λ k l. (o .below k l, place-later t (sound 256 2048 t (s .pre .0) .order) _ (o .below k l) ∙ o .placed k l),
+      λ k l. (o .below k l, place-later t (legal-table 256 2048 t (s .pre .0) .order) _ (o .below k l) ∙ o .placed k l),
     )
 
 same-length : tie.Need-same-length

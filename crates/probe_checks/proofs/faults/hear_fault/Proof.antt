@@ -3,7 +3,7 @@ use Prim.Native.Nat.{ℕ}
 use Rattle.probe_checks.proofs.Accepted.{hear-early, hear-late, heard-frame, heard-within}
 use Rattle.range.specs.First.{orElse}
 use Rattle.probe_record.specs.Record.{recordFault}
-use Rattle.table.specs.Legal.{sliceFault}
+use Rattle.table.specs.Slices.{sliceFault, slicesOf}
 use Rattle.table.specs.Table.{Table, ofSlices}
 use borrow.Author.Needs.{needs}
 use Rattle.probe_checks.proofs.faults.hear_fault.Statement.{statement}
@@ -24,7 +24,7 @@ unfolding heardFault
 returns c =
     let a = c .before .before .before .before .before .before .before .before .args in
     let t : Table = ofSlices (a .number) (a .probes) (a .links) (a .needs .now) (a .lows .now) (a .highs .now) (a .costs .now) in
-    let s : ℕ = sliceFault 256 2048 0 (a .probes) (a .links) (a .needs .now) (a .lows .now) (a .highs .now) (a .costs .now) in
+    let s : ℕ = sliceFault 256 2048 (slicesOf 0 (a .probes) (a .links) (a .needs .now) (a .lows .now) (a .highs .now) (a .costs .now)) in
     hear-early s t (a .probe) (a .rec .now) _ (a .frame .now) (a .free) (c .before .state-fault .ensures) (c .if1 .taken)
 
 frame-fault-requires : tie.Need-frame-fault-requires
@@ -38,7 +38,7 @@ unfolding heardFault
 returns-2 c =
     let a = c .before .before .before .before .before .before .before .before .before .before .args in
     let t : Table = ofSlices (a .number) (a .probes) (a .links) (a .needs .now) (a .lows .now) (a .highs .now) (a .costs .now) in
-    let s : ℕ = sliceFault 256 2048 0 (a .probes) (a .links) (a .needs .now) (a .lows .now) (a .highs .now) (a .costs .now) in
+    let s : ℕ = sliceFault 256 2048 (slicesOf 0 (a .probes) (a .links) (a .needs .now) (a .lows .now) (a .highs .now) (a .costs .now)) in
     let z : orElse s (recordFault t (a .probe) (a .rec .now)) ≡ 0 = sym (c .before .before .before .state-fault .ensures) ∙ c .before .before .if1 .left in
     hear-late s t (a .probe) (a .rec .now) _ (a .frame .now) (a .free) z (or-here _ _ _ (c .before .frame-fault .ensures) (c .if2 .taken))
 
@@ -55,16 +55,16 @@ untried-fault-requires : tie.Need-untried-fault-requires
 unfolding heardFault
 untried-fault-requires c κs =
     let a = c .before .before .before .before .before .before .before .before .before .before .before .args in
-    let z : orElse (sliceFault 256 2048 0 (a .probes) (a .links) (a .needs .now) (a .lows .now) (a .highs .now) (a .costs .now)) (recordFault (ofSlices (a .number) (a .probes) (a .links) (a .needs .now) (a .lows .now) (a .highs .now) (a .costs .now)) (a .probe) (a .rec .now)) ≡ 0 = sym (c .before .before .before .before .state-fault .ensures) ∙ c .before .before .before .if1 .left in
+    let z : orElse (sliceFault 256 2048 (slicesOf 0 (a .probes) (a .links) (a .needs .now) (a .lows .now) (a .highs .now) (a .costs .now))) (recordFault (ofSlices (a .number) (a .probes) (a .links) (a .needs .now) (a .lows .now) (a .highs .now) (a .costs .now)) (a .probe) (a .rec .now)) ≡ 0 = sym (c .before .before .before .before .state-fault .ensures) ∙ c .before .before .before .if1 .left in
     let t : Table = ofSlices (a .number) (a .probes) (a .links) (a .needs .now) (a .lows .now) (a .highs .now) (a .costs .now) in
-    (rw (c .event-of .ensures) (heard-within t (a .probe) (a .frame .now) (sym (c .before .before .frame-fault .ensures) ∙ c .before .if2 .left)), (let r = record-good t (a .probe) (a .rec .now) (or-right (sliceFault 256 2048 0 (a .probes) (a .links) (a .needs .now) (a .lows .now) (a .highs .now) (a .costs .now)) (recordFault t (a .probe) (a .rec .now)) z) in omega (arith, r .0)))
+    (rw (c .event-of .ensures) (heard-within t (a .probe) (a .frame .now) (sym (c .before .before .frame-fault .ensures) ∙ c .before .if2 .left)), (let r = record-good t (a .probe) (a .rec .now) (or-right (sliceFault 256 2048 (slicesOf 0 (a .probes) (a .links) (a .needs .now) (a .lows .now) (a .highs .now) (a .costs .now))) (recordFault t (a .probe) (a .rec .now)) z) in omega (arith, r .0)))
 
 returns-3 : tie.Need-returns-3
 unfolding heardFault
 returns-3 c =
     let a = c .before .before .before .before .before .before .before .before .before .before .before .before .before .args in
     let t : Table = ofSlices (a .number) (a .probes) (a .links) (a .needs .now) (a .lows .now) (a .highs .now) (a .costs .now) in
-    let s : ℕ = sliceFault 256 2048 0 (a .probes) (a .links) (a .needs .now) (a .lows .now) (a .highs .now) (a .costs .now) in
+    let s : ℕ = sliceFault 256 2048 (slicesOf 0 (a .probes) (a .links) (a .needs .now) (a .lows .now) (a .highs .now) (a .costs .now)) in
     let z : orElse s (recordFault t (a .probe) (a .rec .now)) ≡ 0 = sym (c .before .before .before .before .before .before .state-fault .ensures) ∙ c .before .before .before .before .before .if1 .left in
     let h : heardFault t (a .probe) (a .frame .now) ≡ 0 = sym (c .before .before .before .before .frame-fault .ensures) ∙ c .before .before .before .if2 .left in
     hear-late s t (a .probe) (a .rec .now) _ (a .frame .now) (a .free) z (rw (h, ← c .before .before .event-of .ensures) (or-here _ _ _ (c .before .untried-fault .ensures) (c .if3 .taken)))
@@ -74,7 +74,7 @@ unfolding heardFault
 returns-4 c =
     let a = c .before .before .before .before .before .before .before .before .before .before .before .before .before .before .args in
     let t : Table = ofSlices (a .number) (a .probes) (a .links) (a .needs .now) (a .lows .now) (a .highs .now) (a .costs .now) in
-    let s : ℕ = sliceFault 256 2048 0 (a .probes) (a .links) (a .needs .now) (a .lows .now) (a .highs .now) (a .costs .now) in
+    let s : ℕ = sliceFault 256 2048 (slicesOf 0 (a .probes) (a .links) (a .needs .now) (a .lows .now) (a .highs .now) (a .costs .now)) in
     let z : orElse s (recordFault t (a .probe) (a .rec .now)) ≡ 0 = sym (c .before .before .before .before .before .before .before .state-fault .ensures) ∙ c .before .before .before .before .before .before .if1 .left in
     let h : heardFault t (a .probe) (a .frame .now) ≡ 0 = sym (c .before .before .before .before .before .frame-fault .ensures) ∙ c .before .before .before .before .if2 .left in
     hear-late s t (a .probe) (a .rec .now) _ (a .frame .now) (a .free) z (rw (h, ← c .before .before .before .event-of .ensures, sym (c .before .before .untried-fault .ensures) ∙ c .before .if3 .left, eq-eqb _ _ (c .if4 .taken)))
@@ -84,7 +84,7 @@ unfolding heardFault
 returns-5 c =
     let a = c .before .before .before .before .before .before .before .before .before .before .before .before .before .before .args in
     let t : Table = ofSlices (a .number) (a .probes) (a .links) (a .needs .now) (a .lows .now) (a .highs .now) (a .costs .now) in
-    let s : ℕ = sliceFault 256 2048 0 (a .probes) (a .links) (a .needs .now) (a .lows .now) (a .highs .now) (a .costs .now) in
+    let s : ℕ = sliceFault 256 2048 (slicesOf 0 (a .probes) (a .links) (a .needs .now) (a .lows .now) (a .highs .now) (a .costs .now)) in
     let z : orElse s (recordFault t (a .probe) (a .rec .now)) ≡ 0 = sym (c .before .before .before .before .before .before .before .state-fault .ensures) ∙ c .before .before .before .before .before .before .if1 .left in
     let h : heardFault t (a .probe) (a .frame .now) ≡ 0 = sym (c .before .before .before .before .before .frame-fault .ensures) ∙ c .before .before .before .before .if2 .left in
     hear-late s t (a .probe) (a .rec .now) _ (a .frame .now) (a .free) z (rw (h, ← c .before .before .before .event-of .ensures, sym (c .before .before .untried-fault .ensures) ∙ c .before .if3 .left, ne-eqb _ _ (c .if4 .left)))

@@ -3,7 +3,7 @@ use Prim.Native.Nat.{ℕ}
 use Rattle.probe_checks.proofs.Accepted.{open-early, open-late}
 use Rattle.range.specs.First.{orElse}
 use Rattle.probe_record.specs.Record.{recordFault}
-use Rattle.table.specs.Legal.{sliceFault}
+use Rattle.table.specs.Slices.{sliceFault, slicesOf}
 use Rattle.table.specs.Table.{Table, ofSlices}
 use borrow.Author.Needs.{needs}
 use Rattle.probe_checks.proofs.faults.open_fault.Statement.{statement}
@@ -18,14 +18,14 @@ returns : tie.Need-returns
 returns c =
     let a = c .before .before .before .before .before .before .before .args in
     let t : Table = ofSlices 0 (a .probes) (a .links) (a .needs .now) (a .lows .now) (a .highs .now) (a .costs .now) in
-    let s : ℕ = sliceFault 256 2048 0 (a .probes) (a .links) (a .needs .now) (a .lows .now) (a .highs .now) (a .costs .now) in
+    let s : ℕ = sliceFault 256 2048 (slicesOf 0 (a .probes) (a .links) (a .needs .now) (a .lows .now) (a .highs .now) (a .costs .now)) in
     open-early s t (a .probe) (a .rec .now) _ (a .free) (c .before .state-fault .ensures) (c .if1 .taken)
 
 returns-2 : tie.Need-returns-2
 returns-2 c =
     let a = c .before .before .before .before .before .before .before .before .args in
     let t : Table = ofSlices 0 (a .probes) (a .links) (a .needs .now) (a .lows .now) (a .highs .now) (a .costs .now) in
-    let s : ℕ = sliceFault 256 2048 0 (a .probes) (a .links) (a .needs .now) (a .lows .now) (a .highs .now) (a .costs .now) in
+    let s : ℕ = sliceFault 256 2048 (slicesOf 0 (a .probes) (a .links) (a .needs .now) (a .lows .now) (a .highs .now) (a .costs .now)) in
     let z : orElse s (recordFault t (a .probe) (a .rec .now)) ≡ 0 = sym (c .before .before .state-fault .ensures) ∙ c .before .if1 .left in
     open-late s t (a .probe) (a .rec .now) _ (a .free) z (rw (le-ltb _ _ (c .if2 .taken)))
 
@@ -33,7 +33,7 @@ returns-3 : tie.Need-returns-3
 returns-3 c =
     let a = c .before .before .before .before .before .before .before .before .before .args in
     let t : Table = ofSlices 0 (a .probes) (a .links) (a .needs .now) (a .lows .now) (a .highs .now) (a .costs .now) in
-    let s : ℕ = sliceFault 256 2048 0 (a .probes) (a .links) (a .needs .now) (a .lows .now) (a .highs .now) (a .costs .now) in
+    let s : ℕ = sliceFault 256 2048 (slicesOf 0 (a .probes) (a .links) (a .needs .now) (a .lows .now) (a .highs .now) (a .costs .now)) in
     let z : orElse s (recordFault t (a .probe) (a .rec .now)) ≡ 0 = sym (c .before .before .before .state-fault .ensures) ∙ c .before .before .if1 .left in
     open-late s t (a .probe) (a .rec .now) _ (a .free) z (rw (lt-ltb _ _ (c .before .if2 .left), eq-eqb _ _ (c .if3 .taken)))
 
@@ -41,7 +41,7 @@ returns-4 : tie.Need-returns-4
 returns-4 c =
     let a = c .before .before .before .before .before .before .before .before .before .args in
     let t : Table = ofSlices 0 (a .probes) (a .links) (a .needs .now) (a .lows .now) (a .highs .now) (a .costs .now) in
-    let s : ℕ = sliceFault 256 2048 0 (a .probes) (a .links) (a .needs .now) (a .lows .now) (a .highs .now) (a .costs .now) in
+    let s : ℕ = sliceFault 256 2048 (slicesOf 0 (a .probes) (a .links) (a .needs .now) (a .lows .now) (a .highs .now) (a .costs .now)) in
     let z : orElse s (recordFault t (a .probe) (a .rec .now)) ≡ 0 = sym (c .before .before .before .state-fault .ensures) ∙ c .before .before .if1 .left in
     open-late s t (a .probe) (a .rec .now) _ (a .free) z (rw (lt-ltb _ _ (c .before .if2 .left), ne-eqb _ _ (c .if3 .left)))
 

@@ -5,7 +5,8 @@ use Rattle.probe_checks.proofs.faults.state_fault.Tie as tie
 use mathlib.Core.Path.{sym, _∙_}
 use native.Mathlib.Omega.{arith}
 use Rattle.range.proofs.Faults.{or-here, or-next}
-use Rattle.table.proofs.Slices.{given}
+use Rattle.table.proofs.Slices.{legal-slices}
+use Rattle.table.specs.Slices.{slicesOf}
 
 slice-fault-requires : tie.Need-slice-fault-requires
 slice-fault-requires c κs = search needs
@@ -16,7 +17,7 @@ returns c = or-here _ _ _ (c .before .slice-fault .ensures) (c .if1 .taken)
 record-fault-requires : tie.Need-record-fault-requires
 record-fault-requires c κs =
     let a = c .before .before .before .before .before .before .before .args in
-    let g = given 256 2048 0 (a .probes) (a .links) (a .needs .now) (a .lows .now) (a .highs .now) (a .costs .now) (sym (c .before .slice-fault .ensures) ∙ c .if1 .left) in
+    let g = legal-slices 256 2048 (slicesOf 0 (a .probes) (a .links) (a .needs .now) (a .lows .now) (a .highs .now) (a .costs .now)) (sym (c .before .slice-fault .ensures) ∙ c .if1 .left) in
     (omega (arith, g .within), g .in-lows, g .in-highs)
 
 returns-2 : tie.Need-returns-2

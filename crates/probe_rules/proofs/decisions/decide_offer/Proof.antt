@@ -6,7 +6,8 @@ use mathlib.Core.Path.{sym, _∙_}
 use borrow.Author.Tests.{lt-ltb, le-ltb}
 use Rattle.table.specs.Table.{Table, ofSlices}
 use Rattle.probe_record.proofs.Bytes.{ones-held}
-use Rattle.plan_theory.proofs.Order.{sound, dearer-by-place}
+use Rattle.plan_theory.proofs.Order.{dearer-by-place}
+use Rattle.table.proofs.LegalLaws.{legal-table}
 
 spare-requires : tie.Need-spare-requires
 spare-requires c κs = search needs
@@ -36,14 +37,14 @@ returns-3 : tie.Need-returns-3
 returns-3 c =
     let a = c .before .before .before .before .before .before .before .before .before .before .before .before .args in
     let t : Table = ofSlices 0 (a .probes) (a .links) (a .needs .now) (a .lows .now) (a .highs .now) (a .costs .now) in
-    let d = dearer-by-place t (sound 256 2048 t (c .before .before .before .before .before .before .before .before .before .before .before .before .pre .0 .legal) .order) (a .i) _ (c .before .before .before .before .before .before .before .before .before .before .before .before .pre .1) (c .before .before .if2 .left) ∙ sym (c .before .dearer .ensures) ∙ c .if3 .taken in
+    let d = dearer-by-place t (legal-table 256 2048 t (c .before .before .before .before .before .before .before .before .before .before .before .before .pre .0 .legal) .order) (a .i) _ (c .before .before .before .before .before .before .before .before .before .before .before .before .pre .1) (c .before .before .if2 .left) ∙ sym (c .before .dearer .ensures) ∙ c .if3 .taken in
     rw (← ones-held t (a .probe) (a .rec .now) (c .before .before .before .before .before .before .before .before .before .before .before .before .pre .0 .bytes), ← c .before .before .before .before .before .ones .ensures .0, ← c .before .before .before .before .before .before .spare .ensures, le-ltb _ _ (c .before .before .before .before .if1 .left), ← c .before .before .before .cheapest-held .ensures, lt-ltb _ _ (c .before .before .if2 .left), d)
 
 returns-4 : tie.Need-returns-4
 returns-4 c =
     let a = c .before .before .before .before .before .before .before .before .before .before .before .before .args in
     let t : Table = ofSlices 0 (a .probes) (a .links) (a .needs .now) (a .lows .now) (a .highs .now) (a .costs .now) in
-    let d = dearer-by-place t (sound 256 2048 t (c .before .before .before .before .before .before .before .before .before .before .before .before .pre .0 .legal) .order) (a .i) _ (c .before .before .before .before .before .before .before .before .before .before .before .before .pre .1) (c .before .before .if2 .left) ∙ sym (c .before .dearer .ensures) ∙ c .if3 .left in
+    let d = dearer-by-place t (legal-table 256 2048 t (c .before .before .before .before .before .before .before .before .before .before .before .before .pre .0 .legal) .order) (a .i) _ (c .before .before .before .before .before .before .before .before .before .before .before .before .pre .1) (c .before .before .if2 .left) ∙ sym (c .before .dearer .ensures) ∙ c .if3 .left in
     rw (← ones-held t (a .probe) (a .rec .now) (c .before .before .before .before .before .before .before .before .before .before .before .before .pre .0 .bytes), ← c .before .before .before .before .before .ones .ensures .0, ← c .before .before .before .before .before .before .spare .ensures, le-ltb _ _ (c .before .before .before .before .if1 .left), ← c .before .before .before .cheapest-held .ensures, lt-ltb _ _ (c .before .before .if2 .left), d)
 
 pub decide-offer-spec : {M : Type 1} → statement M

@@ -3,7 +3,7 @@ use borrow.Author.Needs.{needs}
 use Rattle.script_steps.proofs.pieces.answer_line.Statement.{statement}
 use Rattle.script_steps.proofs.pieces.answer_line.Tie as tie
 use native.Mathlib.Omega.{arith}
-use Rattle.fleet.specs.Answers.{slicesOf}
+use Rattle.table.specs.Slices.{slicesOf}
 use Rattle.script_steps.proofs.Printing.{answer-short, used-within, line-buffered}
 
 cast-handle-line : tie.Need-cast-handle-line

@@ -9,8 +9,8 @@ use native.Mathlib.Omega.{arith}
 use lib.ListN.{replicate}
 use lib.Dec.{eqb}
 use lib.Seq.{length-take-le}
-use Rattle.table.proofs.Slices.{given}
-use Rattle.fleet.specs.Answers.{slicesOf}
+use Rattle.table.proofs.Slices.{legal-slices}
+use Rattle.table.specs.Slices.{slicesOf}
 use Rattle.fleet_state.proofs.Legal.{fits}
 use Rattle.script_steps.proofs.Ends.{end-most, links-within, zeros-pass, all-printed, all-length}
 
@@ -54,7 +54,7 @@ put-end-requires c κs =
     let m = links-within (slicesOf (a .number) (a .probes) (a .links) (a .needs .now) (a .lows .now) (a .highs .now) (a .costs .now)) (s .pre .0) in
     let zeros : List ℕ = replicate 8192 0 in
     let n = length-take-le (4 * a .links) zeros (omega arith) in
-    (fits (a .number) (a .probes) (a .links) (a .needs .now) (a .lows .now) (a .highs .now) (a .costs .now) (given 256 2048 (a .number) (a .probes) (a .links) (a .needs .now) (a .lows .now) (a .highs .now) (a .costs .now) (s .pre .0)), omega (arith, k .kept .1 .1 .1 .1 .1 .1 .1 .0), omega (arith, k .ensures .1, s .pre .1, k .kept .1 .1 .1 .1 .1 .1 .1 .1 .1 .1 .1 .0))
+    (fits (a .number) (a .probes) (a .links) (a .needs .now) (a .lows .now) (a .highs .now) (a .costs .now) (legal-slices 256 2048 (slicesOf (a .number) (a .probes) (a .links) (a .needs .now) (a .lows .now) (a .highs .now) (a .costs .now)) (s .pre .0)), omega (arith, k .kept .1 .1 .1 .1 .1 .1 .1 .0), omega (arith, k .ensures .1, s .pre .1, k .kept .1 .1 .1 .1 .1 .1 .1 .1 .1 .1 .1 .0))
 
 same-length : tie.Need-same-length
 same-length c = search needs

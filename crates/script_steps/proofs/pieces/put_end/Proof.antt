@@ -7,7 +7,7 @@ use mathlib.Core.Path.{_≡_}
 use Prim.Native.Nat.{_+_, _≤_}
 use native.Mathlib.Omega.{arith}
 use lib.Dec.{eqb}
-use Rattle.fleet.specs.Answers.{slicesOf}
+use Rattle.table.specs.Slices.{slicesOf}
 use Rattle.script_steps.proofs.Ends.{end-then}
 
 five : (b : Bool) → cond b 0 5 ≤ 5

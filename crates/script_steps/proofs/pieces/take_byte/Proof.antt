@@ -6,7 +6,7 @@ use mathlib.Core.Path.{refl, sym}
 use native.Mathlib.Omega.{arith}
 use lib.ListN.{set, length-set}
 use lib.Seq.{length-take-le}
-use Rattle.fleet.specs.Answers.{slicesOf}
+use Rattle.table.specs.Slices.{slicesOf}
 use Rattle.script_steps.proofs.Bytes.{stored-byte, byte-line, byte-held}
 use Prim.Native.Nat.{_+_}
 

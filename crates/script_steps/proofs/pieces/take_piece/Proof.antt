@@ -7,7 +7,7 @@ use mathlib.Core.Path.{_≡_, refl, _∙_}
 use native.Mathlib.Omega.{arith}
 use lib.ListN.{length}
 use lib.Seq.{length-take-le}
-use Rattle.fleet.specs.Answers.{slicesOf}
+use Rattle.table.specs.Slices.{slicesOf}
 use Rattle.script_steps.specs.Within.{underWay}
 use Rattle.script_steps.proofs.PieceLaws.{Taken, taken-none, taken-next, taken-all}
 
