@@ -8,7 +8,7 @@ pub mod compare_fleet;
 pub mod compare_script;
 pub mod ends;
 pub mod events;
-pub mod face;
+pub mod ffi;
 pub mod faults;
 pub mod fleet;
 pub mod lines;
