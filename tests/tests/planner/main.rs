@@ -6,6 +6,7 @@ mod documents;
 mod ends;
 mod fleet;
 mod fleet_definitions;
+mod header;
 mod marked_sites;
 mod methods;
 mod named_slices;
