@@ -20,4 +20,5 @@ pub mod samples;
 pub mod script;
 pub mod signatures;
 pub mod sites;
+pub mod stack;
 pub mod tally;

@@ -25,7 +25,7 @@ impl Signature {
         Signature {
             name: name.trim().to_owned(),
             parameters: list.map(parameter).collect(),
-            answer: answer.trim_start().split(end).collect::<Vec<_>>()[0].to_owned(),
+            answer: answer.trim_start().split(end).take(1).collect(),
         }
     }
 
@@ -61,10 +61,8 @@ fn number(of: &str) -> String {
 }
 
 fn without_line_comments(text: &str) -> String {
-    let lines = text.lines().map(|line| line.split("//").next());
-    lines
-        .map(|line| line.unwrap_or("").to_owned() + "\n")
-        .collect()
+    let code = |line: &str| line.split("//").take(1).collect::<String>() + "\n";
+    text.lines().map(code).collect()
 }
 
 /// What the crates declare for C, by name.
@@ -73,11 +71,8 @@ pub fn of_crates() -> Vec<Signature> {
     let mut found = Vec::new();
     for source in sources {
         let text = without_line_comments(&text(&source));
-        found.extend(
-            text.split("pub extern \"C\" fn ")
-                .skip(1)
-                .map(Signature::of),
-        );
+        let functions = text.split("pub extern \"C\" fn ").skip(1);
+        found.extend(functions.map(Signature::of));
     }
     found.sort();
     found
@@ -118,15 +113,10 @@ pub fn of_ffi(ffi: &str) -> Vec<Signature> {
     found
 }
 
-/// The header's declarations, each on one line, in order.
+/// The header's declarations, each on one line, sorted.
 pub fn of_header(header: &str) -> Vec<String> {
-    let mut code = String::new();
-    for part in header.split("*/") {
-        code += part
-            .split("/*")
-            .next()
-            .expect("what stands before a comment");
-    }
+    let parts = header.split("*/");
+    let code: String = parts.flat_map(|part| part.split("/*").take(1)).collect();
     let outside = |line: &&str| !line.starts_with('#') && !["extern \"C\" {", "}"].contains(line);
     let code: Vec<&str> = code.lines().filter(outside).collect();
     let code = code.join(" ");

@@ -21,3 +21,4 @@ mod random_slices;
 mod random_texts;
 mod script;
 mod sizes;
+mod stack;
