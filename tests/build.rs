@@ -13,6 +13,7 @@ fn main() {
         (None, None) => panic!("cargo sets CARGO_MANIFEST_DIR"),
     };
     println!("cargo:rustc-link-search=native={}", folder.display());
+    println!("cargo:rustc-env=PLANNER_LIBRARIES={}", folder.display());
     for subject in ["table", "plan", "probe", "fleet", "script"] {
         println!("cargo:rustc-link-lib=static={subject}_exports");
         let archive = folder.join(format!("lib{subject}_exports.a"));

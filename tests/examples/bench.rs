@@ -1,7 +1,7 @@
 //! Times the library against Rust: `cargo run --release --offline --example bench`.
 
 use planner_tests::channel::full_script;
-use planner_tests::face;
+use planner_tests::ffi;
 use planner_tests::fleet::{self, BYTES};
 use planner_tests::methods;
 use planner_tests::random::Random;
@@ -25,13 +25,13 @@ const METHODS: [(Method, &str); 2] = [(Method::Slse, "S-LSE"), (Method::Turns, "
 
 fn by_library(method: Method, given: Slices, plan: &mut [u8], work: &mut [u8]) -> u64 {
     match method {
-        Method::Slse => face::plan_slse(given, plan),
-        Method::Turns => face::plan_turns(given, plan, work),
+        Method::Slse => ffi::plan_slse(given, plan),
+        Method::Turns => ffi::plan_turns(given, plan, work),
     }
 }
 
 fn by_rust(method: Method, given: Slices, plan: &mut [u8], work: &mut [u8]) -> u64 {
-    face::plan_answer(&match method {
+    ffi::plan_answer(&match method {
         Method::Slse => fill_plan(given, methods::slse, plan),
         Method::Turns => fill_plan_and_work(given, methods::turns, plan, work),
     })
@@ -101,8 +101,8 @@ fn measure_script(table: &Table, lines: &[u8]) -> Times {
     let input = [&table.text(), lines].concat();
     let mut out = vec![9; script::room_for(input.len())];
     measure(EVENT_RUNS, 1, |which| match which {
-        0 => face::script_text(black_box(&input), &mut out),
-        _ => face::write_answer(&script::text(black_box(&input), &mut out)),
+        0 => ffi::script_text(black_box(&input), &mut out),
+        _ => ffi::write_answer(&script::text(black_box(&input), &mut out)),
     })
 }
 
@@ -116,8 +116,8 @@ fn measure_events(table: &Table, lines: &[u8]) -> Times {
         record.fill(0);
         let lines = lines.split_inclusive(|&byte| byte == b'\n').enumerate();
         let answers = lines.map(|(used, line)| match which {
-            0 => face::fleet_event(given, &mut record, line, used, room),
-            _ => face::entry_answer(&fleet::event(given, &mut record, line, used, room)),
+            0 => ffi::fleet_event(given, &mut record, line, used, room),
+            _ => ffi::entry_answer(&fleet::event(given, &mut record, line, used, room)),
         });
         answers.fold(0, |sum, answer| sum ^ answer)
     })

@@ -1,7 +1,7 @@
 //! Table and plan in the library and the second implementation, compared with every buffer.
 
 use crate::buffer::Buffer;
-use crate::face;
+use crate::ffi;
 use crate::random::Random;
 use crate::reference::{self, Behind, Lent, Plan, Slices, Table};
 use crate::sites::Numbers;
@@ -53,7 +53,7 @@ pub fn read(
 ) -> Result<Table, u8> {
     let before = lengths.map(|length| Buffer::filled(length, || random.short()));
     let (mut by_library, mut by_reference) = (before.clone(), before.clone());
-    let answer = face::read(text, behind, lend(&mut by_library));
+    let answer = ffi::read(text, behind, lend(&mut by_library));
     let result = reference::read_table(text, behind, lend(&mut by_reference));
     let call = match behind {
         Behind::Nothing => "read",
@@ -61,7 +61,7 @@ pub fn read(
     };
     assert_same(
         call,
-        [answer, face::read_answer(&result)],
+        [answer, ffi::read_answer(&result)],
         [&by_library, &by_reference],
     );
     assert_filled(&by_library, &before, &result);
@@ -70,9 +70,9 @@ pub fn read(
 
 #[track_caller]
 pub fn check(given: Slices) -> Result<(), u8> {
-    let answer = face::check_table(given);
+    let answer = ffi::check_table(given);
     let result = reference::check_table(given);
-    let expected = face::check_answer(&result);
+    let expected = ffi::check_answer(&result);
     assert_same("check", [answer.into(), expected.into()], [&(), &()]);
     result
 }
@@ -92,7 +92,7 @@ pub fn written(
     let result = reference(by_reference.lend());
     assert_same(
         call,
-        [answer, face::write_answer(&result)],
+        [answer, ffi::write_answer(&result)],
         [&by_library, &by_reference],
     );
     let count = result.unwrap_or(0);
@@ -102,14 +102,14 @@ pub fn written(
 
 #[track_caller]
 pub fn write(given: Slices, length: usize, random: &mut Random) -> Result<Vec<u8>, u8> {
-    let library = |out: &mut [u8]| face::write_table(given, out);
+    let library = |out: &mut [u8]| ffi::write_table(given, out);
     let reference = |out: &mut [u8]| reference::write_table(given, out);
     written("write", length, random, library, reference)
 }
 
 #[track_caller]
 pub fn plan_text(text: &[u8], length: usize, random: &mut Random) -> Result<Vec<u8>, u8> {
-    let library = |out: &mut [u8]| face::plan_text(text, out);
+    let library = |out: &mut [u8]| ffi::plan_text(text, out);
     let reference = |out: &mut [u8]| reference::plan_text(text, out);
     written("plan text", length, random, library, reference)
 }
@@ -128,11 +128,11 @@ fn assert_planned(after: &Buffer<u8>, before: &Buffer<u8>, result: &Result<Plan,
 pub fn plan_slse(given: Slices, length: usize, random: &mut Random) -> Result<Plan, u8> {
     let before = Buffer::filled(length, || random.byte());
     let (mut by_library, mut by_reference) = (before.clone(), before.clone());
-    let answer = face::plan_slse(given, by_library.lend());
+    let answer = ffi::plan_slse(given, by_library.lend());
     let result = reference::fill_plan(given, reference::plan, by_reference.lend());
     assert_same(
         "S-LSE",
-        [answer, face::plan_answer(&result)],
+        [answer, ffi::plan_answer(&result)],
         [&by_library, &by_reference],
     );
     assert_planned(&by_library, &before, &result);
@@ -149,12 +149,12 @@ pub fn plan_turns(given: Slices, lengths: [usize; 2], random: &mut Random) -> Re
     let before = lengths.map(|length| Buffer::filled(length, &mut byte));
     let (mut by_library, mut by_reference) = (before.clone(), before.clone());
     let [plan, work] = by_library.each_mut().map(Buffer::lend);
-    let answer = face::plan_turns(given, plan, work);
+    let answer = ffi::plan_turns(given, plan, work);
     let [plan, work] = by_reference.each_mut().map(Buffer::lend);
     let result = reference::fill_plan_and_work(given, reference::plan, plan, work);
     assert_same(
         "by turns",
-        [answer, face::plan_answer(&result)],
+        [answer, ffi::plan_answer(&result)],
         [&by_library, &by_reference],
     );
     assert_planned(&by_library[0], &before[0], &result);

@@ -3,7 +3,7 @@
 use crate::buffer::Buffer;
 use crate::compare::assert_same;
 use crate::ends::{self, Entry, Kind, What, LINE};
-use crate::face;
+use crate::ffi;
 use crate::fleet::changes;
 use crate::random::Random;
 use crate::reference::Table;
@@ -46,7 +46,7 @@ impl End {
         let result = reference(self, by_reference.lend());
         assert_same(
             call,
-            [answer, face::entry_answer(&result)],
+            [answer, ffi::entry_answer(&result)],
             [&by_library, &by_reference],
         );
         let changes = changes(before.entries(), by_library.entries());
@@ -63,7 +63,7 @@ impl End {
     pub fn open(&mut self, free: usize) -> Result<What, u8> {
         self.befall(
             "open",
-            |end, record| face::probe_open(end.numbers.slices(), end.probe, record, free),
+            |end, record| ffi::probe_open(end.numbers.slices(), end.probe, record, free),
             |end, record| ends::open(end.numbers.slices(), end.probe, record, free),
         )
     }
@@ -72,7 +72,7 @@ impl End {
     pub fn hear(&mut self, line: &[u8], free: usize) -> Result<What, u8> {
         self.befall(
             "hear",
-            |end, record| face::probe_hear(end.numbers.slices(), end.probe, record, line, free),
+            |end, record| ffi::probe_hear(end.numbers.slices(), end.probe, record, line, free),
             |end, record| ends::hear(end.numbers.slices(), end.probe, record, line, free),
         )
     }
@@ -84,12 +84,12 @@ impl End {
         let before = Buffer::filled(length, || self.random.byte());
         let (mut by_library, mut by_reference) = (before.clone(), before.clone());
         let (given, probe, lent) = (self.numbers.slices(), self.probe, record.clone());
-        let answer = face::probe_ask(given, probe, lent.entries(), kind, link, by_library.lend());
+        let answer = ffi::probe_ask(given, probe, lent.entries(), kind, link, by_library.lend());
         let bytes = &self.record;
         let result = ends::ask(given, probe, bytes, kind, link, by_reference.lend());
         assert_same(
             "ask",
-            [answer, face::yes_answer(&result)],
+            [answer, ffi::yes_answer(&result)],
             [&by_library, &by_reference],
         );
         assert!(lent == record, "an end asked changes no record");
@@ -102,11 +102,11 @@ impl End {
     pub fn rests(&mut self, link: u16) -> Result<bool, u8> {
         let record = self.lent_record();
         let (given, lent) = (self.numbers.slices(), record.clone());
-        let answer = face::probe_rests(given, self.probe, lent.entries(), link);
+        let answer = ffi::probe_rests(given, self.probe, lent.entries(), link);
         let result = ends::rests(given, self.probe, &self.record, link);
         assert_same(
             "rests",
-            [answer, face::yes_answer(&result)],
+            [answer, ffi::yes_answer(&result)],
             [&lent, &record],
         );
         result

@@ -3,7 +3,7 @@
 use crate::buffer::Buffer;
 use crate::compare::assert_same;
 use crate::ends::Entry;
-use crate::face;
+use crate::ffi;
 use crate::fleet::{self, Site, BYTES};
 use crate::random::Random;
 use crate::reference::{Slices, Table};
@@ -71,11 +71,11 @@ impl Fleet {
         let given = self.numbers.slices();
         let before = self.records[0].clone();
         let [by_library, by_reference] = &mut self.records;
-        let answer = face::fleet_event(given, by_library.lend(), line, used, room);
+        let answer = ffi::fleet_event(given, by_library.lend(), line, used, room);
         let result = reference(given, by_reference.lend());
         assert_same(
             "fleet event",
-            [answer, face::entry_answer(&result)],
+            [answer, ffi::entry_answer(&result)],
             [by_library, by_reference],
         );
         let changes = fleet::changes(before.entries(), by_library.entries());
@@ -86,11 +86,11 @@ impl Fleet {
     #[track_caller]
     pub fn finished(&self) -> Result<bool, u8> {
         let (given, lent) = (self.numbers.slices(), self.records[0].clone());
-        let answer = face::fleet_finished(given, lent.entries());
+        let answer = ffi::fleet_finished(given, lent.entries());
         let result = fleet::finished(given, self.records[1].entries());
         assert_same(
             "fleet finished",
-            [answer, face::yes_answer(&result)],
+            [answer, ffi::yes_answer(&result)],
             [&lent, &self.records[1]],
         );
         result

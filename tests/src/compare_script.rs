@@ -2,7 +2,7 @@
 
 use crate::buffer::Buffer;
 use crate::compare::written;
-use crate::face;
+use crate::ffi;
 use crate::fleet::{Site, BYTES};
 use crate::random::Random;
 use crate::reference::{Slices, Table};
@@ -12,7 +12,7 @@ use crate::sites::Numbers;
 /// The whole output, with a slice of this length for it.
 #[track_caller]
 pub fn text_in(input: &[u8], length: usize, random: &mut Random) -> Result<Vec<u8>, u8> {
-    let library = |out: &mut [u8]| face::script_text(input, out);
+    let library = |out: &mut [u8]| ffi::script_text(input, out);
     let reference = |out: &mut [u8]| script::text(input, out);
     written("script text", length, random, library, reference)
 }
@@ -96,7 +96,7 @@ impl Pieces {
         let before = self.clone();
         let untouched = Buffer::filled(length, || random.byte());
         let mut out = untouched.clone();
-        let answer = face::script_piece(
+        let answer = ffi::script_piece(
             self.numbers.slices(),
             self.record.lend(),
             self.line.lend(),
@@ -125,7 +125,7 @@ impl Pieces {
     pub fn end(&self, length: usize, random: &mut Random) -> Result<Vec<u8>, u8> {
         let untouched = Buffer::filled(length, || random.byte());
         let (mut out, record) = (untouched.clone(), self.record.clone());
-        let answer = face::script_end(
+        let answer = ffi::script_end(
             self.numbers.slices(),
             record.entries(),
             self.held(),

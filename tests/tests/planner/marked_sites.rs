@@ -1,7 +1,7 @@
 //! The marked sites M1 to M8 of 01: read, written back the same, and planned.
 
 use planner_tests::compare;
-use planner_tests::face;
+use planner_tests::ffi;
 use planner_tests::random::Random;
 use planner_tests::reference::{Behind, Lent, Table};
 use planner_tests::sites::{self, Numbers, MARKED};
@@ -79,10 +79,10 @@ fn plan_of_m2_as_bytes() {
     let numbers = Numbers::of(&site(1));
     let answer = 0x0001_0002_0000_000a;
     let (mut plan, mut work) = ([9; 4], [9; 14]);
-    let by_slse = face::plan_slse(numbers.slices(), &mut plan);
+    let by_slse = ffi::plan_slse(numbers.slices(), &mut plan);
     assert_eq!((by_slse, plan), (answer, [1, 0, 1, 9]));
     plan = [8; 4];
-    let by_turns = face::plan_turns(numbers.slices(), &mut plan, &mut work);
+    let by_turns = ffi::plan_turns(numbers.slices(), &mut plan, &mut work);
     assert_eq!((by_turns, plan), (answer, [1, 0, 1, 8]));
     assert_eq!(work, [0; 14]);
 }
@@ -91,7 +91,7 @@ fn plan_of_m2_as_bytes() {
 fn output_of_m2() {
     let output = b"000100020000000a\n000000010005\n000200030005\nffff\n";
     let mut out = [9; 50];
-    let answer = face::plan_text(MARKED[1].as_bytes(), &mut out);
+    let answer = ffi::plan_text(MARKED[1].as_bytes(), &mut out);
     assert_eq!(answer, 0x0001_0000_0000_0030);
     assert_eq!(out[..48], output[..]);
     assert_eq!(out[48..], [9; 2]);
@@ -101,10 +101,10 @@ fn output_of_m2() {
 fn answers_about_m2_as_numbers() {
     let numbers = Numbers::of(&site(1));
     let mut out = [0; 77];
-    assert_eq!(face::check_table(numbers.slices()), 0);
-    let written = face::write_table(numbers.slices(), &mut out);
+    assert_eq!(ffi::check_table(numbers.slices()), 0);
+    let written = ffi::write_table(numbers.slices(), &mut out);
     assert_eq!(written, 0x0001_0000_0000_004d);
-    assert_eq!(face::write_table(numbers.slices(), &mut out[..76]), 8);
+    assert_eq!(ffi::write_table(numbers.slices(), &mut out[..76]), 8);
     let read = |text: &[u8]| {
         let lent = Lent {
             needs: &mut [9; 4],
@@ -112,7 +112,7 @@ fn answers_about_m2_as_numbers() {
             highs: &mut [9; 3],
             costs: &mut [9; 3],
         };
-        face::read(text, Behind::Nothing, lent)
+        ffi::read(text, Behind::Nothing, lent)
     };
     assert_eq!(read(&out), 0x0001_0001_0004_0003);
     assert_eq!(read(&out[..76]), 6);

@@ -4,7 +4,7 @@ use super::{m2_end_with, without_spare};
 use planner_tests::compare_ends::End;
 use planner_tests::ends::{other_end, Frame, Kind, What, LINE};
 use planner_tests::events::own_links;
-use planner_tests::face;
+use planner_tests::ffi;
 use planner_tests::lines::{offer, refusal};
 use planner_tests::random::{each_seed, Random};
 use planner_tests::reference::{falling, plan, Table};
@@ -150,10 +150,10 @@ fn asked_line_is_heard_by_the_other_end() {
 fn answers_as_numbers() {
     let numbers = Numbers::of(&marked(1));
     let mut record = [0; 6];
-    let mut open = || face::probe_open(numbers.slices(), 1, &mut record, 1);
+    let mut open = || ffi::probe_open(numbers.slices(), 1, &mut record, 1);
     assert_eq!(open(), 0x8000_0100_0001_ffff);
     assert_eq!(open(), 0x8000_0101_ffff_ffff);
-    let mut hear = |line: &[u8]| face::probe_hear(numbers.slices(), 1, &mut record, line, 1);
+    let mut hear = |line: &[u8]| ffi::probe_hear(numbers.slices(), 1, &mut record, line, 1);
     assert_eq!(hear(b"01000100000001\n"), 0x8000_0102_0000_ffff);
     assert_eq!(hear(b"01000100020001\n"), 0x8000_0103_0001_0000);
     assert_eq!(hear(b"02000100020001\n"), 0x8000_0105_0001_ffff);
@@ -162,14 +162,14 @@ fn answers_as_numbers() {
     assert_eq!(record, [0, 2, 2, 1, 0, 0]);
     let mut out = [9; 17];
     let mut ask = |kind, link| {
-        let answer = face::probe_ask(numbers.slices(), 1, &record, kind, link, &mut out);
+        let answer = ffi::probe_ask(numbers.slices(), 1, &record, kind, link, &mut out);
         (answer, out)
     };
     assert_eq!(ask(Kind::Offer, 1), (0x0001_0000_0000_0000, [9; 17]));
     assert_eq!(ask(Kind::Refusal, 2), (24, [9; 17]));
     let line = *b"02000100010000\n\x09\x09";
     assert_eq!(ask(Kind::Refusal, 0), (0x0001_0000_0000_0001, line));
-    let rests = |record: &[u8]| face::probe_rests(numbers.slices(), 1, record, 1);
+    let rests = |record: &[u8]| ffi::probe_rests(numbers.slices(), 1, record, 1);
     assert_eq!(rests(&record), 0x0001_0000_0000_0000);
     assert_eq!(rests(&[0, 0, 1, 1, 0, 0]), 0x0001_0000_0000_0001);
     assert_eq!(rests(&[0, 0, 1, 1, 0]), 20);

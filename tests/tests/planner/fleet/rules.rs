@@ -3,7 +3,7 @@
 use super::{befell, m2, m2_with};
 use planner_tests::compare_fleet::Fleet;
 use planner_tests::ends::What;
-use planner_tests::face;
+use planner_tests::ffi;
 use planner_tests::fleet::changes;
 use planner_tests::lines::{line, offer, opening, refusal};
 use planner_tests::sites::{marked, site, Numbers};
@@ -64,7 +64,7 @@ fn m11() {
 fn answers_as_numbers() {
     let numbers = Numbers::of(&marked(1));
     let mut record = [2, 1, 0, 0, 1, 1, 1, 0, 0, 0, 0, 0];
-    let mut hear = |line: &[u8]| face::fleet_event(numbers.slices(), &mut record, line, 0, 1);
+    let mut hear = |line: &[u8]| ffi::fleet_event(numbers.slices(), &mut record, line, 0, 1);
     assert_eq!(hear(b"00000100030003\n"), 0x8000_0300_0002_ffff);
     assert_eq!(hear(b"00000100010001\n"), 0x8000_0101_ffff_ffff);
     assert_eq!(hear(b"01000100020001\n"), 0x8000_0103_0001_0000);
@@ -73,7 +73,7 @@ fn answers_as_numbers() {
     assert_eq!(hear(b"02000100010000\n"), 0x8000_0006_0000_ffff);
     assert_eq!(hear(b"02000100030002\n"), 27);
     assert_eq!(record, [2, 2, 0, 0, 1, 1, 1, 1, 0, 0, 2, 2]);
-    let finished = |record: &[u8]| face::fleet_finished(numbers.slices(), record);
+    let finished = |record: &[u8]| ffi::fleet_finished(numbers.slices(), record);
     assert_eq!(finished(&record), 0x0001_0000_0000_0001);
     assert_eq!(finished(&[0; 12]), 0x0001_0000_0000_0000);
     assert_eq!(finished(&[0; 11]), 20);

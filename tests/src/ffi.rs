@@ -1,4 +1,4 @@
-//! The static library's face: each lent slice passes as a pointer and a length in entries.
+//! The functions of the static libraries: each lent slice passes as a pointer and a length in entries.
 
 use crate::ends::{Entry, Kind};
 use crate::reference::{Behind, Lent, Plan, Slices, Table};

@@ -1,0 +1,186 @@
+/* Document 01's site M2 through planner.h: read, planned by both methods, and its script M11 run by a fleet, by ends
+ * alone and as a text. Prints the plan and the log as the programs do. The status is 0 if all is as 01 has it. */
+#include "planner.h"
+
+#include <stdio.h>
+#include <string.h>
+
+#define PROBES 4
+#define LINKS 3
+#define EVENTS 10
+
+static const char M2[] = "000100040003\n0000\n0001\n0001\n0000\n"
+                         "000000010005\n000100020006\n000200030005\nffff\n";
+static const char M2_PRINTED[] = "000100020000000a\n000000010005\n000200030005\nffff\n";
+static const char M11[EVENTS][PLANNER_FRAME + 1] = {
+    "00000100000000\n", "01000100000001\n", "00000100010001\n", "01000100010002\n", "00000100020002\n",
+    "01000100020001\n", "02000100010000\n", "00000100030003\n", "01000100030002\n", "02000100020003\n"};
+static const char M11_PRINTED[EVENTS + 1][16] = {
+    "0000000000ffff\n", "0001020000ffff\n", "0001000001ffff\n", "0002020001ffff\n", "0002000001ffff\n",
+    "00010300010000\n", "0000050000ffff\n", "0003000002ffff\n", "0002040002ffff\n", "0003050002ffff\n",
+    "010000000b\n"};
+
+static int failures = 0;
+
+/* Counts a failure and names it. */
+static void expect(int fine, const char *what, unsigned place) {
+    if (!fine) {
+        fprintf(stderr, "failed: %s, %u\n", what, place);
+        failures++;
+    }
+}
+
+/* The table as it was read. SLICES lends it to a reading, TABLE passes it on. */
+static uint16_t needs[PROBES], lows[LINKS], highs[LINKS], costs[LINKS];
+#define SLICES needs, PROBES, lows, LINKS, highs, LINKS, costs, LINKS
+#define TABLE 1, PROBES, LINKS, SLICES
+
+static const uint8_t *bytes(const char *text) {
+    return (const uint8_t *)text;
+}
+
+static void read_and_write(void) {
+    const size_t most = 13 + 5 * PLANNER_MOST_PROBES + 13 * PLANNER_MOST_LINKS + 5;
+    uint8_t out[sizeof M2 - 1];
+    char behind[sizeof M2 + 1];
+    uint64_t answer = planner_read_table(bytes(M2), sizeof M2 - 1, SLICES);
+    expect(most == PLANNER_MOST_TEXT, "longest text", 0);
+    expect(!PLANNER_REFUSED(answer), "read", 0);
+    expect(PLANNER_READ_NUMBER(answer) == 1, "number", 0);
+    expect(PLANNER_READ_PROBES(answer) == PROBES, "probes", 0);
+    expect(PLANNER_READ_LINKS(answer) == LINKS, "links", 0);
+    expect(needs[1] == 1 && lows[2] == 2 && highs[2] == 3 && costs[1] == 6, "entries", 0);
+
+    snprintf(behind, sizeof behind, "%s\n", M2);
+    answer = planner_read_table(bytes(behind), sizeof M2, SLICES);
+    expect(PLANNER_REFUSED(answer) && answer == 6, "bytes behind", 0);
+    answer = planner_read_table_prefix(bytes(behind), sizeof M2, SLICES);
+    expect(!PLANNER_REFUSED(answer) && PLANNER_READ_LINKS(answer) == LINKS, "read a prefix", 0);
+
+    expect(planner_check_table(TABLE) == 0, "check", 0);
+    expect(planner_check_table(1, PROBES, LINKS, needs, PROBES - 1, lows, LINKS, highs, LINKS, costs, LINKS) == 8,
+           "check of short needs", 0);
+    answer = planner_write_table(TABLE, out, sizeof out);
+    expect(PLANNER_LENGTH(answer) == sizeof out && memcmp(out, M2, sizeof out) == 0, "write", 0);
+}
+
+static void plan(void) {
+    static const uint8_t kept[LINKS] = {1, 0, 1};
+    static const uint8_t zero[4 * LINKS] = {0};
+    uint8_t plan[LINKS], work[4 * LINKS], out[64];
+    uint64_t by_slse, by_turns, answer;
+
+    memset(plan, 9, sizeof plan);
+    by_slse = planner_plan_slse(TABLE, plan, sizeof plan);
+    expect(PLANNER_PLAN_KEPT(by_slse) == 2 && PLANNER_PLAN_COST(by_slse) == 10, "plan by S-LSE", 0);
+    expect(memcmp(plan, kept, sizeof plan) == 0, "links kept by S-LSE", 0);
+
+    memset(plan, 9, sizeof plan);
+    memset(work, 9, sizeof work);
+    by_turns = planner_plan_turns(TABLE, plan, sizeof plan, work, sizeof work);
+    expect(by_turns == by_slse, "plan by turns", 0);
+    expect(memcmp(plan, kept, sizeof plan) == 0, "links kept by turns", 0);
+    expect(memcmp(work, zero, sizeof work) == 0, "working bytes", 0);
+
+    answer = planner_plan_text(bytes(M2), sizeof M2 - 1, out, sizeof out);
+    expect(PLANNER_LENGTH(answer) == sizeof M2_PRINTED - 1, "length of the plan's text", 0);
+    expect(memcmp(out, M2_PRINTED, sizeof M2_PRINTED - 1) == 0, "plan's text", 0);
+    fwrite(out, 1, PLANNER_LENGTH(answer), stdout);
+}
+
+/* The entry as the script program prints it. */
+static void print_entry(uint64_t answer, char line[16]) {
+    snprintf(line, 16, "%04x%02x%04x%04x\n", PLANNER_EVENT_PROBE(answer), PLANNER_EVENT_WHAT(answer),
+             PLANNER_EVENT_LINK(answer), PLANNER_EVENT_DISPLACED(answer));
+}
+
+static void fleet(void) {
+    uint8_t rec[4 * LINKS] = {0}, before[4 * LINKS];
+    unsigned event, place, changes = 0;
+    char line[16];
+    uint64_t answer;
+
+    for (event = 0; event < EVENTS; event++) {
+        expect(!PLANNER_YES(planner_fleet_finished(TABLE, rec, sizeof rec)), "finished too early", event);
+        memcpy(before, rec, sizeof rec);
+        answer = planner_fleet_event(TABLE, rec, sizeof rec, bytes(M11[event]), PLANNER_FRAME, event, EVENTS);
+        expect(!PLANNER_REFUSED(answer), "event", event);
+        print_entry(answer, line);
+        expect(strcmp(line, M11_PRINTED[event]) == 0, "entry", event);
+        fputs(line, stdout);
+        for (place = 0; place < sizeof rec; place++) {
+            changes += before[place] != rec[place];
+        }
+    }
+    answer = planner_fleet_finished(TABLE, rec, sizeof rec);
+    snprintf(line, sizeof line, "%02x%08x\n", (unsigned)PLANNER_YES(answer), changes);
+    expect(strcmp(line, M11_PRINTED[EVENTS]) == 0, "end", 0);
+    fputs(line, stdout);
+    answer = planner_fleet_event(TABLE, rec, sizeof rec, bytes(M11[0]), PLANNER_FRAME, EVENTS, EVENTS);
+    expect(PLANNER_REFUSED(answer) && answer == 26, "full log", 0);
+}
+
+/* Probe 1 of M11: it takes probe 0's offer, opens, and takes probe 2's, displacing probe 0. */
+static void one_end(void) {
+    uint8_t rec[2 * LINKS] = {0}, out[PLANNER_FRAME];
+    uint64_t answer = planner_probe_hear(TABLE, 1, rec, sizeof rec, bytes(M11[1]), PLANNER_FRAME, 3);
+    expect(PLANNER_EVENT_WHAT(answer) == 2 && PLANNER_EVENT_DISPLACED(answer) == PLANNER_ABSENT, "offer taken", 0);
+    answer = planner_probe_ask_refusal(TABLE, 1, rec, sizeof rec, 0, out, sizeof out);
+    expect(!PLANNER_YES(answer), "no refusal yet", 0);
+    answer = planner_probe_open(TABLE, 1, rec, sizeof rec, 2);
+    expect(PLANNER_EVENT_WHAT(answer) == 0 && PLANNER_EVENT_LINK(answer) == 1, "opened", 0);
+    answer = planner_probe_ask_offer(TABLE, 1, rec, sizeof rec, 1, out, sizeof out);
+    expect(PLANNER_YES(answer) && memcmp(out, M11[3], sizeof out) == 0, "offer's line", 0);
+    expect(!PLANNER_YES(planner_probe_rests(TABLE, 1, rec, sizeof rec, 1)), "link 1 not rested yet", 0);
+    answer = planner_probe_hear(TABLE, 1, rec, sizeof rec, bytes(M11[5]), PLANNER_FRAME, 1);
+    expect(PLANNER_EVENT_WHAT(answer) == 3 && PLANNER_EVENT_DISPLACED(answer) == 0, "displaced", 0);
+    answer = planner_probe_ask_refusal(TABLE, 1, rec, sizeof rec, 0, out, sizeof out);
+    expect(PLANNER_YES(answer) && memcmp(out, M11[6], sizeof out) == 0, "refusal's line", 0);
+    expect(PLANNER_YES(planner_probe_rests(TABLE, 1, rec, sizeof rec, 1)), "link 1 rested", 0);
+}
+
+/* M11 as one text, and behind the table in two pieces. */
+static void script(void) {
+    static char text[sizeof M2 + EVENTS * PLANNER_FRAME], printed[(EVENTS + 1) * 16];
+    static uint8_t out[5 * sizeof text];
+    uint8_t rec[4 * LINKS] = {0}, line[16] = {0};
+    uint32_t numbers[3] = {0, 0, 0};
+    const size_t table = sizeof M2 - 1, cut = table + 40;
+    size_t length, done = 0;
+    unsigned event;
+    uint64_t answer;
+
+    strcpy(text, M2);
+    for (event = 0; event < EVENTS; event++) {
+        strcat(text, M11[event]);
+    }
+    for (event = 0; event <= EVENTS; event++) {
+        strcat(printed, M11_PRINTED[event]);
+    }
+    length = strlen(text);
+    answer = planner_script_text(bytes(text), length, out, sizeof out);
+    expect(PLANNER_LENGTH(answer) == strlen(printed), "length of the script's text", 0);
+    expect(memcmp(out, printed, strlen(printed)) == 0, "script's text", 0);
+
+    memset(out, 0, sizeof out);
+    answer = planner_script_piece(TABLE, rec, sizeof rec, line, sizeof line, numbers, 3,
+                                  bytes(text + table), cut - table, out, sizeof out);
+    expect(!PLANNER_REFUSED(answer) && numbers[0] == 2 && numbers[1] == 10, "first piece", 0);
+    done = PLANNER_LENGTH(answer);
+    answer = planner_script_piece(TABLE, rec, sizeof rec, line, sizeof line, numbers, 3,
+                                  bytes(text + cut), length - cut, out + done, sizeof out - done);
+    expect(!PLANNER_REFUSED(answer) && numbers[0] == EVENTS && numbers[1] == 0, "second piece", 0);
+    done += PLANNER_LENGTH(answer);
+    answer = planner_script_end(TABLE, rec, sizeof rec, numbers[1], numbers[2], out + done, sizeof out - done);
+    done += PLANNER_LENGTH(answer);
+    expect(done == strlen(printed) && memcmp(out, printed, done) == 0, "pieces", 0);
+}
+
+int main(void) {
+    read_and_write();
+    plan();
+    fleet();
+    one_end();
+    script();
+    return failures == 0 ? 0 : 1;
+}
