@@ -3,8 +3,8 @@
 use planner_tests::channel::{any_mix, any_script};
 use planner_tests::events::any_table;
 use planner_tests::random::Random;
-use planner_tests::reference::{plan_output, Table};
-use planner_tests::samples::{self, input, M4, M4_PRINTED};
+use planner_tests::reference::{plan_output, table_of_text, Behind, Table};
+use planner_tests::samples::{self, input, M11, M11_PRINTED, M4, M4_PRINTED};
 use planner_tests::script;
 use planner_tests::sites::{damage_text, legal_of_size, marked, M2};
 use std::env;
@@ -110,12 +110,99 @@ fn compare_plan(input: &[u8], sizes: &[usize]) {
     assert!(run("plan", input, sizes) == plan_output(input));
 }
 
+/// A file of the repository.
+fn file(path: &str) -> Vec<u8> {
+    let path = Path::new(env!("CARGO_MANIFEST_DIR")).join("..").join(path);
+    fs::read(&path).unwrap_or_else(|error| panic!("{}: {error}", path.display()))
+}
+
+/// 01's samples, which are among the examples.
 #[test]
 fn samples() {
-    let expected = samples::text(&M4_PRINTED);
-    assert_eq!(run("script", &input(3, &M4), &WHOLE), expected);
+    assert_eq!(file("examples/m2.table"), M2.as_bytes());
     let expected = "000100020000000a\n000000010005\n000200030005\nffff\n";
     assert_eq!(run("plan", M2.as_bytes(), &WHOLE), expected.as_bytes());
+    let scripts = [
+        ("examples/m4.script", input(3, &M4), &M4_PRINTED[..]),
+        ("examples/m11.script", input(1, &M11), &M11_PRINTED[..]),
+    ];
+    for (path, input, printed) in scripts {
+        assert_eq!(file(path), input);
+        assert_eq!(run("script", &input, &WHOLE), samples::text(printed));
+    }
+}
+
+/// Every example, through both programs.
+#[test]
+fn examples() {
+    let folder = Path::new(env!("CARGO_MANIFEST_DIR")).join("../examples");
+    let (mut tables, mut scripts) = (0, 0);
+    for entry in fs::read_dir(folder).expect("the examples") {
+        let path = entry.expect("an example").path();
+        let input = fs::read(&path).expect("an example");
+        match path.extension().and_then(|suffix| suffix.to_str()) {
+            Some("table") => tables += 1,
+            Some("script") => scripts += 1,
+            _ => panic!("{}", path.display()),
+        }
+        let table = table_of_text(&input, Behind::Anything);
+        assert!(table.is_ok(), "{}", path.display());
+        for sizes in [&WHOLE[..], &ODD] {
+            compare_plan(&input, sizes);
+            compare_script(&input, sizes);
+        }
+    }
+    assert!(tables >= 2 && scripts >= 2, "{tables} {scripts}");
+}
+
+#[test]
+fn largest_example() {
+    let text = file("examples/largest.table");
+    let table = table_of_text(&text, Behind::Nothing).expect("it is legal");
+    assert_eq!([table.needs.len(), table.links.len()], [256, 2048]);
+    assert_eq!(text.len(), 27_922);
+}
+
+/// The README's blocks of lines that have only digits, each line closed.
+fn blocks_of_digits(readme: &str) -> Vec<String> {
+    let mut blocks = vec![String::new()];
+    for line in readme.lines() {
+        match line.strip_prefix("    ") {
+            Some(line) if line.bytes().all(|byte| byte.is_ascii_hexdigit()) => {
+                blocks
+                    .last_mut()
+                    .expect("one")
+                    .push_str(&format!("{line}\n"));
+            }
+            _ => blocks.push(String::new()),
+        }
+    }
+    blocks.retain(|block| !block.is_empty());
+    blocks
+}
+
+/// The README's blocks are the sample table and what its commands print, in their order.
+#[test]
+fn readme() {
+    let readme = String::from_utf8(file("README.md")).expect("a text");
+    let commands = readme.split("target/bin/").skip(1).filter_map(|rest| {
+        let (program, rest) = rest.split_once(" < ")?;
+        Some((program, rest.split_whitespace().next()?))
+    });
+    let commands: Vec<(&str, &str)> = commands.collect();
+    let expected = [
+        ("plan", "examples/m2.table"),
+        ("script", "examples/m11.script"),
+    ];
+    assert_eq!(commands, expected);
+    let printed = commands
+        .iter()
+        .map(|(program, path)| run(program, &file(path), &WHOLE));
+    let mut expected = vec![file("examples/m2.table")];
+    expected.extend(printed);
+    let blocks = blocks_of_digits(&readme).into_iter();
+    let blocks: Vec<Vec<u8>> = blocks.map(String::into_bytes).collect();
+    assert_eq!(blocks, expected);
 }
 
 #[test]
