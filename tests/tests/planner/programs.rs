@@ -1,6 +1,6 @@
 //! The built programs, fed through a pipe; they stand in PLANNER_BIN_DIR, else in ../target/bin.
 
-use planner_tests::channel::{any_mix, any_script};
+use planner_tests::channel::{any_mix, any_script, opening};
 use planner_tests::events::any_table;
 use planner_tests::random::Random;
 use planner_tests::reference::{plan_output, table_of_text, Behind, Table};
@@ -9,7 +9,7 @@ use planner_tests::script;
 use planner_tests::sites::{damage_text, legal_of_size, marked, M2};
 use std::env;
 use std::fs;
-use std::io::{ErrorKind, Read, Write};
+use std::io::{stderr, ErrorKind, Read, Write};
 use std::path::{Path, PathBuf};
 use std::process::{Child, ChildStdin, Command, Stdio};
 use std::thread::{self, JoinHandle};
@@ -36,12 +36,13 @@ struct Program {
 
 impl Program {
     fn start(name: &str) -> Program {
-        let path = path_of(name);
-        let piped = Command::new(&path)
-            .stdin(Stdio::piped())
-            .stdout(Stdio::piped())
-            .spawn();
-        let mut child = piped.unwrap_or_else(|error| panic!("{}: {error}", path.display()));
+        Program::of(Command::new(path_of(name)))
+    }
+
+    fn of(mut command: Command) -> Program {
+        command.stdin(Stdio::piped()).stdout(Stdio::piped());
+        let started = command.spawn();
+        let mut child = started.unwrap_or_else(|error| panic!("{command:?}: {error}"));
         let input = child.stdin.take().expect("its input is piped");
         let mut printed = child.stdout.take().expect("its output is piped");
         let output = thread::spawn(move || {
@@ -304,4 +305,42 @@ fn memory_for_a_long_line() {
     assert_eq!(output, b"e001\n0000000000\n");
     let output = bounded("plan", &marked(3).text(), &digits, 200);
     assert_eq!(output, b"e006\n");
+}
+
+/// The program's output under valgrind's memory checker, which finds no error and no block left.
+#[track_caller]
+fn run_checked(name: &str, input: &[u8]) -> Vec<u8> {
+    let mut command = Command::new("valgrind");
+    command.args(["-q", "--error-exitcode=9", "--leak-check=full"]);
+    command.args(["--errors-for-leak-kinds=all", "--"]);
+    command.arg(path_of(name));
+    let mut program = Program::of(command);
+    program.feed(input);
+    program.finish()
+}
+
+/// The largest inputs under the memory checker, where it is installed.
+#[test]
+fn checked_memory() {
+    if Command::new("valgrind").arg("--version").output().is_err() {
+        // Not by a macro, whose output is kept back where the test passes.
+        writeln!(stderr(), "checked_memory: skipped, no valgrind on the path").expect("stderr");
+        return;
+    }
+    let text = file("examples/largest.table");
+    let table = table_of_text(&text, Behind::Nothing).expect("it is legal");
+    assert!(run_checked("plan", &text) == plan_output(&text));
+    let random = &mut Random::new(83);
+    let openings = (0..1_000).flat_map(|count| opening(&table, count % 256).line());
+    let behind = [
+        openings.collect(),
+        any_script(&table, 2_000, any_mix(random), random),
+        (0..2_000_000).map(|_| random.byte()).collect(),
+        (0..200_000).map(|_| random.pick(b"0012\n")).collect(),
+    ];
+    for behind in behind {
+        let input = [&text[..], &behind].concat();
+        assert!(run_checked("script", &input) == script::output(&input));
+        assert!(run_checked("plan", &input) == plan_output(&input));
+    }
 }
