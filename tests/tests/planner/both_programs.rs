@@ -3,7 +3,7 @@
 use planner_tests::fuzz::{self, Tally};
 use planner_tests::random::Random;
 
-/// Compares so many inputs. The shares below are half of what is reached, or less.
+/// Compares so many inputs. The shares asserted below are at most half of those reached.
 fn reached(seed: u64, inputs: usize, more: fn(&mut Random, &mut Tally)) -> Tally {
     let (mut random, mut tally) = (Random::new(seed), Tally::default());
     for _ in 0..inputs {
@@ -14,7 +14,7 @@ fn reached(seed: u64, inputs: usize, more: fn(&mut Random, &mut Tally)) -> Tally
 
 #[test]
 fn fuzz_plans() {
-    let tally = reached(71, 1_800_000, fuzz::plan);
+    let tally = reached(71, 1_550_000, fuzz::plan);
     tally.assert_share(&["some kept and some rested"], 1_500);
     tally.assert_share(&["none kept", "all kept"], 150);
     let refusals = ["e001", "e002", "e003", "e004", "e005", "e006", "e007"];
@@ -23,7 +23,7 @@ fn fuzz_plans() {
 
 #[test]
 fn fuzz_scripts() {
-    let tally = reached(72, 400_000, fuzz::script);
+    let tally = reached(72, 350_000, fuzz::script);
     tally.assert_share(&["00", "01", "02", "03", "04", "05", "06"], 1_000);
     tally.assert_share(&["finished after changes", "not finished"], 1_000);
     tally.assert_share(&["finished from the start"], 300);
