@@ -4,20 +4,23 @@ use crate::compare_ends::End;
 use crate::ends::{other_end, Frame, What};
 use crate::random::{each_seed, Random};
 use crate::reference::Table;
-use crate::sites::{crowded, legal, legal_of_size, set_costs, set_needs};
+use crate::sites::{crowded, hubs, legal, legal_of_size, set_costs, set_needs};
 
-/// A legal table; most are small and dense, with equal costs and little spare, so that offers
-/// are often refused or displaced.
+/// A legal table; most are small and dense or have hubs, with equal costs and little spare, so that
+/// offers are often refused or displaced.
 pub fn any_table(random: &mut Random) -> Table {
-    match random.below(16) {
+    let probes = 3 + random.below(6);
+    let mut table = match random.below(16) {
         0 => return crowded(random),
         1 | 2 => return legal(random),
-        _ => {}
-    }
-    let probes = 3 + random.below(6);
-    let most = probes * (probes - 1) / 2;
-    let mut table = legal_of_size(probes, most - random.below(probes), random);
-    let costs = random.pick(&[1, 2, 4]);
+        3..=6 => hubs(2 * probes as u16, 1 + random.below(2) as u16),
+        _ => {
+            let most = probes * (probes - 1) / 2;
+            legal_of_size(probes, most - random.below(probes), random)
+        }
+    };
+    table.number = random.short();
+    let costs = random.pick(&[1, 2, 4, 32]);
     set_costs(&mut table, || random.below(costs) as u16);
     set_needs(&mut table, |_, degree| {
         degree.saturating_sub(random.below(4))

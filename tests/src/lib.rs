@@ -11,6 +11,7 @@ pub mod events;
 pub mod faults;
 pub mod ffi;
 pub mod fleet;
+pub mod fuzz;
 pub mod lines;
 pub mod methods;
 pub mod random;

@@ -247,7 +247,7 @@ fn other_count(old: u16, random: &mut Random) -> u16 {
 }
 
 /// Changes one of the header's numbers.
-fn damage_header(text: &mut [u8], random: &mut Random) {
+pub fn damage_header(text: &mut [u8], random: &mut Random) {
     let place = 4 * random.below(3);
     let Some(digits) = text.get_mut(place..place + 4) else {
         return;

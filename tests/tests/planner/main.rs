@@ -1,6 +1,7 @@
 //! All tests, in one binary: the longest starts first and runs beside the others.
 
 mod both_programs;
+mod contracts;
 mod definitions;
 mod documents;
 mod ends;

@@ -1,15 +1,15 @@
 //! The built programs, fed through a pipe; they stand in PLANNER_BIN_DIR, else in ../target/bin.
 
-use planner_tests::channel::{any_mix, any_script};
+use planner_tests::channel::{any_mix, any_script, opening};
 use planner_tests::events::any_table;
 use planner_tests::random::Random;
-use planner_tests::reference::{plan_output, Table};
-use planner_tests::samples::{self, input, M4, M4_PRINTED};
+use planner_tests::reference::{plan_output, table_of_text, Behind, Table};
+use planner_tests::samples::{self, input, M11, M11_PRINTED, M4, M4_PRINTED};
 use planner_tests::script;
 use planner_tests::sites::{damage_text, legal_of_size, marked, M2};
 use std::env;
 use std::fs;
-use std::io::{ErrorKind, Read, Write};
+use std::io::{stderr, ErrorKind, Read, Write};
 use std::path::{Path, PathBuf};
 use std::process::{Child, ChildStdin, Command, Stdio};
 use std::thread::{self, JoinHandle};
@@ -36,12 +36,13 @@ struct Program {
 
 impl Program {
     fn start(name: &str) -> Program {
-        let path = path_of(name);
-        let piped = Command::new(&path)
-            .stdin(Stdio::piped())
-            .stdout(Stdio::piped())
-            .spawn();
-        let mut child = piped.unwrap_or_else(|error| panic!("{}: {error}", path.display()));
+        Program::of(Command::new(path_of(name)))
+    }
+
+    fn of(mut command: Command) -> Program {
+        command.stdin(Stdio::piped()).stdout(Stdio::piped());
+        let started = command.spawn();
+        let mut child = started.unwrap_or_else(|error| panic!("{command:?}: {error}"));
         let input = child.stdin.take().expect("its input is piped");
         let mut printed = child.stdout.take().expect("its output is piped");
         let output = thread::spawn(move || {
@@ -110,12 +111,99 @@ fn compare_plan(input: &[u8], sizes: &[usize]) {
     assert!(run("plan", input, sizes) == plan_output(input));
 }
 
+/// A file of the repository.
+fn file(path: &str) -> Vec<u8> {
+    let path = Path::new(env!("CARGO_MANIFEST_DIR")).join("..").join(path);
+    fs::read(&path).unwrap_or_else(|error| panic!("{}: {error}", path.display()))
+}
+
+/// 01's samples, which are among the examples.
 #[test]
 fn samples() {
-    let expected = samples::text(&M4_PRINTED);
-    assert_eq!(run("script", &input(3, &M4), &WHOLE), expected);
+    assert_eq!(file("examples/m2.table"), M2.as_bytes());
     let expected = "000100020000000a\n000000010005\n000200030005\nffff\n";
     assert_eq!(run("plan", M2.as_bytes(), &WHOLE), expected.as_bytes());
+    let scripts = [
+        ("examples/m4.script", input(3, &M4), &M4_PRINTED[..]),
+        ("examples/m11.script", input(1, &M11), &M11_PRINTED[..]),
+    ];
+    for (path, input, printed) in scripts {
+        assert_eq!(file(path), input);
+        assert_eq!(run("script", &input, &WHOLE), samples::text(printed));
+    }
+}
+
+/// Every example, through both programs.
+#[test]
+fn examples() {
+    let folder = Path::new(env!("CARGO_MANIFEST_DIR")).join("../examples");
+    let (mut tables, mut scripts) = (0, 0);
+    for entry in fs::read_dir(folder).expect("the examples") {
+        let path = entry.expect("an example").path();
+        let input = fs::read(&path).expect("an example");
+        match path.extension().and_then(|suffix| suffix.to_str()) {
+            Some("table") => tables += 1,
+            Some("script") => scripts += 1,
+            _ => panic!("{}", path.display()),
+        }
+        let table = table_of_text(&input, Behind::Anything);
+        assert!(table.is_ok(), "{}", path.display());
+        for sizes in [&WHOLE[..], &ODD] {
+            compare_plan(&input, sizes);
+            compare_script(&input, sizes);
+        }
+    }
+    assert!(tables >= 2 && scripts >= 2, "{tables} {scripts}");
+}
+
+#[test]
+fn largest_example() {
+    let text = file("examples/largest.table");
+    let table = table_of_text(&text, Behind::Nothing).expect("it is legal");
+    assert_eq!([table.needs.len(), table.links.len()], [256, 2048]);
+    assert_eq!(text.len(), 27_922);
+}
+
+/// The README's blocks of lines that have only digits, each line closed.
+fn blocks_of_digits(readme: &str) -> Vec<String> {
+    let mut blocks = vec![String::new()];
+    for line in readme.lines() {
+        match line.strip_prefix("    ") {
+            Some(line) if line.bytes().all(|byte| byte.is_ascii_hexdigit()) => {
+                blocks
+                    .last_mut()
+                    .expect("one")
+                    .push_str(&format!("{line}\n"));
+            }
+            _ => blocks.push(String::new()),
+        }
+    }
+    blocks.retain(|block| !block.is_empty());
+    blocks
+}
+
+/// The README's blocks are the sample table and what its commands print, in their order.
+#[test]
+fn readme() {
+    let readme = String::from_utf8(file("README.md")).expect("a text");
+    let commands = readme.split("target/bin/").skip(1).filter_map(|rest| {
+        let (program, rest) = rest.split_once(" < ")?;
+        Some((program, rest.split_whitespace().next()?))
+    });
+    let commands: Vec<(&str, &str)> = commands.collect();
+    let expected = [
+        ("plan", "examples/m2.table"),
+        ("script", "examples/m11.script"),
+    ];
+    assert_eq!(commands, expected);
+    let printed = commands
+        .iter()
+        .map(|(program, path)| run(program, &file(path), &WHOLE));
+    let mut expected = vec![file("examples/m2.table")];
+    expected.extend(printed);
+    let blocks = blocks_of_digits(&readme).into_iter();
+    let blocks: Vec<Vec<u8>> = blocks.map(String::into_bytes).collect();
+    assert_eq!(blocks, expected);
 }
 
 #[test]
@@ -217,4 +305,42 @@ fn memory_for_a_long_line() {
     assert_eq!(output, b"e001\n0000000000\n");
     let output = bounded("plan", &marked(3).text(), &digits, 200);
     assert_eq!(output, b"e006\n");
+}
+
+/// The program's output under valgrind's memory checker, which finds no error and no block left.
+#[track_caller]
+fn run_checked(name: &str, input: &[u8]) -> Vec<u8> {
+    let mut command = Command::new("valgrind");
+    command.args(["-q", "--error-exitcode=9", "--leak-check=full"]);
+    command.args(["--errors-for-leak-kinds=all", "--"]);
+    command.arg(path_of(name));
+    let mut program = Program::of(command);
+    program.feed(input);
+    program.finish()
+}
+
+/// The largest inputs under the memory checker, where it is installed.
+#[test]
+fn checked_memory() {
+    if Command::new("valgrind").arg("--version").output().is_err() {
+        // Not by a macro, whose output is kept back where the test passes.
+        writeln!(stderr(), "checked_memory: skipped, no valgrind on the path").expect("stderr");
+        return;
+    }
+    let text = file("examples/largest.table");
+    let table = table_of_text(&text, Behind::Nothing).expect("it is legal");
+    assert!(run_checked("plan", &text) == plan_output(&text));
+    let random = &mut Random::new(83);
+    let openings = (0..1_000).flat_map(|count| opening(&table, count % 256).line());
+    let behind = [
+        openings.collect(),
+        any_script(&table, 2_000, any_mix(random), random),
+        (0..2_000_000).map(|_| random.byte()).collect(),
+        (0..200_000).map(|_| random.pick(b"0012\n")).collect(),
+    ];
+    for behind in behind {
+        let input = [&text[..], &behind].concat();
+        assert!(run_checked("script", &input) == script::output(&input));
+        assert!(run_checked("plan", &input) == plan_output(&input));
+    }
 }
