@@ -23,7 +23,7 @@ use Rattle.probe_rules.specs.declared.Event.the-variants.{Opening, Offer, Refus
 use Rattle.probe_rules.specs.declared.Outcome.{Outcome}
 use Rattle.probe_rules.specs.Rules.{befalls, entryOf}
 use Rattle.probe_rules.proofs.OutcomeLaws.{entry-same, befalls-same}
-use Rattle.fleet_theory.specs.Fleet.{own, fleetFault, lineFault, eventOf, unsentFault, eventFault, outcomeOf, alterFleet, alteredBy, State, faultOf, answerTo, accepted, next}
+use Rattle.fleet_theory.specs.Fleet.{own, fleetFault, eventLineFault, eventOf, unsentFault, eventFault, outcomeOf, alterFleet, alteredBy, State, faultOf, answerTo, accepted, next}
 use Rattle.fleet.specs.declared.Finishing.the-variants as finishing
 use Rattle.fleet.specs.Answers.{Handled, finishingOf}
 use Rattle.fleet_theory.proofs.Own.{own-same, fleet-same}
@@ -75,7 +75,7 @@ module _ (number probes links : ℕ) (needs lows highs costs : List ℕ) (used r
   pub state-refused : (n : ℕ) → n ≡ orElse (slicesFault x) (fleetFault t r) → (n ≡ 0 → ⊥) → Handled x used room line (Refused n) r r
   state-refused n e some =
       refused-call x used room line r n
-      (or-through n (slicesFault x) (fleetFault t r) (orElse (lineFault t line) (orElse unsent (cond (ltb used room) 0 26))) e some) some
+      (or-through n (slicesFault x) (fleetFault t r) (orElse (eventLineFault t line) (orElse unsent (cond (ltb used room) 0 26))) e some) some
 
   -- 27, as the code finds it
   pub unsent-is : (n p : ℕ) (v : Event) → v ≡ eventOf t f → p ≡ f .from → n ≡ unsentFault v (own (ofSlices 0 0 links [] lows highs []) p r) → n ≡ unsent
@@ -83,27 +83,27 @@ module _ (number probes links : ℕ) (needs lows highs costs : List ℕ) (used r
 
   module _ (fine : slicesFault x ≡ 0) (good : fleetFault t r ≡ 0) where
     -- the fault is the line's
-    of-line : (n : ℕ) → n ≡ orElse (lineFault t line) (orElse unsent (cond (ltb used room) 0 26)) → n ≡ eventFault x r used room line
+    of-line : (n : ℕ) → n ≡ orElse (eventLineFault t line) (orElse unsent (cond (ltb used room) 0 26)) → n ≡ eventFault x r used room line
     of-line n e =
         e
-        ∙ sym (or-none (slicesFault x) (orElse (fleetFault t r) (orElse (lineFault t line) (orElse unsent (cond (ltb used room) 0 26)))) fine
-        ∙ or-none (fleetFault t r) (orElse (lineFault t line) (orElse unsent (cond (ltb used room) 0 26))) good)
+        ∙ sym (or-none (slicesFault x) (orElse (fleetFault t r) (orElse (eventLineFault t line) (orElse unsent (cond (ltb used room) 0 26)))) fine
+        ∙ or-none (fleetFault t r) (orElse (eventLineFault t line) (orElse unsent (cond (ltb used room) 0 26))) good)
 
-    pub line-refused : (n : ℕ) → n ≡ lineFault t line → (n ≡ 0 → ⊥) → Handled x used room line (Refused n) r r
-    line-refused n e some = refused-call x used room line r n (of-line n (or-here n (lineFault t line) (orElse unsent (cond (ltb used room) 0 26)) e some)) some
+    pub line-refused : (n : ℕ) → n ≡ eventLineFault t line → (n ≡ 0 → ⊥) → Handled x used room line (Refused n) r r
+    line-refused n e some = refused-call x used room line r n (of-line n (or-here n (eventLineFault t line) (orElse unsent (cond (ltb used room) 0 26)) e some)) some
 
-    module _ (passed : lineFault t line ≡ 0) where
+    module _ (passed : eventLineFault t line ≡ 0) where
       pub unsent-refused : (n : ℕ) → n ≡ unsent → (n ≡ 0 → ⊥) → Handled x used room line (Refused n) r r
       unsent-refused n e some =
           refused-call x used room line r n
-          (of-line n (or-here n unsent (cond (ltb used room) 0 26) e some ∙ sym (or-none (lineFault t line) (orElse unsent (cond (ltb used room) 0 26)) passed))) some
+          (of-line n (or-here n unsent (cond (ltb used room) 0 26) e some ∙ sym (or-none (eventLineFault t line) (orElse unsent (cond (ltb used room) 0 26)) passed))) some
 
       module _ (sent : unsent ≡ 0) where
         last : (n : ℕ) → n ≡ cond (ltb used room) 0 26 → n ≡ eventFault x r used room line
         last n e =
             of-line n
             (e
-            ∙ sym (or-none (lineFault t line) (orElse unsent (cond (ltb used room) 0 26)) passed
+            ∙ sym (or-none (eventLineFault t line) (orElse unsent (cond (ltb used room) 0 26)) passed
             ∙ or-none unsent (cond (ltb used room) 0 26) sent))
 
         pub full-refused : room ≤ used → Handled x used room line (Refused 26) r r

@@ -28,7 +28,7 @@ use Rattle.wake_log.specs.Entry.{answerOf}
 use Rattle.probe_rules.specs.declared.Event.{Event}
 use Rattle.probe_rules.specs.declared.Event.the-variants.{Opening, Offer, Refusal}
 use Rattle.probe_rules.specs.declared.Outcome.{Outcome}
-use Rattle.probe_rules.specs.declared.Outcome.the-variants.{Opened, NothingToOpen, Taken, Displacing, Refused, Learnt, NoChange}
+use Rattle.probe_rules.specs.declared.Outcome.the-variants.{Opened, NothingToOpen, Taken, TakenDisplacing, Refused, RefusalLearnt, NoChange}
 use Rattle.probe_rules.specs.Rules.{befalls, offer, whatOf, entryOf}
 use Rattle.fleet_theory.specs.Fleet.{outAt, inAt, own, fleetFault, eventFault, eventOf, outcomeOf, alterFleet, alteredBy, State, start, faultOf, answerTo, accepted, next, differs, linkChanges, changes, allChanges}
 use Rattle.table.specs.Slices.{Slices, tableOf, slicesFault}
@@ -37,7 +37,7 @@ use Rattle.probe_rules.specs.Within.{OwnLink, OwnOutcome}
 use Rattle.probe_record.proofs.SearchLaws.{dearest}
 use Rattle.fleet_theory.proofs.Events.{line-step}
 use Rattle.fleet_theory.proofs.Changes.{no-changes}
-use Rattle.fleet_theory.proofs.Run.{slices-legal, Holds, start-holds, fleet-passes, next-holds}
+use Rattle.fleet_theory.proofs.Run.{slices-legal, HoldsAfter, start-holds, fleet-passes, next-holds}
 use Rattle.fleet.specs.Answers.{Handled, changesOf, changesBy, changesIn}
 use Rattle.fleet_state.proofs.CheckLaws.{fleet-good}
 use Rattle.fleet.proofs.Passing.{passed-line}
@@ -47,9 +47,9 @@ abbrev NewBytes : List ℕ → Outcome → Type 0
 NewBytes e (Opened i) = outbound e i ≡ 1 → ⊥
 NewBytes e NothingToOpen = Unit
 NewBytes e (Taken i) = inbound e i ≡ 1 → ⊥
-NewBytes e (Displacing i c) = (inbound e i ≡ 0) × (inbound e c ≡ 1)
+NewBytes e (TakenDisplacing i c) = (inbound e i ≡ 0) × (inbound e c ≡ 1)
 NewBytes e (Refused i) = inbound e i ≡ 2 → ⊥
-NewBytes e (Learnt i) = outbound e i ≡ 2 → ⊥
+NewBytes e (RefusalLearnt i) = outbound e i ≡ 2 → ⊥
 NewBytes e (NoChange i) = Unit
 
 module _ (t : Table) (legal : Legal t) (p : ℕ) (e : List ℕ) where
@@ -175,7 +175,7 @@ module _ (t : Table) (p : ℕ) (r : List ℕ) (long : length r ≡ 4 * t .links)
   outcome-changes (Opened i) a new = out-one i 1 a new
   outcome-changes NothingToOpen a new = no-changes r (t .links)
   outcome-changes (Taken i) a new = in-one i 1 a new
-  outcome-changes (Displacing i c) a new =
+  outcome-changes (TakenDisplacing i c) a new =
       let byte = in-reads t .own-byte r p i (a .0) in
       let held = in-reads t .own-byte r p c (a .1) in
       let zero = new .0 in
@@ -183,7 +183,7 @@ module _ (t : Table) (p : ℕ) (r : List ℕ) (long : length r ≡ 4 * t .links)
       two-changes (t .links) r long (inAt t p i) 1 (inAt t p c) 2 (in-reads t .below p i (a .0)) (in-reads t .below p c (a .1))
       (λ z. let s = ap (item r) z in omega arith) (λ z. omega arith) (λ z. omega arith)
   outcome-changes (Refused i) a new = in-one i 2 a new
-  outcome-changes (Learnt i) a new = out-one i 2 a new
+  outcome-changes (RefusalLearnt i) a new = out-one i 2 a new
   outcome-changes (NoChange i) a new = no-changes r (t .links)
 
 module _ (x : Slices) (fine : slicesFault x ≡ 0) (room : ℕ) where
@@ -225,7 +225,7 @@ module _ (x : Slices) (fine : slicesFault x ≡ 0) (room : ℕ) where
       go false = refl
 
   -- "The count the script program prints is their sum over the accepted events."
-  list-changes : (s : State) → Holds t s → (ls : List (List ℕ)) → allChanges x room s ls ≡ changesIn x room s ls
+  list-changes : (s : State) → HoldsAfter t s → (ls : List (List ℕ)) → allChanges x room s ls ≡ changesIn x room s ls
   unfolding changes changesIn
   list-changes s h [] = none-count (x .links) (λ i. false) (λ i l e. true≢false (sym e))
   list-changes s h (l ∷ ls) =

@@ -14,9 +14,9 @@ use Rattle.plan_theory.proofs.Settled.{Across, up, down}
 use Rattle.probe_frame.specs.Frame.{Frame, frameOf, frameFault}
 use Rattle.probe_rules.specs.Frames.{numberFault}
 use Rattle.probe_rules.specs.Within.{EventWithin}
-use Rattle.fleet_theory.specs.Fleet.{fleetFault, kindFault, endsFault, lineFault, eventOf}
+use Rattle.fleet_theory.specs.Fleet.{fleetFault, eventKindFault, eventEndsFault, eventLineFault, eventOf}
 use Rattle.fleet_theory.proofs.Events.{Says, an-opening, an-offer, a-refusal, says}
-use Rattle.fleet_rules.specs.Survey.{Ready}
+use Rattle.fleet_rules.specs.Survey.{FleetReady}
 use Rattle.fleet_state.proofs.CheckLaws.{fleet-good}
 
 module _ (number probes links : ℕ) (needs lows highs costs : List ℕ) where
@@ -24,7 +24,7 @@ module _ (number probes links : ℕ) (needs lows highs costs : List ℕ) where
   table = ofSlices number probes links needs lows highs costs
 
   pub checked : (r : List ℕ) → LegalSlices 256 2048 (slicesOf number probes links needs lows highs costs) → fleetFault table r ≡ 0
-      → Ready (ofSlices 0 probes links needs lows highs costs) r (length lows) (length highs) (length costs)
+      → FleetReady (ofSlices 0 probes links needs lows highs costs) r (length lows) (length highs) (length costs)
   checked r g e =
       let f = fleet-good table r e in
       record {
@@ -36,12 +36,12 @@ module _ (number probes links : ℕ) (needs lows highs costs : List ℕ) where
       }
 
 -- a line past the checks before 27
-module _ (t : Table) (l : List ℕ) (e : lineFault t l ≡ 0) where
+module _ (t : Table) (l : List ℕ) (e : eventLineFault t l ≡ 0) where
   abbrev f : Frame
   f = frameOf l
 
   pub line-frame : frameFault l ≡ 0
-  line-frame = or-left (frameFault l) (orElse (kindFault f) (orElse (numberFault t f) (endsFault t f))) e
+  line-frame = or-left (frameFault l) (orElse (eventKindFault f) (orElse (numberFault t f) (eventEndsFault t f))) e
 
   pub line-within : EventWithin (t .links) (eventOf t f)
   line-within = go (says t l e)

@@ -15,13 +15,13 @@ use Rattle.range.proofs.Faults.{or-left, or-right, or-none, first-all, none-fir
 use Rattle.table.specs.Table.{Table, item}
 use Rattle.plan_theory.proofs.Settled.{near, back}
 use Rattle.probe_frame.specs.Frame.{Frame, frameOf}
-use Rattle.probe_record.specs.Record.{lengthFault, byteFault, spareFault, recordFault}
+use Rattle.probe_record.specs.Record.{recordLengthFault, byteFault, spareFault, recordFault}
 use Rattle.probe_rules.specs.declared.Outcome.{Outcome}
-use Rattle.probe_rules.specs.declared.Outcome.the-variants.{Opened, NothingToOpen, Taken, Displacing, Refused, Learnt, NoChange}
+use Rattle.probe_rules.specs.declared.Outcome.the-variants.{Opened, NothingToOpen, Taken, TakenDisplacing, Refused, RefusalLearnt, NoChange}
 use Rattle.probe_rules.specs.Rules.{alter}
 use Rattle.probe_rules.specs.Within.{OwnEvent, OwnOutcome}
 use Rattle.probe_theory.proofs.EndLaws.{end-laws}
-use Rattle.fleet_theory.specs.Fleet.{outAt, inAt, own, fleetFault, lineFault, eventFault, eventOf, outcomeOf, alterFleet, alteredBy}
+use Rattle.fleet_theory.specs.Fleet.{outAt, inAt, own, fleetFault, eventLineFault, eventFault, eventOf, outcomeOf, alterFleet, alteredBy}
 use Rattle.table.specs.Slices.{Slices, tableOf, slicesFault}
 use Rattle.fleet_theory.proofs.Own.{length-own}
 use Rattle.fleet_theory.proofs.Bytes.{length-altered}
@@ -32,14 +32,14 @@ use Rattle.fleet_state.specs.Faults.{overTwo}
 use Rattle.fleet_state.proofs.CheckLaws.{fleet-good, own-passes}
 
 -- an accepted line has passed the checks before 27, and 27
-pub passed-line : (x : Slices) (r : List ℕ) (used room : ℕ) (l : List ℕ) → eventFault x r used room l ≡ 0 → (lineFault (tableOf x) l ≡ 0) × NotUnsent (tableOf x) r (frameOf l)
+pub passed-line : (x : Slices) (r : List ℕ) (used room : ℕ) (l : List ℕ) → eventFault x r used room l ≡ 0 → (eventLineFault (tableOf x) l ≡ 0) × NotUnsent (tableOf x) r (frameOf l)
 passed-line x r used room l e =
     let t = tableOf x in
     let full : ℕ = cond (ltb used room) 0 26 in
     let unsent : ℕ = unsentOf t r (frameOf l) in
-    let rest : ℕ = orElse (lineFault t l) (orElse unsent full) in
+    let rest : ℕ = orElse (eventLineFault t l) (orElse unsent full) in
     let a = or-right (fleetFault t r) rest (or-right (slicesFault x) (orElse (fleetFault t r) rest) e) in
-    (or-left (lineFault t l) (orElse unsent full) a, or-left unsent full (or-right (lineFault t l) (orElse unsent full) a))
+    (or-left (eventLineFault t l) (orElse unsent full) a, or-left unsent full (or-right (eventLineFault t l) (orElse unsent full) a))
 
 -- the first n bytes are at most 2
 abbrev Small : ℕ → List ℕ → Type 0
@@ -57,10 +57,10 @@ module _ (t : Table) (p : ℕ) (n : ℕ) (r : List ℕ) (long : length r ≡ n) 
   small-altered (Opened i) = small-set n r (outAt t p i) 1 long (omega arith) each
   small-altered NothingToOpen = each
   small-altered (Taken i) = small-set n r (inAt t p i) 1 long (omega arith) each
-  small-altered (Displacing i c) =
+  small-altered (TakenDisplacing i c) =
       small-set n (set r (inAt t p i) 1) (inAt t p c) 2 (length-set r (inAt t p i) 1 ∙ long) (omega arith) (small-set n r (inAt t p i) 1 long (omega arith) each)
   small-altered (Refused i) = small-set n r (inAt t p i) 2 long (omega arith) each
-  small-altered (Learnt i) = small-set n r (outAt t p i) 2 long (omega arith) each
+  small-altered (RefusalLearnt i) = small-set n r (outAt t p i) 2 long (omega arith) each
   small-altered (NoChange i) = each
 
 module _ (x : Slices) (fine : slicesFault x ≡ 0) (r : List ℕ) (good : fleetFault (tableOf x) r ≡ 0) where
@@ -89,11 +89,11 @@ module _ (x : Slices) (fine : slicesFault x ≡ 0) (r : List ℕ) (good : fleetF
   own-fault : (p : ℕ) → p < t .probes → recordFault t p (own t p r) ≡ 0
   own-fault p l =
       let e = own t p r in
-      or-none (lengthFault t e) (orElse (first (byteFault t p e) (t .links)) (spareFault t p e)) (rw (eq-eqb (length e) (2 * t .links) (length-own t p r)))
+      or-none (recordLengthFault t e) (orElse (first (byteFault t p e) (t .links)) (spareFault t p e)) (rw (eq-eqb (length e) (2 * t .links) (length-own t p r)))
       ∙ or-none (first (byteFault t p e) (t .links)) (spareFault t p e) (own-passes t p r (fleet-good t r good .1))
       ∙ spares-pass p l
 
-  module _ (l : List ℕ) (line : lineFault t l ≡ 0) (sent : NotUnsent t r (frameOf l)) where
+  module _ (l : List ℕ) (line : eventLineFault t l ≡ 0) (sent : NotUnsent t r (frameOf l)) where
     abbrev f : Frame
     f = frameOf l
 
@@ -122,7 +122,7 @@ module _ (x : Slices) (fine : slicesFault x ≡ 0) (r : List ℕ) (good : fleetF
             let a = end-laws t (slices-legal x fine) p .stays-usable (eventOf t f) (own t p r) (own-fault p (omega arith)) own-event in
             let e′ = alter o (own t p r) in
             rw (e, own-altered t p r long o own-links)
-            (or-right (first (byteFault t p e′) (t .links)) (spareFault t p e′) (or-right (lengthFault t e′) (orElse (first (byteFault t p e′) (t .links)) (spareFault t p e′)) a))
+            (or-right (first (byteFault t p e′) (t .links)) (spareFault t p e′) (or-right (recordLengthFault t e′) (orElse (first (byteFault t p e′) (t .links)) (spareFault t p e′)) a))
         go (no d) = rw (own-else t p r long o own-links q d) (spares-pass q b)
 
     pub record-stays : fleetFault t (alteredBy t r f) ≡ 0

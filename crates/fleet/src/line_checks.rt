@@ -10,8 +10,8 @@ ghost use Rattle.table.specs.Table.{ofSlices, between};
 ghost use Rattle.probe_frame.specs.Frame.{frameOf, frameFault};
 ghost use Rattle.probe_rules.specs.declared.Event.the-variants.{Opening, Offer, Refusal};
 ghost use Rattle.probe_rules.specs.Within.{EventWithin};
-ghost use Rattle.table_links.specs.Ordered.{Ordered};
-ghost use Rattle.fleet_theory.specs.Fleet.{own, endsFault, lineFault, unsentFault};
+ghost use Rattle.table_links.specs.RisingSlices.{RisingSlices};
+ghost use Rattle.fleet_theory.specs.Fleet.{own, eventEndsFault, eventLineFault, unsentFault};
 
 fn refused(fault: u8) -> Ends
     ensures { λ r. ⌜ r ≡ record { fault = fault; link = 0 } ⌝ }
@@ -29,8 +29,8 @@ fn find_ends(
     from: usize,
     to: usize,
 ) -> Ends
-    requires { ⌜ Ordered links (now lows) (now highs) ⌝ }
-    ensures { λ r. ⌜ (r .fault ≡ endsFault (ofSlices 0 probes links [] (now (lows .entry)) (now (highs .entry)) []) (record { kind = kind; number = 0; from = from; to = to }))
+    requires { ⌜ RisingSlices links (now lows) (now highs) ⌝ }
+    ensures { λ r. ⌜ (r .fault ≡ eventEndsFault (ofSlices 0 probes links [] (now (lows .entry)) (now (highs .entry)) []) (record { kind = kind; number = 0; from = from; to = to }))
         × (r .fault ≡ 0 → eqb kind 0 ≡ false → r .link ≡ between (ofSlices 0 probes links [] (now (lows .entry)) (now (highs .entry)) []) from to) ⌝ }
 {
     if kind == 0 {
@@ -58,8 +58,8 @@ pub fn check_line(
     highs: &[u16],
     line: &[u8],
 ) -> Ends
-    requires { ⌜ Ordered links (now lows) (now highs) ⌝ }
-    ensures { λ r. ⌜ (r .fault ≡ lineFault (ofSlices number probes links [] (now (lows .entry)) (now (highs .entry)) []) (now (line .entry)))
+    requires { ⌜ RisingSlices links (now lows) (now highs) ⌝ }
+    ensures { λ r. ⌜ (r .fault ≡ eventLineFault (ofSlices number probes links [] (now (lows .entry)) (now (highs .entry)) []) (now (line .entry)))
         × (r .fault ≡ 0 → eqb (frameOf (now (line .entry)) .kind) 0 ≡ false → r .link ≡ between (ofSlices 0 probes links [] (now (lows .entry)) (now (highs .entry)) []) (frameOf (now (line .entry)) .from) (frameOf (now (line .entry)) .to)) ⌝ }
 {
     let fault = probe_frame::frame_line::frame_fault(line);

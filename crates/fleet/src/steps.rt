@@ -6,7 +6,7 @@ ghost use Rattle.probe_rules.specs.Rules.{befalls, entryOf};
 ghost use Rattle.probe_rules.specs.Within.{EventWithin};
 ghost use Rattle.fleet_theory.specs.Fleet.{own, fleetFault, alterFleet};
 ghost use Rattle.table.specs.Slices.{slicesFault, tableOf, slicesOf};
-ghost use Rattle.fleet_rules.specs.Survey.{Ready};
+ghost use Rattle.fleet_rules.specs.Survey.{FleetReady};
 ghost use Rattle.fleet.specs.Answers.{Handled};
 
 // Lets the event befall the probe: the fleet's record altered, and the entry.
@@ -21,7 +21,7 @@ fn apply(
     probe: u16,
     rec: &mut [u8],
 ) -> wake_log::Entry
-    requires { ⌜ Ready (ofSlices 0 probes links (now needs) (now lows) (now highs) (now costs)) (now rec) (length (now lows)) (length (now highs)) (length (now costs)) × EventWithin links event ⌝ }
+    requires { ⌜ FleetReady (ofSlices 0 probes links (now needs) (now lows) (now highs) (now costs)) (now rec) (length (now lows)) (length (now highs)) (length (now costs)) × EventWithin links event ⌝ }
     ensures { λ r. ⌜ (r ≡ entryOf (ofSlices 0 probes links (now (needs .entry)) (now (lows .entry)) (now (highs .entry)) (now (costs .entry))) probe
         (befalls (ofSlices 0 probes links (now (needs .entry)) (now (lows .entry)) (now (highs .entry)) (now (costs .entry))) probe event (own (ofSlices 0 probes links (now (needs .entry)) (now (lows .entry)) (now (highs .entry)) (now (costs .entry))) probe (now (rec .entry)))))
         × (now (rec .exit) ≡ alterFleet (ofSlices 0 probes links (now (needs .entry)) (now (lows .entry)) (now (highs .entry)) (now (costs .entry))) probe

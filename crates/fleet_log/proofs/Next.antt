@@ -15,10 +15,10 @@ use Rattle.probe_frame.specs.Frame.{frameOf}
 use Rattle.wake_log.specs.declared.Entry.{Entry}
 use Rattle.wake_log.specs.declared.Answer.{Answer}
 use Rattle.probe_rules.specs.Rules.{entryOf}
-use Rattle.fleet_theory.specs.Fleet.{fleetFault, lineFault, unsentFault, eventOf, own, outcomeOf, State, faultOf, answerTo, accepted, next}
+use Rattle.fleet_theory.specs.Fleet.{fleetFault, eventLineFault, unsentFault, eventOf, own, outcomeOf, State, faultOf, answerTo, accepted, next}
 use Rattle.table.specs.Slices.{Slices, tableOf, slicesFault}
 use Rattle.fleet.proofs.Calls.{handled-next}
-use Rattle.fleet_log.specs.Logged.{Logs}
+use Rattle.fleet_log.specs.Logged.{LogsInFleet}
 
 -- an accepted line has room in the log
 room-free : (x : Slices) (room : ℕ) (s : State) (l : List ℕ) → faultOf x room s l ≡ 0 → length (s .log) < room
@@ -28,10 +28,10 @@ room-free x room s l e =
     let sent = unsentFault (eventOf t f) (own t (f .from) (s .bytes)) in
     let full : ℕ = cond (ltb (length (s .log)) room) 0 26 in
     ltb-true (length (s .log)) room (unless-none (ltb (length (s .log)) room) 25
-    (or-right sent full (or-right (lineFault t l) (orElse sent full) (or-right (fleetFault t (s .bytes)) (orElse (lineFault t l) (orElse sent full)) (or-right (slicesFault x) (orElse (fleetFault t (s .bytes)) (orElse (lineFault t l) (orElse sent full))) e)))))
+    (or-right sent full (or-right (eventLineFault t l) (orElse sent full) (or-right (fleetFault t (s .bytes)) (orElse (eventLineFault t l) (orElse sent full)) (or-right (slicesFault x) (orElse (fleetFault t (s .bytes)) (orElse (eventLineFault t l) (orElse sent full))) e)))))
 
 -- where the used entries are the list's log: so are those used after it
-pub logged-next : (x : Slices) (s : State) (l : List ℕ) (r : Answer) (after : List ℕ) (log log′ : List Entry) → take (length (s .log)) log ≡ s .log → Logs x (length (s .log)) l r (s .bytes) after log log′
+pub logged-next : (x : Slices) (s : State) (l : List ℕ) (r : Answer) (after : List ℕ) (log log′ : List Entry) → take (length (s .log)) log ≡ s .log → LogsInFleet x (length (s .log)) l r (s .bytes) after log log′
     → (r ≡ answerTo x (length log) s l) × (after ≡ next x (length log) s l .bytes) × (take (length (next x (length log) s l .log)) log′ ≡ next x (length log) s l .log)
 unfolding next
 logged-next x s l r after log log′ same h =

@@ -17,7 +17,7 @@ use Rattle.table.specs.Slices.{Slices, tableOf}
 use Rattle.fleet.specs.Answers.{Handled}
 
 -- the line's answer and record as without a log; the log has the entry behind its used ones, or is unchanged
-pub record Logs (x : Slices) (used : ℕ) (line : List ℕ) (r : Answer) (before after : List ℕ) (log log′ : List Entry) : Type 0 where
+pub record LogsInFleet (x : Slices) (used : ℕ) (line : List ℕ) (r : Answer) (before after : List ℕ) (log log′ : List Entry) : Type 0 where
   pub handled : Handled x used (length log) line r before after
   pub log-after : log′ ≡ cond (eqb (eventFault x before used (length log) line) 0) (set log used (entryOf (tableOf x) (frameOf line .to) (outcomeOf (tableOf x) before (frameOf line)))) log
 

@@ -1,6 +1,6 @@
 // A fleet's lines with its wake log: a lent slice of entries, and the count of its used ones.
 ghost use Rattle.table.specs.Slices.{slicesOf};
-ghost use Rattle.fleet_log.specs.Logged.{ToldLine, Logs};
+ghost use Rattle.fleet_log.specs.Logged.{ToldLine, LogsInFleet};
 use wake_log::storing::Told;
 
 fn event_told(
@@ -49,7 +49,7 @@ pub fn event_logged(
     log: &mut [wake_log::Entry],
     used: usize,
 ) -> wake_log::Answer
-    ensures { λ r. ⌜ Logs (slicesOf number probes links (now (needs .entry)) (now (lows .entry)) (now (highs .entry)) (now (costs .entry)))
+    ensures { λ r. ⌜ LogsInFleet (slicesOf number probes links (now (needs .entry)) (now (lows .entry)) (now (highs .entry)) (now (costs .entry)))
         used (now (line .entry)) r (now (rec .entry)) (now (rec .exit)) (now (log .entry)) (now (log .exit)) ⌝ }
 {
     let t = event_told(

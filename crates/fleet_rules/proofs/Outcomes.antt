@@ -6,7 +6,7 @@ use mathlib.Core.List.{List}
 use borrow.Author.Tests.{lt-ltb, le-ltb}
 use Rattle.table.specs.Table.{Table, spare, dearer, cheaper}
 use Rattle.probe_record.specs.Record.{outbound, inbound, standing, held, dearestUntried, cheapestHeld}
-use Rattle.probe_rules.specs.declared.Outcome.the-variants.{Opened, NothingToOpen, Taken, Displacing, Refused}
+use Rattle.probe_rules.specs.declared.Outcome.the-variants.{Opened, NothingToOpen, Taken, TakenDisplacing, Refused}
 use Rattle.probe_rules.specs.Rules.{opening, offer}
 use Rattle.fleet_rules.specs.Survey.{Surveyed}
 use Rattle.fleet_rules.specs.declared.Survey.{Survey}
@@ -47,7 +47,7 @@ module _ (t : Table) (p : ℕ) (e : List ℕ) (s : Survey) (n : ℕ) (k : n ≡ 
     pub offer-none : n ≤ s .count → t .links ≤ s .best → Refused i ≡ offer t p e i
     offer-none l m = rw (held-is, room-is, cheapest-is, le-ltb (s .count) n l, le-ltb (s .best) (t .links) m)
 
-    pub offer-displacing : n ≤ s .count → s .best < t .links → dearer t i (s .best) ≡ true → Displacing i (s .best) ≡ offer t p e i
+    pub offer-displacing : n ≤ s .count → s .best < t .links → dearer t i (s .best) ≡ true → TakenDisplacing i (s .best) ≡ offer t p e i
     offer-displacing l m d = rw (held-is, room-is, cheapest-is, le-ltb (s .count) n l, lt-ltb (s .best) (t .links) m, d)
 
     pub offer-refused : n ≤ s .count → s .best < t .links → dearer t i (s .best) ≡ false → Refused i ≡ offer t p e i

@@ -13,7 +13,7 @@ use Rattle.probe_record.specs.Record.{outbound, inbound, ownWith}
 use Rattle.fleet_rules.specs.declared.Survey.{Survey}
 
 -- a legal table in slices of these lengths, and a fleet's record of its length
-pub record Ready (t : Table) (r : List ℕ) (lows highs costs : ℕ) : Type 0 where
+pub record FleetReady (t : Table) (r : List ℕ) (lows highs costs : ℕ) : Type 0 where
   pub legal : Legal t
   pub in-lows : t .links ≤ lows
   pub in-highs : t .links ≤ highs

@@ -12,7 +12,7 @@ ghost use Rattle.table.specs.Table.{item, ofSlices};
 ghost use Rattle.probe_rules.specs.Rules.{opening, offer, befalls};
 ghost use Rattle.probe_rules.specs.Within.{EventWithin};
 ghost use Rattle.fleet_theory.specs.Fleet.{own};
-ghost use Rattle.fleet_rules.specs.Survey.{Ready, sideByte, sideBetter, Surveyed};
+ghost use Rattle.fleet_rules.specs.Survey.{FleetReady, sideByte, sideBetter, Surveyed};
 
 fn one_if(byte: u8) -> usize
     ensures { λ r. ⌜ r ≡ cond (eqb byte 1) 1 0 ⌝ }
@@ -79,7 +79,7 @@ fn survey(
     costs: &[u16],
     probe: usize,
 ) -> Survey
-    requires { ⌜ Ready (ofSlices 0 probes links (now needs) (now lows) (now highs) (now costs)) (now rec) (length (now lows)) (length (now highs)) (length (now costs)) ⌝ }
+    requires { ⌜ FleetReady (ofSlices 0 probes links (now needs) (now lows) (now highs) (now costs)) (now rec) (length (now lows)) (length (now highs)) (length (now costs)) ⌝ }
     ensures { λ r. ⌜ Surveyed (ofSlices 0 probes links (now (needs .entry)) (now (lows .entry)) (now (highs .entry)) (now (costs .entry))) probe (sideByte value (own (ofSlices 0 probes links (now (needs .entry)) (now (lows .entry)) (now (highs .entry)) (now (costs .entry))) probe (now (rec .entry)))) (sideBetter value (ofSlices 0 probes links (now (needs .entry)) (now (lows .entry)) (now (highs .entry)) (now (costs .entry)))) value links r ⌝ }
 {
     let mut s = Survey {
@@ -128,7 +128,7 @@ fn decide_opening(
     costs: &[u16],
     probe: usize,
 ) -> Outcome
-    requires { ⌜ Ready (ofSlices 0 probes links (now needs) (now lows) (now highs) (now costs)) (now rec) (length (now lows)) (length (now highs)) (length (now costs)) ⌝ }
+    requires { ⌜ FleetReady (ofSlices 0 probes links (now needs) (now lows) (now highs) (now costs)) (now rec) (length (now lows)) (length (now highs)) (length (now costs)) ⌝ }
     ensures { λ r. ⌜ r ≡ opening (ofSlices 0 probes links (now (needs .entry)) (now (lows .entry)) (now (highs .entry)) (now (costs .entry))) probe (own (ofSlices 0 probes links (now (needs .entry)) (now (lows .entry)) (now (highs .entry)) (now (costs .entry))) probe (now (rec .entry))) ⌝ }
 {
     let s = survey(0, rec, probes, links, needs, lows, highs, costs, probe);
@@ -152,7 +152,7 @@ fn decide_offer(
     probe: usize,
     i: usize,
 ) -> Outcome
-    requires { ⌜ Ready (ofSlices 0 probes links (now needs) (now lows) (now highs) (now costs)) (now rec) (length (now lows)) (length (now highs)) (length (now costs)) × (i < links) ⌝ }
+    requires { ⌜ FleetReady (ofSlices 0 probes links (now needs) (now lows) (now highs) (now costs)) (now rec) (length (now lows)) (length (now highs)) (length (now costs)) × (i < links) ⌝ }
     ensures { λ r. ⌜ r ≡ offer (ofSlices 0 probes links (now (needs .entry)) (now (lows .entry)) (now (highs .entry)) (now (costs .entry))) probe (own (ofSlices 0 probes links (now (needs .entry)) (now (lows .entry)) (now (highs .entry)) (now (costs .entry))) probe (now (rec .entry))) i ⌝ }
 {
     let s = survey(1, rec, probes, links, needs, lows, highs, costs, probe);
@@ -164,7 +164,7 @@ fn decide_offer(
         return Outcome::Refused(i);
     }
     if table_links::order::dearer(costs, i, displaced) {
-        return Outcome::Displacing { link: i, displaced };
+        return Outcome::TakenDisplacing { link: i, displaced };
     }
     Outcome::Refused(i)
 }
@@ -181,7 +181,7 @@ pub fn decide(
     costs: &[u16],
     probe: usize,
 ) -> Outcome
-    requires { ⌜ Ready (ofSlices 0 probes links (now needs) (now lows) (now highs) (now costs)) (now rec) (length (now lows)) (length (now highs)) (length (now costs)) × EventWithin links event ⌝ }
+    requires { ⌜ FleetReady (ofSlices 0 probes links (now needs) (now lows) (now highs) (now costs)) (now rec) (length (now lows)) (length (now highs)) (length (now costs)) × EventWithin links event ⌝ }
     ensures { λ r. ⌜ r ≡ befalls (ofSlices 0 probes links (now (needs .entry)) (now (lows .entry)) (now (highs .entry)) (now (costs .entry))) probe event (own (ofSlices 0 probes links (now (needs .entry)) (now (lows .entry)) (now (highs .entry)) (now (costs .entry))) probe (now (rec .entry))) ⌝ }
 {
     match event {
@@ -196,7 +196,7 @@ pub fn decide(
             if super::own_bytes::out_byte(rec, lows, highs, probe, i) == 2 {
                 return Outcome::NoChange(i);
             }
-            Outcome::Learnt(i)
+            Outcome::RefusalLearnt(i)
         }
     }
 }

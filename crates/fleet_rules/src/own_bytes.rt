@@ -69,7 +69,7 @@ pub fn alter_fleet(rec: &mut [u8], outcome: probe_rules::Outcome, lows: &[u16], 
             let at = in_at(lows, probe, i);
             rec[at] = 1;
         }
-        probe_rules::Outcome::Displacing { link, displaced } => {
+        probe_rules::Outcome::TakenDisplacing { link, displaced } => {
             let at = in_at(lows, probe, link);
             let next = in_at(lows, probe, displaced);
             rec[at] = 1;
@@ -79,7 +79,7 @@ pub fn alter_fleet(rec: &mut [u8], outcome: probe_rules::Outcome, lows: &[u16], 
             let at = in_at(lows, probe, i);
             rec[at] = 2;
         }
-        probe_rules::Outcome::Learnt(i) => {
+        probe_rules::Outcome::RefusalLearnt(i) => {
             let at = out_at(lows, probe, i);
             rec[at] = 2;
         }

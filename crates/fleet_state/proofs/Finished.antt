@@ -17,9 +17,9 @@ use Rattle.table.specs.Table.{Table, item, degree, dearer}
 use Rattle.table.specs.Legal.{Legal}
 use Rattle.table.proofs.LegalLaws.{legal-table}
 use Rattle.probe_record.specs.Record.{outbound, ownWith}
-use Rattle.fleet_theory.specs.Fleet.{own, opens, stirs, finished}
+use Rattle.fleet_theory.specs.Fleet.{own, opens, alters, finished}
 use Rattle.fleet_theory.proofs.Bytes.{first-byte, second-byte, third-byte, fourth-byte}
-use Rattle.fleet_state.specs.Stirring.{mayOpen, mayStir}
+use Rattle.fleet_state.specs.Altering.{mayOpen, mayAlter}
 use Rattle.fleet_state.proofs.CountLaws.{countedAt, outs-counted}
 
 -- a set with a member is not empty
@@ -60,8 +60,8 @@ module _ (better : ℕ → ℕ → Bool) (p : ℕ → Bool) (n₀ : ℕ) where
       go (inr e) h = rw e (h ∙ ap (ltb 0) (sym (add-zero (count n p))))
 
 -- a frame that may be sent on the link i would alter a byte, by its four bytes
-abbrev pub stirsOf : List ℕ → ℕ → Bool
-stirsOf r i = mayStir (item r (4 * i)) (item r (4 * i + 1)) || mayStir (item r (4 * i + 2)) (item r (4 * i + 3))
+abbrev pub altersOf : List ℕ → ℕ → Bool
+altersOf r i = mayAlter (item r (4 * i)) (item r (4 * i + 1)) || mayAlter (item r (4 * i + 2)) (item r (4 * i + 3))
 
 module _ (t : Table) (r : List ℕ) where
   -- an opening of v would open a link, by its counts
@@ -70,19 +70,19 @@ module _ (t : Table) (r : List ℕ) where
   open-counted v d s u ed es eu =
       rw (ed, es ∙ outs-counted t r v 1, eu ∙ outs-counted t r v 0, best-some (dearer t) (ownWith t v (outbound (own t v r)) 0) (t .links) (t .links) (omega arith))
 
-  stirs-at : Legal t → (i : ℕ) → i < t .links → stirsOf r i ≡ (stirs t r (t .low i) (t .high i) i || stirs t r (t .high i) (t .low i) i)
-  stirs-at legal i l =
+  alters-at : Legal t → (i : ℕ) → i < t .links → altersOf r i ≡ (alters t r (t .low i) (t .high i) i || alters t r (t .high i) (t .low i) i)
+  alters-at legal i l =
       let s = legal-table 256 2048 t legal in
       rw (first-byte t s r i l, second-byte t s r i l, third-byte t s r i l, fourth-byte t s r i l)
 
-  pub finished-is : Legal t → finished t r ≡ (eqb (count (t .probes) (opens t r)) 0 && eqb (count (t .links) (stirsOf r)) 0)
+  pub finished-is : Legal t → finished t r ≡ (eqb (count (t .probes) (opens t r)) 0 && eqb (count (t .links) (altersOf r)) 0)
   unfolding finished
   finished-is legal =
-      rw (weigh-same (t .links) (stirsOf r) (λ i. stirs t r (t .low i) (t .high i) i || stirs t r (t .high i) (t .low i) i) (λ i. 1) (stirs-at legal))
+      rw (weigh-same (t .links) (altersOf r) (λ i. alters t r (t .low i) (t .high i) i || alters t r (t .high i) (t .low i) i) (λ i. 1) (alters-at legal))
 
-  pub not-finished : Legal t → (b : Bool) → b ≡ eqb (count (t .links) (stirsOf r)) 0 → b ≡ false → false ≡ finished t r
+  pub not-finished : Legal t → (b : Bool) → b ≡ eqb (count (t .links) (altersOf r)) 0 → b ≡ false → false ≡ finished t r
   not-finished legal b e z =
       sym (finished-is legal ∙ rw (sym e ∙ z) (and-false (eqb (count (t .probes) (opens t r)) 0)))
 
-  pub finished-counted : Legal t → (b d : Bool) → b ≡ eqb (count (t .links) (stirsOf r)) 0 → b ≡ true → d ≡ eqb (count (t .probes) (opens t r)) 0 → d ≡ finished t r
+  pub finished-counted : Legal t → (b d : Bool) → b ≡ eqb (count (t .links) (altersOf r)) 0 → b ≡ true → d ≡ eqb (count (t .probes) (opens t r)) 0 → d ≡ finished t r
   finished-counted legal b d e z f = f ∙ sym (finished-is legal ∙ rw (sym e ∙ z) (and-true (eqb (count (t .probes) (opens t r)) 0)))

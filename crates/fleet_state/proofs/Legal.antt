@@ -6,15 +6,15 @@ use Rattle.table.specs.Table.{Table, item, ofSlices}
 use Rattle.table.specs.Legal.{Ends}
 use Rattle.table.specs.Slices.{LegalSlices, slicesOf}
 use Rattle.table.proofs.LegalLaws.{legal-table}
-use Rattle.fleet_state.specs.Within.{Fits}
+use Rattle.fleet_state.specs.Within.{LegalWithoutCosts}
 
 -- the ends of a link are probes
-pub fits-ends : (probes links : ℕ) (needs lows highs : List ℕ) → Fits probes links needs lows highs → (i : ℕ) → i < links → Ends 256 (item lows i) (item highs i)
+pub fits-ends : (probes links : ℕ) (needs lows highs : List ℕ) → LegalWithoutCosts probes links needs lows highs → (i : ℕ) → i < links → Ends 256 (item lows i) (item highs i)
 fits-ends probes links needs lows highs f i l =
     let t : Table = ofSlices 0 probes links needs lows highs [] in
     let g = legal-table 256 2048 t (f .legal) in
     let e = g .ends i l in
     record { rises = e .rises; below = omega (arith, e .below, g .size .few) }
 
-pub fits : (number probes links : ℕ) (needs lows highs costs : List ℕ) → LegalSlices 256 2048 (slicesOf number probes links needs lows highs costs) → Fits probes links needs lows highs
+pub fits : (number probes links : ℕ) (needs lows highs costs : List ℕ) → LegalSlices 256 2048 (slicesOf number probes links needs lows highs costs) → LegalWithoutCosts probes links needs lows highs
 fits number probes links needs lows highs costs g = record { legal = g .legal; in-needs = g .in-needs; in-lows = g .in-lows; in-highs = g .in-highs }

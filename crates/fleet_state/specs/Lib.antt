@@ -1,3 +1,3 @@
 pub mod Within
 pub mod Faults
-pub mod Stirring
+pub mod Altering

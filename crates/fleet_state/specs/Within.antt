@@ -13,7 +13,7 @@ endWith low high r k m value v i =
     cond (eqb v (low i)) (eqb (item r (4 * i + k)) value) (eqb v (high i) && eqb (item r (4 * i + m)) value)
 
 -- a legal table in slices that are long enough; costs do not bear on it
-pub record Fits (probes links : ℕ) (needs lows highs : List ℕ) : Type 0 where
+pub record LegalWithoutCosts (probes links : ℕ) (needs lows highs : List ℕ) : Type 0 where
   pub legal : Legal (ofSlices 0 probes links needs lows highs [])
   pub in-needs : probes ≤ length needs
   pub in-lows : links ≤ length lows

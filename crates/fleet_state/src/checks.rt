@@ -9,7 +9,7 @@ ghost use Rattle.probe_record.specs.Record.{spareFault};
 ghost use Rattle.table.specs.Table.{item, ofSlices};
 ghost use Rattle.fleet_theory.specs.Fleet.{own, fleetFault};
 ghost use Rattle.fleet_state.specs.Faults.{overTwo, overFault};
-ghost use Rattle.fleet_state.specs.Within.{Fits};
+ghost use Rattle.fleet_state.specs.Within.{LegalWithoutCosts};
 
 // 21.
 fn bytes_fault(rec: &[u8], n: usize) -> u8
@@ -60,7 +60,7 @@ fn spares_fault(
     highs: &[u16],
     rec: &[u8],
 ) -> u8
-    requires { ⌜ Fits probes links (now needs) (now lows) (now highs) × (4 * links ≤ length (now rec)) ⌝ }
+    requires { ⌜ LegalWithoutCosts probes links (now needs) (now lows) (now highs) × (4 * links ≤ length (now rec)) ⌝ }
     ensures { λ r. ⌜ r ≡ first (λ p. spareFault (ofSlices 0 probes links (now (needs .entry)) (now (lows .entry)) (now (highs .entry)) []) p
         (own (ofSlices 0 probes links (now (needs .entry)) (now (lows .entry)) (now (highs .entry)) []) p (now (rec .entry)))) probes ⌝ }
 {
@@ -82,7 +82,7 @@ fn fleet_fault(
     highs: &[u16],
     rec: &[u8],
 ) -> u8
-    requires { ⌜ Fits probes links (now needs) (now lows) (now highs) ⌝ }
+    requires { ⌜ LegalWithoutCosts probes links (now needs) (now lows) (now highs) ⌝ }
     ensures { λ r. ⌜ r ≡ fleetFault (ofSlices 0 probes links (now (needs .entry)) (now (lows .entry)) (now (highs .entry)) []) (now (rec .entry)) ⌝ }
 {
     if rec.len() != 4 * links {

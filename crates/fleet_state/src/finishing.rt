@@ -8,12 +8,12 @@ ghost use lib.ListN.{length};
 ghost use Rattle.range.specs.Sum.{count};
 ghost use Rattle.table.specs.Table.{item, ofSlices};
 ghost use Rattle.fleet_theory.specs.Fleet.{finished};
-ghost use Rattle.fleet_state.specs.Within.{Fits};
-ghost use Rattle.fleet_state.specs.Stirring.{mayOpen, mayStir};
+ghost use Rattle.fleet_state.specs.Within.{LegalWithoutCosts};
+ghost use Rattle.fleet_state.specs.Altering.{mayOpen, mayAlter};
 
 // Whether a frame that may be sent would alter a byte.
-fn may_stir(out: u8, into: u8) -> bool
-    ensures { λ r. ⌜ r ≡ mayStir out into ⌝ }
+fn may_alter(out: u8, into: u8) -> bool
+    ensures { λ r. ⌜ r ≡ mayAlter out into ⌝ }
 {
     if into == 2 {
         return out != 2;
@@ -25,16 +25,16 @@ fn may_stir(out: u8, into: u8) -> bool
 }
 
 // Whether no frame that may be sent would alter a byte.
-fn none_stirs(rec: &[u8], links: usize) -> bool
+fn none_alters(rec: &[u8], links: usize) -> bool
     requires { ⌜ 4 * links ≤ length (now rec) ⌝ }
-    ensures { λ r. ⌜ r ≡ eqb (count links (λ i. mayStir (item (now (rec .entry)) (4 * i)) (item (now (rec .entry)) (4 * i + 1)) || mayStir (item (now (rec .entry)) (4 * i + 2)) (item (now (rec .entry)) (4 * i + 3)))) 0 ⌝ }
+    ensures { λ r. ⌜ r ≡ eqb (count links (λ i. mayAlter (item (now (rec .entry)) (4 * i)) (item (now (rec .entry)) (4 * i + 1)) || mayAlter (item (now (rec .entry)) (4 * i + 2)) (item (now (rec .entry)) (4 * i + 3)))) 0 ⌝ }
 {
     let mut i = 0;
     while i < links {
-        if may_stir(rec[4 * i], rec[4 * i + 1]) {
+        if may_alter(rec[4 * i], rec[4 * i + 1]) {
             return false;
         }
-        if may_stir(rec[4 * i + 2], rec[4 * i + 3]) {
+        if may_alter(rec[4 * i + 2], rec[4 * i + 3]) {
             return false;
         }
         i += 1;
@@ -77,10 +77,10 @@ pub fn is_finished(
     highs: &[u16],
     rec: &[u8],
 ) -> bool
-    requires { ⌜ Fits probes links (now needs) (now lows) (now highs) × (4 * links ≤ length (now rec)) ⌝ }
+    requires { ⌜ LegalWithoutCosts probes links (now needs) (now lows) (now highs) × (4 * links ≤ length (now rec)) ⌝ }
     ensures { λ r. ⌜ ((number : ℕ) (costs : List ℕ) → r ≡ finished (ofSlices number probes links (now (needs .entry)) (now (lows .entry)) (now (highs .entry)) costs) (now (rec .entry))) ⌝ }
 {
-    if !none_stirs(rec, links) {
+    if !none_alters(rec, links) {
         return false;
     }
     let mut degrees = [0u16; 256];

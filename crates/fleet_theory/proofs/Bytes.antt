@@ -12,7 +12,7 @@ use Rattle.table.specs.Table.{Table, item}
 use Rattle.table.specs.Legal.{LegalTable}
 use Rattle.plan_theory.proofs.Plan.{touches-low, touches-high}
 use Rattle.probe_rules.specs.declared.Outcome.{Outcome}
-use Rattle.probe_rules.specs.declared.Outcome.the-variants.{Opened, NothingToOpen, Taken, Displacing, Refused, Learnt, NoChange}
+use Rattle.probe_rules.specs.declared.Outcome.the-variants.{Opened, NothingToOpen, Taken, TakenDisplacing, Refused, RefusalLearnt, NoChange}
 use Rattle.probe_rules.specs.Within.{OwnLink, OwnOutcome}
 use Rattle.fleet_theory.proofs.EndState.{store, Same}
 use Rattle.fleet_theory.specs.Fleet.{outAt, inAt, alterFleet}
@@ -63,27 +63,27 @@ abbrev pub storedOut : ℕ → Outcome → (ℕ → ℕ → ℕ) → ℕ → ℕ
 storedOut p (Opened i) o = store o p i 1
 storedOut p NothingToOpen o = o
 storedOut p (Taken i) o = o
-storedOut p (Displacing i c) o = o
+storedOut p (TakenDisplacing i c) o = o
 storedOut p (Refused i) o = o
-storedOut p (Learnt i) o = store o p i 2
+storedOut p (RefusalLearnt i) o = store o p i 2
 storedOut p (NoChange i) o = o
 
 abbrev pub storedIn : ℕ → Outcome → (ℕ → ℕ → ℕ) → ℕ → ℕ → ℕ
 storedIn p (Opened i) n = n
 storedIn p NothingToOpen n = n
 storedIn p (Taken i) n = store n p i 1
-storedIn p (Displacing i c) n = store (store n p i 1) p c 2
+storedIn p (TakenDisplacing i c) n = store (store n p i 1) p c 2
 storedIn p (Refused i) n = store n p i 2
-storedIn p (Learnt i) n = n
+storedIn p (RefusalLearnt i) n = n
 storedIn p (NoChange i) n = n
 
 pub length-altered : (t : Table) (p : ℕ) (o : Outcome) (r : List ℕ) → length (alterFleet t p o r) ≡ length r
 length-altered t p (Opened i) r = length-set r (outAt t p i) 1
 length-altered t p NothingToOpen r = refl
 length-altered t p (Taken i) r = length-set r (inAt t p i) 1
-length-altered t p (Displacing i c) r = length-set (set r (inAt t p i) 1) (inAt t p c) 2 ∙ length-set r (inAt t p i) 1
+length-altered t p (TakenDisplacing i c) r = length-set (set r (inAt t p i) 1) (inAt t p c) 2 ∙ length-set r (inAt t p i) 1
 length-altered t p (Refused i) r = length-set r (inAt t p i) 2
-length-altered t p (Learnt i) r = length-set r (outAt t p i) 2
+length-altered t p (RefusalLearnt i) r = length-set r (outAt t p i) 2
 length-altered t p (NoChange i) r = refl
 
 store-same : {b b′ : ℕ → ℕ → ℕ} (p i v : ℕ) → Same b b′ → Same (store b p i v) (store b′ p i v)
@@ -108,17 +108,17 @@ module _ (t : Table) (p : ℕ) where
     altered-out (Opened i) a = out-set r i 1 long a
     altered-out NothingToOpen a = λ q j. refl
     altered-out (Taken i) a = out-in-set r i 1 a
-    altered-out (Displacing i c) a = λ q j. out-in-set (set r (inAt t p i) 1) c 2 (a .1) q j ∙ out-in-set r i 1 (a .0) q j
+    altered-out (TakenDisplacing i c) a = λ q j. out-in-set (set r (inAt t p i) 1) c 2 (a .1) q j ∙ out-in-set r i 1 (a .0) q j
     altered-out (Refused i) a = out-in-set r i 2 a
-    altered-out (Learnt i) a = out-set r i 2 long a
+    altered-out (RefusalLearnt i) a = out-set r i 2 long a
     altered-out (NoChange i) a = λ q j. refl
 
     pub altered-in : (o : Outcome) → OwnOutcome t p o → Same (inOf t (alterFleet t p o r)) (storedIn p o (inOf t r))
     altered-in (Opened i) a = in-out-set r i 1 a
     altered-in NothingToOpen a = λ q j. refl
     altered-in (Taken i) a = in-set r i 1 long a
-    altered-in (Displacing i c) a = λ q j.
+    altered-in (TakenDisplacing i c) a = λ q j.
         in-set (set r (inAt t p i) 1) c 2 (length-set r (inAt t p i) 1 ∙ long) (a .1) q j ∙ store-same p c 2 (in-set r i 1 long (a .0)) q j
     altered-in (Refused i) a = in-set r i 2 long a
-    altered-in (Learnt i) a = in-out-set r i 2 a
+    altered-in (RefusalLearnt i) a = in-out-set r i 2 a
     altered-in (NoChange i) a = λ q j. refl

@@ -19,7 +19,7 @@ use Rattle.fleet_theory.specs.Fleet.{State, start, next, run, differs, l
 use Rattle.table.specs.Slices.{Slices, tableOf, slicesFault}
 use Rattle.fleet_theory.proofs.Own.{outOf, inOf}
 use Rattle.fleet_theory.proofs.Bytes.{first-byte, second-byte, third-byte, fourth-byte}
-use Rattle.fleet_theory.proofs.Run.{slices-legal, Holds, Steps, start-holds, next-holds, next-steps, run-holds}
+use Rattle.fleet_theory.proofs.Run.{slices-legal, HoldsAfter, Steps, start-holds, next-holds, next-steps, run-holds}
 
 -- none where no byte is altered
 pub no-changes : (r : List ℕ) (n : ℕ) → sum n (linkChanges r r) ≡ 0
@@ -60,7 +60,7 @@ module _ (x : Slices) (fine : slicesFault x ≡ 0) (room : ℕ) where
   abbrev t : Table
   t = tableOf x
 
-  changes-rise : (s : State) → Holds t s → (ls : List (List ℕ)) (i : ℕ) → i < x .links
+  changes-rise : (s : State) → HoldsAfter t s → (ls : List (List ℕ)) (i : ℕ) → i < x .links
       → changes x room s ls i + fourOf t (s .bytes) i ≤ fourOf t (run x room s ls .bytes) i
   unfolding changes run
   changes-rise s h [] i l = omega arith

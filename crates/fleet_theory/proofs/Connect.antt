@@ -9,7 +9,7 @@ use Rattle.plan_theory.proofs.Settled.{Across, near, back}
 use Rattle.probe_rules.specs.declared.Event.{Event}
 use Rattle.probe_rules.specs.declared.Event.the-variants.{Opening, Offer, Refusal}
 use Rattle.probe_rules.specs.declared.Outcome.{Outcome}
-use Rattle.probe_rules.specs.declared.Outcome.the-variants.{Opened, Taken, Displacing, Refused, Learnt}
+use Rattle.probe_rules.specs.declared.Outcome.the-variants.{Opened, Taken, TakenDisplacing, Refused, RefusalLearnt}
 use Rattle.probe_rules.specs.Rules.{befalls}
 use Rattle.probe_rules.specs.Within.{OwnEvent, OwnOutcome}
 use Rattle.probe_rules.proofs.Befalls.{Befell, opened, nothing-to-open, taken, displacing, refused, seen, learnt, known, befell, befell-own, own-within}
@@ -45,13 +45,13 @@ module _ (t : Table) (r : List ℕ) (long : length r ≡ 4 * t .links) (p : ℕ)
   befell-step (taken i z m) (w, l, x, f) own-links =
       takes p w i l x f z m (altered-out t p r long (Taken i) own-links) (altered-in t p r long (Taken i) own-links)
   befell-step (displacing i c z m a y d h) (w, l, x, f) own-links =
-      displaces p w i c l x f z m (a .0) (a .1) y d (λ g k at. h g (k, at)) (altered-out t p r long (Displacing i c) own-links)
-      (altered-in t p r long (Displacing i c) own-links)
+      displaces p w i c l x f z m (a .0) (a .1) y d (λ g k at. h g (k, at)) (altered-out t p r long (TakenDisplacing i c) own-links)
+      (altered-in t p r long (TakenDisplacing i c) own-links)
   befell-step (refused i z m h) (w, l, x, f) own-links =
       refuses p w i l x f z m (λ g k at. h g (k, at)) (altered-out t p r long (Refused i) own-links) (altered-in t p r long (Refused i) own-links)
   befell-step (seen i d) x own-links = idle (λ q j. refl) (λ q j. refl)
   befell-step (learnt i d) (w, l, x, f) own-links =
-      learns p i l (near (back x)) (w, back x, f) (altered-out t p r long (Learnt i) own-links) (altered-in t p r long (Learnt i) own-links)
+      learns p i l (near (back x)) (w, back x, f) (altered-out t p r long (RefusalLearnt i) own-links) (altered-in t p r long (RefusalLearnt i) own-links)
   befell-step (known i y) x own-links = idle (λ q j. refl) (λ q j. refl)
 
 pub befalls-step : (t : Table) → Legal t → (r : List ℕ) → length r ≡ 4 * t .links → (p : ℕ) (v : Event) → Came t r p v → StepBy t r p (befalls t p v (own t p r))

@@ -8,7 +8,7 @@ use Rattle.plan_theory.proofs.Plan.{touches-low, touches-high}
 use Rattle.fleet_theory.specs.Fleet.{State, start, run}
 use Rattle.table.specs.Slices.{Slices, tableOf, slicesFault}
 use Rattle.fleet_theory.specs.Demand3.{moments, Demand3}
-use Rattle.fleet_theory.proofs.Run.{Holds, start-holds, run-holds}
+use Rattle.fleet_theory.proofs.Run.{HoldsAfter, start-holds, run-holds}
 use Rattle.fleet_theory.proofs.Changes.{changes-four}
 use Rattle.fleet_theory.proofs.Sent.{refused-is-kept, two-is-refused, by-27, not-sent}
 use Rattle.fleet_theory.proofs.Finish.{run-sent, finished-unaltered, unaltered-finished, ends-plan, needs-kept, cost-kept, leads}
@@ -38,5 +38,5 @@ demand-3 x fine digits room ls =
     after : State
     after = run x room (start x) ls
 
-    holds : Holds t after
+    holds : HoldsAfter t after
     holds = run-holds x fine room (start x) (start-holds x fine) ls

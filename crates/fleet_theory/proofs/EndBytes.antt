@@ -82,8 +82,8 @@ far-one t s i p u w l x y = go (by-ends u p x) (by-ends w p y)
     go (inr a) (inl b) = let r = s .ends i l .rises in absurd (omega arith)
 
 -- at each probe no more links with the byte 1 than its spare
-abbrev pub Fits : Table → (ℕ → ℕ → ℕ) → Type 0
-Fits t b = (q : ℕ) → onesAt t b q ≤ spare t q
+abbrev pub WithinSpares : Table → (ℕ → ℕ → ℕ) → Type 0
+WithinSpares t b = (q : ℕ) → onesAt t b q ≤ spare t q
 
 module _ (t : Table) (b b′ : ℕ → ℕ → ℕ) where
   -- a link of q whose byte is 1
@@ -110,17 +110,17 @@ module _ (t : Table) (b b′ : ℕ → ℕ → ℕ) where
       count-swap (t .links) (oneAt b′ q) (oneAt b q) i c li lc (λ j k d. still q j (h j d)) (rw (ne-eqb (b′ q c) 1 out) (and-false (touches t q c)))
       (and-intro at (eq-eqb (b q c) 1 into))
 
-  pub fits-fewer : ((q j : ℕ) → b′ q j ≡ 1 → b q j ≡ 1) → Fits t b → Fits t b′
+  pub fits-fewer : ((q j : ℕ) → b′ q j ≡ 1 → b q j ≡ 1) → WithinSpares t b → WithinSpares t b′
   fits-fewer h fits q =
       let a = ones-le q (h q) in
       let c = fits q in
       omega arith
 
-  pub fits-same : Same b′ b → Fits t b → Fits t b′
+  pub fits-same : Same b′ b → WithinSpares t b → WithinSpares t b′
   fits-same s = fits-fewer (λ q j e. sym (s q j) ∙ e)
 
   -- p has room for one more
-  pub fits-more : (p i : ℕ) → i < t .links → Same b′ (store b p i 1) → onesAt t b p < spare t p → Fits t b → Fits t b′
+  pub fits-more : (p i : ℕ) → i < t .links → Same b′ (store b p i 1) → onesAt t b p < spare t p → WithinSpares t b → WithinSpares t b′
   fits-more p i l s room fits q = go (ℕ-discrete q p)
     where
       was : (j : ℕ) → (q ≡ p → j ≡ i → ⊥) → b′ q j ≡ 1 → b q j ≡ 1
@@ -141,8 +141,8 @@ module _ (t : Table) (b b′ : ℕ → ℕ → ℕ) where
           omega arith
 
   -- the link i comes for the link c
-  pub fits-swap : (p i c : ℕ) → i < t .links → c < t .links → touches t p c ≡ true → b p i ≡ 0 → b p c ≡ 1 → Same b′ (store (store b p i 1) p c 2) → Fits t b
-      → Fits t b′
+  pub fits-swap : (p i c : ℕ) → i < t .links → c < t .links → touches t p c ≡ true → b p i ≡ 0 → b p c ≡ 1 → Same b′ (store (store b p i 1) p c 2) → WithinSpares t b
+      → WithinSpares t b′
   fits-swap p i c li lc at z e s fits q = let a = few (ℕ-discrete q p) in let d = fits q in omega arith
     where
       was : (j : ℕ) → (q ≡ p → j ≡ i → ⊥) → b′ q j ≡ 1 → Swap b b′ p i c q j → b q j ≡ 1

@@ -17,8 +17,8 @@ use Rattle.plan_theory.proofs.Plan.{UnderSpare, plan-criterion, rested-at}
 use Rattle.plan_theory.proofs.Settled.{Across, near, back, both}
 use Rattle.fleet_theory.proofs.EndState.{onesAt, store, Same, Step, idle, opens, takes, displaces, refuses, learns, Inv, Offered, Refused}
 use Rattle.table.proofs.LegalLaws.{legal-table}
-use Rattle.fleet_theory.proofs.EndBytes.{Cell, here, there, cell, before-store, Swap, gone, new, old, swap, far, far-one, Fits, fits-fewer, fits-same, fits-more, fits-swap, swap-many}
-use Rattle.fleet_theory.proofs.EndNext.{Out, out-same, out-open, out-learn, In, in-same, in-take, in-refuse, Ordered, next}
+use Rattle.fleet_theory.proofs.EndBytes.{Cell, here, there, cell, before-store, Swap, gone, new, old, swap, far, far-one, WithinSpares, fits-fewer, fits-same, fits-more, fits-swap, swap-many}
+use Rattle.fleet_theory.proofs.EndNext.{Out, out-same, out-open, out-learn, In, in-same, in-take, in-refuse, DearestFirst, next}
 
 module _ (t : Table) (s : LegalTable 256 2048 t) (F G : ℕ → ℕ → Type 0) (o n : ℕ → ℕ → ℕ) (inv : Inv t F G o n) (o′ n′ : ℕ → ℕ → ℕ) where
   abbrev After : Type 0
@@ -68,13 +68,13 @@ module _ (t : Table) (s : LegalTable 256 2048 t) (F G : ℕ → ℕ → Type 0) 
           absurd (omega arith)
 
   -- an event at inbound bytes alone
-  next-in : Same o′ o → ((q j : ℕ) → In t F n n′ q j) → Fits t n′ → After
+  next-in : Same o′ o → ((q j : ℕ) → In t F n n′ q j) → WithinSpares t n′ → After
   next-in so ins holding =
       next t F G o n inv o′ n′ (λ q j. out-same (so q j)) ins (fits-same t o o′ so (inv .standing)) holding
       (λ q f g lf lg af ag ef eg. inv .order q f g lf lg af ag (sym (so q f) ∙ ef) (sym (so q g) ∙ eg))
 
   -- an event at outbound bytes alone
-  next-out : Same n′ n → ((q j : ℕ) → Out t G o o′ q j) → Fits t o′ → Ordered t o′ → After
+  next-out : Same n′ n → ((q j : ℕ) → Out t G o o′ q j) → WithinSpares t o′ → DearestFirst t o′ → After
   next-out sn outs standing = next t F G o n inv o′ n′ outs (λ q j. in-same (sn q j)) standing (fits-same t n n′ sn (inv .holding))
 
   on-open : (p i : ℕ) → i < t .links → touches t p i ≡ true → onesAt t o p < spare t p

@@ -9,7 +9,7 @@ use Rattle.plan_theory.specs.Plan.{rested}
 use Rattle.plan_theory.proofs.Plan.{UnderSpare}
 use Rattle.plan_theory.proofs.Settled.{Across}
 use Rattle.fleet_theory.proofs.EndState.{Inv, Offered, Refused}
-use Rattle.fleet_theory.proofs.EndBytes.{Fits}
+use Rattle.fleet_theory.proofs.EndBytes.{WithinSpares}
 
 -- the outbound byte of q on j after an event: as it was, or its offer is opened, or its refusal is learnt
 pub data Out (t : Table) (G : ℕ → ℕ → Type 0) (o o′ : ℕ → ℕ → ℕ) (q j : ℕ) : Type 0 where
@@ -24,14 +24,14 @@ pub data In (t : Table) (F : ℕ → ℕ → Type 0) (n n′ : ℕ → ℕ → �
   in-refuse : n′ q j ≡ 2 → j < t .links → touches t q j ≡ true → ((u : ℕ) → Across t j u q → F u j) → rested t j ≡ false → In t F n n′ q j
 
 -- an offer that stands is on a dearer link than an untried one of the same probe
-abbrev pub Ordered : Table → (ℕ → ℕ → ℕ) → Type 0
-Ordered t o =
+abbrev pub DearestFirst : Table → (ℕ → ℕ → ℕ) → Type 0
+DearestFirst t o =
     (p f g : ℕ) → f < t .links → g < t .links → touches t p f ≡ true → touches t p g ≡ true → o p f ≡ 1 → o p g ≡ 0 → dearer t f g ≡ true
 
 -- an event that alters bytes so
 module _ (t : Table) (F G : ℕ → ℕ → Type 0) (o n : ℕ → ℕ → ℕ) (inv : Inv t F G o n) (o′ n′ : ℕ → ℕ → ℕ) (outs : (q j : ℕ) → Out t G o o′ q j)
     (ins : (q j : ℕ) → In t F n n′ q j) where
-  pub next : Fits t o′ → Fits t n′ → Ordered t o′ → Inv t (Offered F o′) (Refused t G n′) o′ n′
+  pub next : WithinSpares t o′ → WithinSpares t n′ → DearestFirst t o′ → Inv t (Offered F o′) (Refused t G n′) o′ n′
   next standing holding order =
       record {
         out-small = λ p i. out-small p i (outs p i);

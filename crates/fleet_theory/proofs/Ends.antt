@@ -30,16 +30,16 @@ use Rattle.probe.specs.declared.Kind.{Kind}
 use Rattle.probe.specs.declared.Asked.{Asked}
 use Rattle.probe.specs.declared.Asked.the-variants as asked
 use Rattle.probe_checks.specs.Checks as end
-use Rattle.probe_checks.specs.Checks.{toFault, probeFault, linkFault, untriedFault, fullFault, heardFault, hearFault, openFault, linkCallFault}
+use Rattle.probe_checks.specs.Checks.{toFault, probeFault, ownLinkFault, untriedFault, fullFault, heardFault, hearFault, openFault, linkCallFault}
 use Rattle.probe.specs.Answers.{Asks, askedEvent, askedFrame, askedLine, lentFault}
 use Rattle.probe.proofs.Calls.{asked-event}
-use Rattle.fleet_theory.specs.Fleet.{own, kindFault, endsFault, eventOf, outcomeOf, State, start, run}
+use Rattle.fleet_theory.specs.Fleet.{own, eventKindFault, eventEndsFault, eventOf, outcomeOf, State, start, run}
 use Rattle.table.specs.Slices.{Slices, tableOf, slicesFault}
 use Rattle.fleet_theory.specs.Demand3.{IsFrame, MaySend}
 use Rattle.fleet_theory.specs.Ends.{SameAlone, EndsAlone}
 use Rattle.fleet_theory.proofs.Own.{outOf, inOf, length-own}
 use Rattle.fleet_theory.proofs.Events.{Says, an-opening, an-offer, a-refusal, says, line-step}
-use Rattle.fleet_theory.proofs.Run.{slices-legal, Holds, Passed, passed, passed-fault, next-accepted, start-out, start-in, start-holds, run-holds}
+use Rattle.fleet_theory.proofs.Run.{slices-legal, HoldsAfter, Passed, passed, passed-fault, next-accepted, start-out, start-in, start-holds, run-holds}
 use Rattle.fleet_theory.proofs.Alone.{pairs-equal, own-altered, own-else}
 
 -- whether the line was written
@@ -48,7 +48,7 @@ isWritten asked.Written = true
 isWritten asked.NotNow = false
 isWritten (asked.Refused n) = false
 
-module _ (x : Slices) (fine : slicesFault x ≡ 0) (s : State) (h : Holds (tableOf x) s) where
+module _ (x : Slices) (fine : slicesFault x ≡ 0) (s : State) (h : HoldsAfter (tableOf x) s) where
   abbrev t : Table
   t = tableOf x
 
@@ -133,14 +133,14 @@ module _ (x : Slices) (fine : slicesFault x ≡ 0) (s : State) (h : Holds (table
     heard-passes : IsFrame f → between t (f .from) p < t .links → heardFault t p l ≡ 0
     unfolding heardFault
     heard-passes frame b =
-        let checks = orElse (kindFault f) (orElse (numberFault t f) (endsFault t f)) in
-        let rest = or-right (kindFault f) (orElse (numberFault t f) (endsFault t f)) (or-right (frameFault l) checks (a .line)) in
-        or-none (frameFault l) (orElse (end.kindFault f) (orElse (numberFault t f) (toFault t p f))) (or-left (frameFault l) checks (a .line))
-        ∙ or-none (end.kindFault f) (orElse (numberFault t f) (toFault t p f)) (kinds frame)
-        ∙ or-none (numberFault t f) (toFault t p f) (or-left (numberFault t f) (endsFault t f) rest)
+        let checks = orElse (eventKindFault f) (orElse (numberFault t f) (eventEndsFault t f)) in
+        let rest = or-right (eventKindFault f) (orElse (numberFault t f) (eventEndsFault t f)) (or-right (frameFault l) checks (a .line)) in
+        or-none (frameFault l) (orElse (end.frameKindFault f) (orElse (numberFault t f) (toFault t p f))) (or-left (frameFault l) checks (a .line))
+        ∙ or-none (end.frameKindFault f) (orElse (numberFault t f) (toFault t p f)) (kinds frame)
+        ∙ or-none (numberFault t f) (toFault t p f) (or-left (numberFault t f) (eventEndsFault t f) rest)
         ∙ rw (eq-eqb p p refl, lt-ltb (between t (f .from) p) (t .links) b)
       where
-        kinds : IsFrame f → end.kindFault f ≡ 0
+        kinds : IsFrame f → end.frameKindFault f ≡ 0
         kinds (inl k) = rw k
         kinds (inr k) = rw k
 
@@ -177,8 +177,8 @@ module _ (x : Slices) (fine : slicesFault x ≡ 0) (s : State) (h : Holds (table
     pub ask-passes : linkCallFault (slicesFault x) t p (own t p r) i ≡ 0
     unfolding linkCallFault
     ask-passes =
-        or-none (slicesFault x) (orElse (recordFault t p (own t p r)) (linkFault t p i)) fine
-        ∙ or-none (recordFault t p (own t p r)) (linkFault t p i) (own-passes p)
+        or-none (slicesFault x) (orElse (recordFault t p (own t p r)) (ownLinkFault t p i)) fine
+        ∙ or-none (recordFault t p (own t p r)) (ownLinkFault t p i) (own-passes p)
         ∙ rw (lt-ltb i (t .links) (a .0), a .1)
 
     module _ (k : Kind) where
@@ -226,5 +226,5 @@ ends-alone x fine room ls =
     after : List (List ℕ) → State
     after xs = run x room (start x) xs
 
-    holds : (xs : List (List ℕ)) → Holds (tableOf x) (after xs)
+    holds : (xs : List (List ℕ)) → HoldsAfter (tableOf x) (after xs)
     holds xs = run-holds x fine room (start x) (start-holds x fine) xs

@@ -19,7 +19,7 @@ use Rattle.probe_frame.specs.Frame.{Frame, frameOf, frameFault}
 use Rattle.probe_rules.specs.declared.Event.the-variants.{Opening, Offer, Refusal}
 use Rattle.probe_rules.specs.Frames.{numberFault, heardOf}
 use Rattle.probe_rules.proofs.Frames.{between-across}
-use Rattle.fleet_theory.specs.Fleet.{own, kindFault, endsFault, lineFault, eventOf, unsentFault, outcomeOf}
+use Rattle.fleet_theory.specs.Fleet.{own, eventKindFault, eventEndsFault, eventLineFault, eventOf, unsentFault, outcomeOf}
 use Rattle.fleet_theory.specs.Demand3.{MaySend}
 use Rattle.fleet_theory.proofs.Own.{outOf, inOf}
 use Rattle.fleet_theory.proofs.Connect.{Came, StepBy, befalls-step}
@@ -30,7 +30,7 @@ pub data Says (t : Table) (f : Frame) : Type 0 where
   an-offer : (i : ℕ) → f .kind ≡ 1 → i < t .links → Across t i (f .from) (f .to) → eventOf t f ≡ Offer i → heardOf t f ≡ Offer i → Says t f
   a-refusal : (i : ℕ) → f .kind ≡ 2 → i < t .links → Across t i (f .from) (f .to) → eventOf t f ≡ Refusal i → heardOf t f ≡ Refusal i → Says t f
 
-pub says : (t : Table) (l : List ℕ) → lineFault t l ≡ 0 → Says t (frameOf l)
+pub says : (t : Table) (l : List ℕ) → eventLineFault t l ≡ 0 → Says t (frameOf l)
 says t l e = go (ℕ-discrete (f .kind) 0) (ℕ-discrete (f .kind) 1)
   where
     f : Frame
@@ -39,14 +39,14 @@ says t l e = go (ℕ-discrete (f .kind) 0) (ℕ-discrete (f .kind) 1)
     i : ℕ
     i = between t (f .from) (f .to)
 
-    rest : orElse (kindFault f) (orElse (numberFault t f) (endsFault t f)) ≡ 0
-    rest = or-right (frameFault l) (orElse (kindFault f) (orElse (numberFault t f) (endsFault t f))) e
+    rest : orElse (eventKindFault f) (orElse (numberFault t f) (eventEndsFault t f)) ≡ 0
+    rest = or-right (frameFault l) (orElse (eventKindFault f) (orElse (numberFault t f) (eventEndsFault t f))) e
 
     few : f .kind < 3
-    few = ltb-true (f .kind) 3 (unless-none (ltb (f .kind) 3) 8 (or-left (kindFault f) (orElse (numberFault t f) (endsFault t f)) rest))
+    few = ltb-true (f .kind) 3 (unless-none (ltb (f .kind) 3) 8 (or-left (eventKindFault f) (orElse (numberFault t f) (eventEndsFault t f)) rest))
 
-    ends : endsFault t f ≡ 0
-    ends = or-right (numberFault t f) (endsFault t f) (or-right (kindFault f) (orElse (numberFault t f) (endsFault t f)) rest)
+    ends : eventEndsFault t f ≡ 0
+    ends = or-right (numberFault t f) (eventEndsFault t f) (or-right (eventKindFault f) (orElse (numberFault t f) (eventEndsFault t f)) rest)
 
     within : (f .kind ≡ 0 → ⊥) → i < t .links
     within n = ltb-true i (t .links) (unless-none (ltb i (t .links)) 23 (rw (ne-eqb (f .kind) 0 n) at ends))
@@ -87,7 +87,7 @@ module _ (t : Table) (r : List ℕ) (f : Frame) where
   came (a-refusal i k l x v h) u =
       rw v (f .from, l, x, eqb-true (inOf t r (f .from) i) 2 (unless-none (eqb (inOf t r (f .from) i) 2) 26 (rw v at u)))
 
-pub line-step : (t : Table) → Legal t → (r : List ℕ) → length r ≡ 4 * t .links → (l : List ℕ) → lineFault t l ≡ 0 → NotUnsent t r (frameOf l)
+pub line-step : (t : Table) → Legal t → (r : List ℕ) → length r ≡ 4 * t .links → (l : List ℕ) → eventLineFault t l ≡ 0 → NotUnsent t r (frameOf l)
     → StepBy t r (frameOf l .to) (outcomeOf t r (frameOf l))
 line-step t legal r long l e u =
     let f = frameOf l in

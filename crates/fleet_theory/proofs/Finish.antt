@@ -22,11 +22,11 @@ use Rattle.table.proofs.LegalLaws.{legal-table}
 use Rattle.fleet_theory.proofs.EndRise.{grows, total-most}
 use Rattle.fleet_theory.proofs.EndFinish.{rested-in, finished-plan}
 use Rattle.fleet_theory.proofs.EndLive.{live-or-quiet}
-use Rattle.fleet_theory.specs.Fleet.{lineFault, outcomeOf, State, accepted, next, run, finished}
+use Rattle.fleet_theory.specs.Fleet.{eventLineFault, outcomeOf, State, accepted, next, run, finished}
 use Rattle.table.specs.Slices.{Slices, tableOf, slicesFault}
 use Rattle.fleet_theory.specs.Demand3.{MaySend, moments, TrulySent, endRests, LeadsOn}
 use Rattle.fleet_theory.proofs.Own.{outOf, inOf}
-use Rattle.fleet_theory.proofs.Run.{slices-legal, Holds, Passed, passed-fault, next-accepted, accepted-holds, accepted-steps}
+use Rattle.fleet_theory.proofs.Run.{slices-legal, HoldsAfter, Passed, passed-fault, next-accepted, accepted-holds, accepted-steps}
 use Rattle.fleet_theory.proofs.Quiet.{quiet-finished, finished-quiet, quiet-stays}
 use Rattle.fleet_theory.proofs.Live.{usable-sent, Altering, live-line}
 
@@ -50,14 +50,14 @@ module _ (x : Slices) (fine : slicesFault x ≡ 0) where
   legal : Legal t
   legal = slices-legal x fine
 
-  module _ (s : State) (h : Holds t s) where
+  module _ (s : State) (h : HoldsAfter t s) where
     abbrev r : List ℕ
     r = s .bytes
 
     abbrev Unaltered : Type 0
-    Unaltered = (l : List ℕ) → lineFault t l ≡ 0 → (frameOf l .kind ≡ 0) ⊎ MaySend t r (frameOf l) → (room : ℕ) → length (s .log) < room → next x room s l .bytes ≡ r
+    Unaltered = (l : List ℕ) → eventLineFault t l ≡ 0 → (frameOf l .kind ≡ 0) ⊎ MaySend t r (frameOf l) → (room : ℕ) → length (s .log) < room → next x room s l .bytes ≡ r
 
-    usable-passed : (room : ℕ) (l : List ℕ) → lineFault t l ≡ 0 → (frameOf l .kind ≡ 0) ⊎ MaySend t r (frameOf l) → length (s .log) < room → Passed x room s l
+    usable-passed : (room : ℕ) (l : List ℕ) → eventLineFault t l ≡ 0 → (frameOf l .kind ≡ 0) ⊎ MaySend t r (frameOf l) → length (s .log) < room → Passed x room s l
     usable-passed room l e u free = record { line = e; sent = usable-sent t r l e u; free = free }
 
     pub finished-unaltered : finished t r ≡ true → Unaltered
@@ -121,11 +121,11 @@ module _ (x : Slices) (fine : slicesFault x ≡ 0) where
   Leads s =
       (ms : List (List ℕ)) × ((so-far : List (List ℕ)) → NowSent t (s .bytes) so-far → (room : ℕ) → length (s .log) + length ms ≤ room → LeadsOn x room so-far s ms)
 
-  leads-on : x .number < 65536 → (b : ℕ) (s : State) → Holds t s → 8 * x .links < totalOf (s .bytes) + b → Leads s
+  leads-on : x .number < 65536 → (b : ℕ) (s : State) → HoldsAfter t s → 8 * x .links < totalOf (s .bytes) + b → Leads s
   leads-on digits zero s h few = let a = total-most t (outOf t (s .bytes)) (inOf t (s .bytes)) (h .good) in absurd (omega arith)
   leads-on digits (suc b) s h few = go (leads-on digits b) (live-or-quiet t (outOf t (s .bytes)) (inOf t (s .bytes)))
     where
-      go : ((s′ : State) → Holds t s′ → 8 * x .links < totalOf (s′ .bytes) + b → Leads s′)
+      go : ((s′ : State) → HoldsAfter t s′ → 8 * x .links < totalOf (s′ .bytes) + b → Leads s′)
           → Live t (outOf t (s .bytes)) (inOf t (s .bytes)) ⊎ Quiet t (outOf t (s .bytes)) (inOf t (s .bytes)) → Leads s
       go on (inr quiet) = ([], λ so-far now-sent room fits. quiet-finished t legal (s .bytes) quiet)
       go on (inl live) = let (l, a) = live-line t legal (s .bytes) (h .long) digits live in first l a
@@ -169,5 +169,5 @@ module _ (x : Slices) (fine : slicesFault x ≡ 0) where
                   sent (inl z) = inl z
                   sent (inr m) = inr (now-sent (frameOf l) m)
 
-  pub leads : x .number < 65536 → (s : State) → Holds t s → Leads s
+  pub leads : x .number < 65536 → (s : State) → HoldsAfter t s → Leads s
   leads digits s h = leads-on digits (suc (8 * x .links)) s h (omega arith)

@@ -13,24 +13,24 @@ use Rattle.probe_frame.specs.Frame.{Frame, frameLine, frameOf, frameFault}
 use Rattle.probe_frame.proofs.Laws.{Writable, line-passes, line-says}
 use Rattle.probe_rules.specs.Frames.{numberFault}
 use Rattle.probe_rules.proofs.Frames.{between-is, ends-below, writable}
-use Rattle.fleet_theory.specs.Fleet.{kindFault, endsFault, lineFault}
+use Rattle.fleet_theory.specs.Fleet.{eventKindFault, eventEndsFault, eventLineFault}
 
 -- the checks of a line after 1 and 2 are those of its frame
 abbrev frameChecks : Table → Frame → ℕ
-frameChecks t f = orElse (kindFault f) (orElse (numberFault t f) (endsFault t f))
+frameChecks t f = orElse (eventKindFault f) (orElse (numberFault t f) (eventEndsFault t f))
 
-line-fault : (t : Table) (f : Frame) → Writable f → f .number ≡ t .number → f .kind < 3 → endsFault t f ≡ 0 → lineFault t (frameLine f) ≡ 0
+line-fault : (t : Table) (f : Frame) → Writable f → f .number ≡ t .number → f .kind < 3 → eventEndsFault t f ≡ 0 → eventLineFault t (frameLine f) ≡ 0
 line-fault t f w number kind ends =
     or-none (frameFault (frameLine f)) (frameChecks t (frameOf (frameLine f))) (line-passes f w)
     ∙ ap (frameChecks t) (line-says f w)
-    ∙ or-none (kindFault f) (orElse (numberFault t f) (endsFault t f)) (rw (lt-ltb (f .kind) 3 kind))
-    ∙ or-none (numberFault t f) (endsFault t f) (rw (eq-eqb (f .number) (t .number) number))
+    ∙ or-none (eventKindFault f) (orElse (numberFault t f) (eventEndsFault t f)) (rw (lt-ltb (f .kind) 3 kind))
+    ∙ or-none (numberFault t f) (eventEndsFault t f) (rw (eq-eqb (f .number) (t .number) number))
     ∙ ends
 
 module _ (t : Table) (legal : Legal t) (digits : t .number < 65536) where
   pub opening-line : (p : ℕ) → p < t .probes
       → let f : Frame = record { kind = 0; number = t .number; from = p; to = p } in
-      (lineFault t (frameLine f) ≡ 0) × (frameOf (frameLine f) ≡ f)
+      (eventLineFault t (frameLine f) ≡ 0) × (frameOf (frameLine f) ≡ f)
   opening-line p l =
       let f : Frame = record { kind = 0; number = t .number; from = p; to = p } in
       let w = writable t legal digits 0 p p (omega arith) l l in
@@ -38,7 +38,7 @@ module _ (t : Table) (legal : Legal t) (digits : t .number < 65536) where
 
   pub frame-line : (kind i p w : ℕ) → (kind ≡ 1) ⊎ (kind ≡ 2) → i < t .links → Across t i p w
       → let f : Frame = record { kind = kind; number = t .number; from = p; to = w } in
-      (lineFault t (frameLine f) ≡ 0) × (frameOf (frameLine f) ≡ f) × (between t p w ≡ i)
+      (eventLineFault t (frameLine f) ≡ 0) × (frameOf (frameLine f) ≡ f) × (between t p w ≡ i)
   frame-line kind i p w k l a =
       let f : Frame = record { kind = kind; number = t .number; from = p; to = w } in
       let b = ends-below t legal i p w l a in

@@ -19,12 +19,12 @@ use Rattle.probe_record.proofs.SearchLaws.{dearest}
 use Rattle.probe_frame.specs.Frame.{Frame, frameOf, frameLine}
 use Rattle.probe_rules.specs.declared.Event.{Event}
 use Rattle.probe_rules.specs.declared.Event.the-variants.{Opening, Offer, Refusal}
-use Rattle.probe_rules.specs.declared.Outcome.the-variants.{Opened, Learnt}
+use Rattle.probe_rules.specs.declared.Outcome.the-variants.{Opened, RefusalLearnt}
 use Rattle.probe_rules.specs.Rules.{offer, befalls}
 use Rattle.fleet_theory.proofs.EndState.{onesAt, store, Same, Live, may-open, may-hear, may-learn}
 use Rattle.table.proofs.LegalLaws.{legal-table}
 use Rattle.fleet_theory.proofs.EndBytes.{stored, Swap, gone, new, old, swap}
-use Rattle.fleet_theory.specs.Fleet.{own, lineFault, alterFleet, alteredBy}
+use Rattle.fleet_theory.specs.Fleet.{own, eventLineFault, alterFleet, alteredBy}
 use Rattle.fleet_theory.specs.Demand3.{MaySend}
 use Rattle.fleet_theory.proofs.Own.{outOf, inOf}
 use Rattle.fleet_theory.proofs.Bytes.{storedIn, altered-out, altered-in}
@@ -33,7 +33,7 @@ use Rattle.fleet_theory.proofs.Connect.{befalls-step}
 use Rattle.fleet_theory.proofs.Events.{Says, an-opening, an-offer, a-refusal, says, may-offer, may-refuse, NotUnsent}
 
 -- 27 turns down no opening and no frame that may be sent
-pub usable-sent : (t : Table) (r l : List ℕ) → lineFault t l ≡ 0 → (frameOf l .kind ≡ 0) ⊎ MaySend t r (frameOf l) → NotUnsent t r (frameOf l)
+pub usable-sent : (t : Table) (r l : List ℕ) → eventLineFault t l ≡ 0 → (frameOf l .kind ≡ 0) ⊎ MaySend t r (frameOf l) → NotUnsent t r (frameOf l)
 usable-sent t r l e u = go (says t l e) u
   where
     f : Frame
@@ -51,7 +51,7 @@ abbrev Differ : Table → List ℕ → List ℕ → Type 0
 Differ t r r′ = Same (outOf t r′) (outOf t r) → Same (inOf t r′) (inOf t r) → ⊥
 
 pub record Altering (t : Table) (r l : List ℕ) : Type 0 where
-  pub line : lineFault t l ≡ 0
+  pub line : eventLineFault t l ≡ 0
   pub usable : (frameOf l .kind ≡ 0) ⊎ MaySend t r (frameOf l)
   pub alters : Differ t r (alteredBy t r (frameOf l))
 
@@ -115,12 +115,12 @@ module _ (t : Table) (legal : Legal t) (r : List ℕ) (long : length r ≡ 4 * t
 
   refusal-alters : (i p : ℕ) → i < t .links → touches t p i ≡ true → (outOf t r p i ≡ 2 → ⊥) → Differ t r (after p (Refusal i))
   refusal-alters i p l at d same _ =
-      let a = altered-out t p r long (Learnt i) (l, at) p i in
+      let a = altered-out t p r long (RefusalLearnt i) (l, at) p i in
       let b = stored (outOf t r) (store (outOf t r) p i 2) p i 2 (λ q j. refl) in
       let c = rw (ne-eqb (outOf t r p i) 2 d) at (same p i) in
       d (sym c ∙ a ∙ b)
 
-  altering : (f : Frame) → lineFault t (frameLine f) ≡ 0 → frameOf (frameLine f) ≡ f → (f .kind ≡ 0) ⊎ MaySend t r f → Differ t r (alteredBy t r f)
+  altering : (f : Frame) → eventLineFault t (frameLine f) ≡ 0 → frameOf (frameLine f) ≡ f → (f .kind ≡ 0) ⊎ MaySend t r f → Differ t r (alteredBy t r f)
       → (l : List ℕ) × Altering t r l
   altering f e is u d = (
     frameLine f,

@@ -8,7 +8,7 @@ use Rattle.table.specs.Table.{Table, other}
 use Rattle.table.specs.Legal.{Legal}
 use Rattle.wake_log.specs.declared.Entry.{Entry}
 use Rattle.probe_rules.specs.declared.Outcome.{Outcome}
-use Rattle.probe_rules.specs.declared.Outcome.the-variants.{Opened, NothingToOpen, Taken, Displacing, Refused, Learnt, NoChange}
+use Rattle.probe_rules.specs.declared.Outcome.the-variants.{Opened, NothingToOpen, Taken, TakenDisplacing, Refused, RefusalLearnt, NoChange}
 use Rattle.probe_rules.specs.Rules.{whatOf}
 use Rattle.probe_rules.specs.Within.{OwnOutcome}
 use Rattle.probe_rules.proofs.Frames.{joins-across, across-joins, other-across, one-link}
@@ -42,9 +42,9 @@ module _ (t : Table) (p : ℕ) (n : ℕ → ℕ → ℕ) where
   two-new (Opened i) a q j e = inl e
   two-new NothingToOpen a q j e = inl e
   two-new (Taken i) a q j e = inl (before-store n (store n p i 1) p i 1 (λ x y. refl) q j 2 (λ z. omega arith) e)
-  two-new (Displacing i c) a q j e = go (swap n (store (store n p i 1) p c 2) p i c (λ x y. refl) q j)
+  two-new (TakenDisplacing i c) a q j e = go (swap n (store (store n p i 1) p c 2) p i c (λ x y. refl) q j)
     where
-      go : Swap n (store (store n p i 1) p c 2) p i c q j → (n q j ≡ 2) ⊎ Refuses t j p (whatOf t p (Displacing i c))
+      go : Swap n (store (store n p i 1) p c 2) p i c q j → (n q j ≡ 2) ⊎ Refuses t j p (whatOf t p (TakenDisplacing i c))
       go (gone x y f) = inr (rw y (across-joins (other-across t p c (a .1 .1))))
       go (new x y f) = absurd (omega arith)
       go (old x y f) = inl (sym f ∙ e)
@@ -53,12 +53,12 @@ module _ (t : Table) (p : ℕ) (n : ℕ → ℕ → ℕ) where
       go : Cell n (store n p i 2) p i 2 q j → (n q j ≡ 2) ⊎ Refuses t j p (whatOf t p (Refused i))
       go (here x y f) = inr (sym y)
       go (there d f) = inl (sym f ∙ e)
-  two-new (Learnt i) a q j e = inl e
+  two-new (RefusalLearnt i) a q j e = inl e
   two-new (NoChange i) a q j e = inl e
 
   -- what the entry says has a byte 2
   pub new-two : Legal t → (o : Outcome) → OwnOutcome t p o → (j : ℕ) → j < t .links → Refuses t j p (whatOf t p o) → storedIn p o n p j ≡ 2
-  new-two legal (Displacing i c) a j l e =
+  new-two legal (TakenDisplacing i c) a j l e =
       let one = one-link t legal j c p (other t p c) l (a .1 .0) (joins-across t p (other t p c) j e) (other-across t p c (a .1 .1)) in
       rw one (stored (store n p i 1) (store (store n p i 1) p c 2) p c 2 (λ x y. refl))
   new-two legal (Refused i) a j l e = rw (← e) (stored n (store n p i 2) p i 2 (λ x y. refl))

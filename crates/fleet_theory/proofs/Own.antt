@@ -85,7 +85,7 @@ in-place t p i e = go (decided (eqb p (t .low i)))
     go (inr a) = inr (eqb-true p (t .high i) (rw a at e), rw a)
 
 -- `byte` reads the record at the places `at` of own links, and 0 elsewhere
-pub record Reads (t : Table) (at : ℕ → ℕ → ℕ) (byte : List ℕ → ℕ → ℕ → ℕ) : Type 0 where
+pub record ReadsAt (t : Table) (at : ℕ → ℕ → ℕ) (byte : List ℕ → ℕ → ℕ → ℕ) : Type 0 where
   pub own-byte : (r : List ℕ) (p i : ℕ) → OwnLink t p i → byte r p i ≡ item r (at p i)
   pub no-byte : (r : List ℕ) (p i : ℕ) → (OwnLink t p i → ⊥) → byte r p i ≡ 0
   pub apart : (p i q j : ℕ) → OwnLink t p i → OwnLink t q j → at q j ≡ at p i → (q ≡ p) × (j ≡ i)
@@ -94,7 +94,7 @@ pub record Reads (t : Table) (at : ℕ → ℕ → ℕ) (byte : List ℕ → ℕ
 module _ (t : Table) where
   reads-at : (at : ℕ → ℕ → ℕ) (byte : List ℕ → ℕ → ℕ → ℕ) (k m : ℕ) → k < 4 → m < 4 → (k ≡ m → ⊥) → ((p i : ℕ) → touches t p i ≡ true → Place t at k m p i)
       → ((p : ℕ) (r : List ℕ) (i : ℕ) → i < t .links → byte r p i ≡ cond (touches t p i) (item r (at p i)) 0)
-      → ((p : ℕ) (r : List ℕ) (i : ℕ) → t .links ≤ i → byte r p i ≡ 0) → Reads t at byte
+      → ((p : ℕ) (r : List ℕ) (i : ℕ) → t .links ≤ i → byte r p i ≡ 0) → ReadsAt t at byte
   reads-at at byte k m lk lm differ place is past =
       record {
         own-byte = λ r p i a. is p r i (a .0) ∙ rw (a .1);
@@ -118,12 +118,12 @@ module _ (t : Table) where
       small p i l (inl a) = omega arith
       small p i l (inr a) = omega arith
 
-  pub out-reads : Reads t (outAt t) (outOf t)
+  pub out-reads : ReadsAt t (outAt t) (outOf t)
   out-reads =
       reads-at (outAt t) (outOf t) 0 2 (omega arith) (omega arith) (λ e. omega arith) (out-place t) (out-is t)
       (λ p r i past. List·getD-eq-default (own t p r) 0 (let a = length-own t p r in omega arith))
 
-  pub in-reads : Reads t (inAt t) (inOf t)
+  pub in-reads : ReadsAt t (inAt t) (inOf t)
   in-reads =
       reads-at (inAt t) (inOf t) 3 1 (omega arith) (omega arith) (λ e. omega arith) (in-place t) (in-is t)
       (λ p r i past. List·getD-eq-default (own t p r) 0 (let a = length-own t p r in omega arith))
@@ -138,7 +138,7 @@ module _ (t : Table) where
       go (inr a) (inl b) e = omega arith
       go (inr a) (inr b) e = omega arith
 
-  module _ (at : ℕ → ℕ → ℕ) (byte : List ℕ → ℕ → ℕ → ℕ) (reads : Reads t at byte) (r : List ℕ) where
+  module _ (at : ℕ → ℕ → ℕ) (byte : List ℕ → ℕ → ℕ → ℕ) (reads : ReadsAt t at byte) (r : List ℕ) where
     -- a place that is none of these is stored
     pub set-other : (k v : ℕ) → ((q j : ℕ) → OwnLink t q j → at q j ≡ k → ⊥) → Same (byte (set r k v)) (byte r)
     set-other k v away q j = go (own-or-not t q j)

@@ -21,7 +21,7 @@ use Rattle.probe_record.proofs.SearchLaws.{dearest}
 use Rattle.probe_frame.specs.Frame.{Frame, frameOf}
 use Rattle.fleet_theory.proofs.EndState.{onesAt, Quiet}
 use Rattle.table.proofs.LegalLaws.{legal-table}
-use Rattle.fleet_theory.specs.Fleet.{own, lineFault, alteredBy, opens, stirs, finished}
+use Rattle.fleet_theory.specs.Fleet.{own, eventLineFault, alteredBy, opens, alters, finished}
 use Rattle.fleet_theory.specs.Demand3.{MaySend}
 use Rattle.fleet_theory.proofs.Own.{outOf, inOf}
 use Rattle.fleet_theory.proofs.Events.{Says, an-opening, an-offer, a-refusal, says, may-offer, may-refuse}
@@ -30,8 +30,8 @@ module _ (t : Table) (legal : Legal t) (r : List ℕ) where
   abbrev BothQuiet : Type 0
   BothQuiet = Quiet t (outOf t r) (inOf t r)
 
-  abbrev stirring : ℕ → Bool
-  stirring i = stirs t r (t .low i) (t .high i) i || stirs t r (t .high i) (t .low i) i
+  abbrev altering : ℕ → Bool
+  altering i = alters t r (t .low i) (t .high i) i || alters t r (t .high i) (t .low i) i
 
   quiet-opens : BothQuiet → (p : ℕ) → opens t r p ≡ true → ⊥
   quiet-opens quiet p e = go (dearest t legal p (own t p r))
@@ -53,8 +53,8 @@ module _ (t : Table) (legal : Legal t) (r : List ℕ) where
           let k = ltb-true (standing t p (own t p r)) (spare t p) (and-left room (ltb i (t .links)) e) in
           omega arith
 
-  quiet-stirs : BothQuiet → (i p w : ℕ) → i < t .links → Across t i p w → stirs t r p w i ≡ true → ⊥
-  quiet-stirs quiet i p w l x e = go (or-cases (eqb o 1 && eqb n 0) (eqb n 2 && not (eqb o 2)) e)
+  quiet-alters : BothQuiet → (i p w : ℕ) → i < t .links → Across t i p w → alters t r p w i ≡ true → ⊥
+  quiet-alters quiet i p w l x e = go (or-cases (eqb o 1 && eqb n 0) (eqb n 2 && not (eqb o 2)) e)
     where
       o : ℕ
       o = outOf t r p i
@@ -72,11 +72,11 @@ module _ (t : Table) (legal : Legal t) (r : List ℕ) where
   unfolding finished
   quiet-finished quiet =
       and-intro (eq-eqb (count (t .probes) (opens t r)) 0 (none-count (t .probes) (opens t r) (λ p l. quiet-opens quiet p)))
-      (eq-eqb (count (t .links) stirring) 0 (none-count (t .links) stirring (λ i l e. go i l (or-cases (stirs t r (t .low i) (t .high i) i) (stirs t r (t .high i) (t .low i) i) e))))
+      (eq-eqb (count (t .links) altering) 0 (none-count (t .links) altering (λ i l e. go i l (or-cases (alters t r (t .low i) (t .high i) i) (alters t r (t .high i) (t .low i) i) e))))
     where
-      go : (i : ℕ) → i < t .links → (stirs t r (t .low i) (t .high i) i ≡ true) ⊎ (stirs t r (t .high i) (t .low i) i ≡ true) → ⊥
-      go i l (inl e) = quiet-stirs quiet i (t .low i) (t .high i) l up e
-      go i l (inr e) = quiet-stirs quiet i (t .high i) (t .low i) l down e
+      go : (i : ℕ) → i < t .links → (alters t r (t .low i) (t .high i) i ≡ true) ⊎ (alters t r (t .high i) (t .low i) i ≡ true) → ⊥
+      go i l (inl e) = quiet-alters quiet i (t .low i) (t .high i) l up e
+      go i l (inr e) = quiet-alters quiet i (t .high i) (t .low i) l down e
 
   pub finished-quiet : finished t r ≡ true → BothQuiet
   unfolding finished
@@ -90,8 +90,8 @@ module _ (t : Table) (legal : Legal t) (r : List ℕ) where
       no-opens : Bool
       no-opens = eqb (count (t .probes) (opens t r)) 0
 
-      no-stirs : Bool
-      no-stirs = eqb (count (t .links) stirring) 0
+      no-alters : Bool
+      no-alters = eqb (count (t .links) altering) 0
 
       below : (p i : ℕ) → i < t .links → touches t p i ≡ true → p < t .probes
       below p i l at = let a = legal-table 256 2048 t legal .ends i l in at-end t (λ v. v < t .probes) p i at (omega arith) (a .below)
@@ -103,29 +103,29 @@ module _ (t : Table) (legal : Legal t) (r : List ℕ) where
       opened p i l at z (yes m) (chosen k y h) =
           absurd (true≢false
           (sym (and-intro (lt-ltb (standing t p (own t p r)) (spare t p) m) (lt-ltb (dearestUntried t p (own t p r)) (t .links) k))
-          ∙ count-none (t .probes) (opens t r) (eqb-true (count (t .probes) (opens t r)) 0 (and-left no-opens no-stirs e)) p (below p i l at)))
+          ∙ count-none (t .probes) (opens t r) (eqb-true (count (t .probes) (opens t r)) 0 (and-left no-opens no-alters e)) p (below p i l at)))
 
-      none : (i : ℕ) → i < t .links → stirring i ≡ false
-      none = count-none (t .links) stirring (eqb-true (count (t .links) stirring) 0 (and-right no-opens no-stirs e))
+      none : (i : ℕ) → i < t .links → altering i ≡ false
+      none = count-none (t .links) altering (eqb-true (count (t .links) altering) 0 (and-right no-opens no-alters e))
 
-      still : (i p w : ℕ) → i < t .links → Across t i p w → stirs t r p w i ≡ false
-      still i _ _ l up = or-false-left (stirs t r (t .low i) (t .high i) i) (stirs t r (t .high i) (t .low i) i) (none i l)
-      still i _ _ l down = or-false-right (stirs t r (t .low i) (t .high i) i) (stirs t r (t .high i) (t .low i) i) (none i l)
+      still : (i p w : ℕ) → i < t .links → Across t i p w → alters t r p w i ≡ false
+      still i _ _ l up = or-false-left (alters t r (t .low i) (t .high i) i) (alters t r (t .high i) (t .low i) i) (none i l)
+      still i _ _ l down = or-false-right (alters t r (t .low i) (t .high i) i) (alters t r (t .high i) (t .low i) i) (none i l)
 
-      heard : (i p w : ℕ) → outOf t r p i ≡ 1 → inOf t r w i ≡ 0 → stirs t r p w i ≡ false → ⊥
+      heard : (i p w : ℕ) → outOf t r p i ≡ 1 → inOf t r w i ≡ 0 → alters t r p w i ≡ false → ⊥
       heard i p w a b f =
           let o = outOf t r p i in
           let n = inOf t r w i in
           true≢false (sym (and-intro (eq-eqb o 1 a) (eq-eqb n 0 b)) ∙ or-false-left (eqb o 1 && eqb n 0) (eqb n 2 && not (eqb o 2)) f)
 
-      told : (i p w : ℕ) → inOf t r w i ≡ 2 → stirs t r p w i ≡ false → outOf t r p i ≡ 2
+      told : (i p w : ℕ) → inOf t r w i ≡ 2 → alters t r p w i ≡ false → outOf t r p i ≡ 2
       told i p w a f =
           let o = outOf t r p i in
           let n = inOf t r w i in
           eqb-true o 2 (not-false (eqb o 2) (rw (eq-eqb n 2 a) at (or-false-right (eqb o 1 && eqb n 0) (eqb n 2 && not (eqb o 2)) f)))
 
   -- then no opening and no frame that may be sent alters a byte
-  pub quiet-stays : BothQuiet → (l : List ℕ) → lineFault t l ≡ 0 → (frameOf l .kind ≡ 0) ⊎ MaySend t r (frameOf l) → alteredBy t r (frameOf l) ≡ r
+  pub quiet-stays : BothQuiet → (l : List ℕ) → eventLineFault t l ≡ 0 → (frameOf l .kind ≡ 0) ⊎ MaySend t r (frameOf l) → alteredBy t r (frameOf l) ≡ r
   quiet-stays quiet l e u = go (says t l e) u
     where
       f : Frame

@@ -23,11 +23,11 @@ use Rattle.probe_rules.specs.Within.{OwnLink}
 use Rattle.fleet_theory.proofs.EndState.{Same, Step, idle, Sent, Denied, Good}
 use Rattle.table.proofs.LegalLaws.{legal-table}
 use Rattle.fleet_theory.proofs.EndRise.{fresh-good, in-rises, good-step}
-use Rattle.fleet_theory.specs.Fleet.{outAt, inAt, own, fleetFault, lineFault, outcomeOf, State, start, faultOf, accepted, next, run}
+use Rattle.fleet_theory.specs.Fleet.{outAt, inAt, own, fleetFault, eventLineFault, outcomeOf, State, start, faultOf, accepted, next, run}
 use Rattle.table.proofs.Slices.{legal-slices}
 use Rattle.table.specs.Slices.{Slices, tableOf, slicesFault}
 use Rattle.fleet_theory.specs.Demand3.{RefusedIn, Refuses}
-use Rattle.fleet_theory.proofs.Own.{outOf, inOf, own-or-not, Reads, out-reads, in-reads}
+use Rattle.fleet_theory.proofs.Own.{outOf, inOf, own-or-not, ReadsAt, out-reads, in-reads}
 use Rattle.fleet_theory.proofs.Bytes.{byte-of, length-altered, altered-in}
 use Rattle.fleet_theory.proofs.Connect.{StepBy}
 use Rattle.fleet_theory.proofs.Events.{unsentOf, NotUnsent, line-step}
@@ -36,7 +36,7 @@ use Rattle.fleet_theory.proofs.Log.{in-before, in-new, before-or-new, t
 pub slices-legal : (x : Slices) → slicesFault x ≡ 0 → Legal (tableOf x)
 slices-legal x e = legal-slices 256 2048 x e .legal
 
-pub record Holds (t : Table) (s : State) : Type 0 where
+pub record HoldsAfter (t : Table) (s : State) : Type 0 where
   pub long : length (s .bytes) ≡ 4 * t .links
   pub good : Good t (outOf t (s .bytes)) (inOf t (s .bytes))
   -- a link that an entry says refused has an inbound byte 2, and each inbound byte 2 has its entry
@@ -51,18 +51,18 @@ stays : (t : Table) (r : List ℕ) → Steps t r r
 stays t r = idle (λ p i. refl) (λ p i. refl)
 
 -- 26, with `used` of `room` entries used
-abbrev pub fullFault : ℕ → ℕ → ℕ
-fullFault used room = cond (ltb used room) 0 26
+abbrev pub roomLeftFault : ℕ → ℕ → ℕ
+roomLeftFault used room = cond (ltb used room) 0 26
 
 -- a line that is accepted
 pub record Passed (x : Slices) (room : ℕ) (s : State) (l : List ℕ) : Type 0 where
-  pub line : lineFault (tableOf x) l ≡ 0
+  pub line : eventLineFault (tableOf x) l ≡ 0
   pub sent : NotUnsent (tableOf x) (s .bytes) (frameOf l)
   pub free : length (s .log) < room
 
 -- at the start each byte is 0
 module _ (x : Slices) where
-  start-byte : (at : ℕ → ℕ → ℕ) (byte : List ℕ → ℕ → ℕ → ℕ) → Reads (tableOf x) at byte → Same (byte (start x .bytes)) (λ p i. 0)
+  start-byte : (at : ℕ → ℕ → ℕ) (byte : List ℕ → ℕ → ℕ → ℕ) → ReadsAt (tableOf x) at byte → Same (byte (start x .bytes)) (λ p i. 0)
   start-byte at byte reads p i = go (own-or-not (tableOf x) p i)
     where
       go : OwnLink (tableOf x) p i ⊎ (OwnLink (tableOf x) p i → ⊥) → byte (start x .bytes) p i ≡ 0
@@ -82,7 +82,7 @@ module _ (x : Slices) (fine : slicesFault x ≡ 0) where
   legal : Legal t
   legal = slices-legal x fine
 
-  pub start-holds : Holds t (start x)
+  pub start-holds : HoldsAfter t (start x)
   start-holds =
       record {
         long = length-replicate (4 * x .links) 0;
@@ -91,7 +91,7 @@ module _ (x : Slices) (fine : slicesFault x ≡ 0) where
         in-log = λ p i e. absurd (let z = start-in x p i in omega arith);
       }
 
-  module _ (s : State) (h : Holds t s) where
+  module _ (s : State) (h : HoldsAfter t s) where
     abbrev r : List ℕ
     r = s .bytes
 
@@ -120,7 +120,7 @@ module _ (x : Slices) (fine : slicesFault x ≡ 0) where
 
     -- so a line's fault is its own
     pub fault-is : (room : ℕ) (l : List ℕ)
-        → faultOf x room s l ≡ orElse (lineFault t l) (orElse (unsentOf t r (frameOf l)) (fullFault (length (s .log)) room))
+        → faultOf x room s l ≡ orElse (eventLineFault t l) (orElse (unsentOf t r (frameOf l)) (roomLeftFault (length (s .log)) room))
     fault-is room l = rw (fine, fleet-passes)
 
     module _ (room : ℕ) (l : List ℕ) where
@@ -128,14 +128,14 @@ module _ (x : Slices) (fine : slicesFault x ≡ 0) where
       unsent = unsentOf t r (frameOf l)
 
       abbrev full : ℕ
-      full = fullFault (length (s .log)) room
+      full = roomLeftFault (length (s .log)) room
 
       pub passed : faultOf x room s l ≡ 0 → Passed x room s l
       passed e =
           let a = sym (fault-is room l) ∙ e in
-          let b = or-right (lineFault t l) (orElse unsent full) a in
+          let b = or-right (eventLineFault t l) (orElse unsent full) a in
           record {
-            line = or-left (lineFault t l) (orElse unsent full) a;
+            line = or-left (eventLineFault t l) (orElse unsent full) a;
             sent = or-left unsent full b;
             free = ltb-true (length (s .log)) room (unless-none (ltb (length (s .log)) room) 25 (or-right unsent full b));
           }
@@ -143,7 +143,7 @@ module _ (x : Slices) (fine : slicesFault x ≡ 0) where
       pub passed-fault : Passed x room s l → faultOf x room s l ≡ 0
       passed-fault a =
           fault-is room l
-          ∙ or-none (lineFault t l) (orElse unsent full) (a .line)
+          ∙ or-none (eventLineFault t l) (orElse unsent full) (a .line)
           ∙ or-none unsent full (a .sent)
           ∙ rw (lt-ltb (length (s .log)) room (a .free))
 
@@ -168,7 +168,7 @@ module _ (x : Slices) (fine : slicesFault x ≡ 0) where
         pub accepted-steps : Steps t r (accepted x s l .bytes)
         accepted-steps = step-by .step
 
-        pub accepted-holds : Holds t (accepted x s l)
+        pub accepted-holds : HoldsAfter t (accepted x s l)
         accepted-holds =
             record {
               long = length-altered t p o r ∙ h .long;
@@ -198,10 +198,10 @@ module _ (x : Slices) (fine : slicesFault x ≡ 0) where
             in-log q i (inl e) = in-before t i (entryOf t p o) (s .log) (h .in-log q i e)
             in-log q i (inr b) = in-new t i (entryOf t p o) (s .log) b
 
-      pub next-holds : Holds t (next x room s l)
+      pub next-holds : HoldsAfter t (next x room s l)
       next-holds = go next-is
         where
-          go : (Passed x room s l × (next x room s l ≡ accepted x s l)) ⊎ (next x room s l ≡ s) → Holds t (next x room s l)
+          go : (Passed x room s l × (next x room s l ≡ accepted x s l)) ⊎ (next x room s l ≡ s) → HoldsAfter t (next x room s l)
           go (inl (a, e)) = rw e (accepted-holds a)
           go (inr e) = rw e h
 
@@ -212,7 +212,7 @@ module _ (x : Slices) (fine : slicesFault x ≡ 0) where
           go (inl (a, e)) = rw e (accepted-steps a)
           go (inr e) = rw e (stays t r)
 
-  pub run-holds : (room : ℕ) (s : State) → Holds t s → (ls : List (List ℕ)) → Holds t (run x room s ls)
+  pub run-holds : (room : ℕ) (s : State) → HoldsAfter t s → (ls : List (List ℕ)) → HoldsAfter t (run x room s ls)
   unfolding run
   run-holds room s h [] = h
   run-holds room s h (l ∷ ls) = run-holds room (next x room s l) (next-holds s h room l) ls

@@ -26,13 +26,13 @@ use Rattle.fleet_theory.proofs.EndState.{Sent, Denied}
 use Rattle.table.proofs.LegalLaws.{legal-table}
 use Rattle.fleet_theory.proofs.EndRise.{out-rises, in-rises, out-next}
 use Rattle.fleet_theory.proofs.EndFinish.{refused-plan}
-use Rattle.fleet_theory.specs.Fleet.{lineFault, outcomeOf, State, start, faultOf, answerTo, next, run}
+use Rattle.fleet_theory.specs.Fleet.{eventLineFault, outcomeOf, State, start, faultOf, answerTo, next, run}
 use Rattle.table.specs.Slices.{Slices, tableOf, slicesFault}
 use Rattle.fleet_theory.specs.Demand3.{IsFrame, MaySend, moments, TrulySent, RefusedIn}
 use Rattle.fleet_theory.proofs.Own.{outOf, inOf}
 use Rattle.fleet_theory.proofs.Bytes.{byte-of}
 use Rattle.fleet_theory.proofs.Events.{Says, an-opening, an-offer, a-refusal, says, may-offer, may-refuse, unsentOf}
-use Rattle.fleet_theory.proofs.Run.{slices-legal, fullFault, Holds, start-out, start-holds, fault-is, next-holds, next-steps, run-holds}
+use Rattle.fleet_theory.proofs.Run.{slices-legal, roomLeftFault, HoldsAfter, start-out, start-holds, fault-is, next-holds, next-steps, run-holds}
 
 -- the number of a refusal
 abbrev numberOf : Answer → ℕ
@@ -54,7 +54,7 @@ module _ (x : Slices) (fine : slicesFault x ≡ 0) where
   legal = slices-legal x fine
 
   -- a refused link is kept by the plan, and a byte 2 stands on no other
-  module _ (s : State) (h : Holds t s) where
+  module _ (s : State) (h : HoldsAfter t s) where
     pub refused-is-kept : (i : ℕ) → i < x .links → RefusedIn t i (s .log) → kept t i ≡ true
     refused-is-kept i l a =
         let b = h .log-in i l a in
@@ -80,7 +80,7 @@ module _ (x : Slices) (fine : slicesFault x ≡ 0) where
 
   module _ (room : ℕ) where
     -- the bytes of an end only rise
-    run-rises : (s : State) → Holds t s → (ls : List (List ℕ)) (p i : ℕ)
+    run-rises : (s : State) → HoldsAfter t s → (ls : List (List ℕ)) (p i : ℕ)
         → (outOf t (s .bytes) p i ≤ outOf t (run x room s ls .bytes) p i) × (inOf t (s .bytes) p i ≤ inOf t (run x room s ls .bytes) p i)
     unfolding run
     run-rises s h [] p i = (omega arith, omega arith)
@@ -104,7 +104,7 @@ module _ (x : Slices) (fine : slicesFault x ≡ 0) where
 
       module _ (is : heardOf t f ≡ Offer i) where
         -- an offer truly sent has its byte
-        offer-byte : (s : State) → Holds t s → (ls : List (List ℕ)) → TrulySent t f (moments x room s ls) → 1 ≤ maker (run x room s ls)
+        offer-byte : (s : State) → HoldsAfter t s → (ls : List (List ℕ)) → TrulySent t f (moments x room s ls) → 1 ≤ maker (run x room s ls)
         unfolding moments run
         offer-byte s h [] (inl m) = let e = may-offer t f i is (s .bytes) .0 m in omega arith
         offer-byte s h (l ∷ ls) (inl m) =
@@ -113,7 +113,7 @@ module _ (x : Slices) (fine : slicesFault x ≡ 0) where
             omega arith
         offer-byte s h (l ∷ ls) (inr b) = offer-byte (next x room s l) (next-holds x fine s h room l) ls b
 
-        byte-offer : (s : State) → Holds t s → (ls : List (List ℕ)) → maker s ≤ 1 → (maker (run x room s ls) ≡ 0 → ⊥) → TrulySent t f (moments x room s ls)
+        byte-offer : (s : State) → HoldsAfter t s → (ls : List (List ℕ)) → maker s ≤ 1 → (maker (run x room s ls) ≡ 0 → ⊥) → TrulySent t f (moments x room s ls)
         unfolding moments run
         byte-offer s h [] few d = inl (may-offer t f i is (s .bytes) .1 (omega (arith, d)))
         byte-offer s h (l ∷ ls) few d = go (byte-offer (next x room s l) (next-holds x fine s h room l) ls) (ℕ-discrete (maker s) 1)
@@ -126,7 +126,7 @@ module _ (x : Slices) (fine : slicesFault x ≡ 0) where
                 inr (on (out-next t legal (outOf t (s .bytes)) (inOf t (s .bytes)) (outOf t (s′ .bytes)) (inOf t (s′ .bytes)) (h .good) (next-steps x fine s h room l) (f .from) i (omega arith)) d)
 
       module _ (is : heardOf t f ≡ Refusal i) where
-        refusal-byte : (s : State) → Holds t s → (ls : List (List ℕ)) → TrulySent t f (moments x room s ls) → 2 ≤ refuser (run x room s ls)
+        refusal-byte : (s : State) → HoldsAfter t s → (ls : List (List ℕ)) → TrulySent t f (moments x room s ls) → 2 ≤ refuser (run x room s ls)
         unfolding moments run
         refusal-byte s h [] (inl m) = let e = may-refuse t f i is (s .bytes) .0 m in omega arith
         refusal-byte s h (l ∷ ls) (inl m) =
@@ -175,15 +175,15 @@ module _ (x : Slices) (fine : slicesFault x ≡ 0) where
               inr (rw (v, ne-eqb (refuser f i s) 2 d), λ m. d (let c = refusal-byte f i is (start x) (start-holds x fine) ls m in omega arith))
 
       abbrev full : ℕ
-      full = fullFault (length (s .log)) room
+      full = roomLeftFault (length (s .log)) room
 
-      fault : faultOf x room s l ≡ orElse (lineFault t l) (orElse unsent full)
+      fault : faultOf x room s l ≡ orElse (eventLineFault t l) (orElse unsent full)
       fault = fault-is x fine s (run-holds x fine room (start x) (start-holds x fine) ls) room l
 
       answer-refused : (n : ℕ) → faultOf x room s l ≡ n → (n ≡ 0 → ⊥) → answerTo x room s l ≡ Refused n
       answer-refused n e d = rw (e, ne-eqb n 0 d)
 
-      pub by-27 : lineFault t l ≡ 0 → (answerTo x room s l ≡ Refused 27) ↔ (Truly → ⊥)
+      pub by-27 : eventLineFault t l ≡ 0 → (answerTo x room s l ≡ Refused 27) ↔ (Truly → ⊥)
       by-27 e = go (sent-or-not (says t l e))
         where
           not-full : full ≡ 27 → ⊥
@@ -196,17 +196,17 @@ module _ (x : Slices) (fine : slicesFault x ≡ 0) where
           go : ((unsent ≡ 0) × Truly) ⊎ ((unsent ≡ 27) × (Truly → ⊥)) → (answerTo x room s l ≡ Refused 27) ↔ (Truly → ⊥)
           go (inl (z, m)) = (
             λ a. absurd (not-full
-                (sym (fault ∙ or-none (lineFault t l) (orElse unsent full) e ∙ or-none unsent full z)
+                (sym (fault ∙ or-none (eventLineFault t l) (orElse unsent full) e ∙ or-none unsent full z)
                 ∙ sym (answer-number (faultOf x room s l) (entryOf t (f .to) (outcomeOf t (s .bytes) f)))
                 ∙ ap numberOf a)),
             λ d. absurd (d m),
           )
           go (inr (z, d)) =
-              (λ a. d, λ c. answer-refused 27 (fault ∙ or-none (lineFault t l) (orElse unsent full) e ∙ rw z) (λ y. omega arith))
+              (λ a. d, λ c. answer-refused 27 (fault ∙ or-none (eventLineFault t l) (orElse unsent full) e ∙ rw z) (λ y. omega arith))
 
       pub not-sent : (Truly → ⊥) → (n : ℕ) × (answerTo x room s l ≡ Refused n)
-      not-sent d = go (ℕ-discrete (lineFault t l) 0)
+      not-sent d = go (ℕ-discrete (eventLineFault t l) 0)
         where
-          go : Dec (lineFault t l ≡ 0) → (n : ℕ) × (answerTo x room s l ≡ Refused n)
+          go : Dec (eventLineFault t l ≡ 0) → (n : ℕ) × (answerTo x room s l ≡ Refused n)
           go (yes e) = (27, by-27 e .1 d)
-          go (no e) = (lineFault t l, answer-refused (lineFault t l) (fault ∙ or-some (lineFault t l) (orElse unsent full) e) e)
+          go (no e) = (eventLineFault t l, answer-refused (eventLineFault t l) (fault ∙ or-some (eventLineFault t l) (orElse unsent full) e) e)

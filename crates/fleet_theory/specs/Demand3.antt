@@ -14,7 +14,7 @@ use Rattle.wake_log.specs.declared.What.the-variants as what
 use Rattle.wake_log.specs.declared.Answer.the-variants.{Logged, Refused}
 use Rattle.probe_rules.specs.Rules.{sendable, rests}
 use Rattle.probe_rules.specs.Frames.{heardOf}
-use Rattle.fleet_theory.specs.Fleet.{State, start, own, lineFault, answerTo, next, run, changes, finished}
+use Rattle.fleet_theory.specs.Fleet.{State, start, own, eventLineFault, answerTo, next, run, changes, finished}
 use Rattle.table.specs.Slices.{Slices, tableOf}
 
 -- "a frame": a line's frame that is no opening
@@ -55,7 +55,7 @@ endRests t r p i = rests (own t p r) i
 
 -- "openings and truly sent frames"
 abbrev pub Usable : Table → List ℕ → List (List ℕ) → Type 0
-Usable t l so-far = (lineFault t l ≡ 0) × ((frameOf l .kind ≡ 0) ⊎ TrulySent t (frameOf l) so-far)
+Usable t l so-far = (eventLineFault t l ≡ 0) × ((frameOf l .kind ≡ 0) ⊎ TrulySent t (frameOf l) so-far)
 
 -- "some further list of openings and truly sent frames, none turned down, leads to the finish": `so-far` are the moments up to the state
 abbrev pub LeadsOn : Slices → ℕ → List (List ℕ) → State → List (List ℕ) → Type 0
@@ -84,14 +84,14 @@ module _ (x : Slices) (room : ℕ) (ls : List (List ℕ)) where
     pub unsent-refused : (xs ys : List (List ℕ)) (l : List ℕ) → ls ≡ xs ++ l ∷ ys → IsFrame (frameOf l)
         → (TrulySent t (frameOf l) (moments x room (start x) xs) → ⊥) → (n : ℕ) × (answerTo x room (run x room (start x) xs) l ≡ Refused n)
     -- "a frame past the checks before 27 is turned down by 27 exactly when it is not truly sent"
-    pub unsent-by-27 : (xs ys : List (List ℕ)) (l : List ℕ) → ls ≡ xs ++ l ∷ ys → IsFrame (frameOf l) → lineFault t l ≡ 0
+    pub unsent-by-27 : (xs ys : List (List ℕ)) (l : List ℕ) → ls ≡ xs ++ l ∷ ys → IsFrame (frameOf l) → eventLineFault t l ≡ 0
         → (answerTo x room (run x room (start x) xs) l ≡ Refused 27) ↔ (TrulySent t (frameOf l) (moments x room (start x) xs) → ⊥)
     -- "From there some further list of openings and truly sent frames, none turned down, leads to the finish": "the log lent has an entry free for each of them"
     pub goes-on : (ms : List (List ℕ)) × ((room′ : ℕ) → length (after .log) + length ms ≤ room′
         → LeadsOn x room′ (moments x room (start x) ls) after ms)
     -- "The fleet says finished exactly when no opening and no frame that may be sent would change anything."
     pub says-finished : (finished t (after .bytes) ≡ true)
-        ↔ ((l : List ℕ) → lineFault t l ≡ 0 → (frameOf l .kind ≡ 0) ⊎ MaySend t (after .bytes) (frameOf l)
+        ↔ ((l : List ℕ) → eventLineFault t l ≡ 0 → (frameOf l .kind ≡ 0) ⊎ MaySend t (after .bytes) (frameOf l)
         → (room′ : ℕ) → length (after .log) < room′ → next x room′ after l .bytes ≡ after .bytes)
     -- "Whenever it is finished, each end of each link rests it exactly when it is not in demand 2's plan, so both ends agree"
     pub rests-plan : finished t (after .bytes) ≡ true → (i p : ℕ) → i < x .links → touches t p i ≡ true → endRests t (after .bytes) p i ≡ rested t i

@@ -41,19 +41,19 @@ fleetFault t r =
     (orElse (first (λ j. cond (ltb 2 (item r j)) 21 0) (4 * t .links)) (first (λ p. spareFault t p (own t p r)) (t .probes)))
 
 -- 9: "a script line may also be 00, an opening"
-abbrev pub kindFault : Frame → ℕ
-kindFault f = cond (ltb (f .kind) 3) 0 9
+abbrev pub eventKindFault : Frame → ℕ
+eventKindFault f = cond (ltb (f .kind) 3) 0 9
 
 -- 24: "No such probe, .. an opening whose two ends differ, or no such link."
-abbrev pub endsFault : Table → Frame → ℕ
-endsFault t f =
+abbrev pub eventEndsFault : Table → Frame → ℕ
+eventEndsFault t f =
     cond (cond (eqb (f .kind) 0) (eqb (f .from) (f .to) && ltb (f .to) (t .probes)) (ltb (between t (f .from) (f .to)) (t .links))) 0 24
 
 -- the checks of a line before 27: "1, 2, 9, 23, 24"
-abbrev pub lineFault : Table → List ℕ → ℕ
-lineFault t l =
+abbrev pub eventLineFault : Table → List ℕ → ℕ
+eventLineFault t l =
     let f = frameOf l in
-    orElse (frameFault l) (orElse (kindFault f) (orElse (numberFault t f) (endsFault t f)))
+    orElse (frameFault l) (orElse (eventKindFault f) (orElse (numberFault t f) (eventEndsFault t f)))
 
 -- what reaches the probe `to`
 abbrev pub eventOf : Table → Frame → Event
@@ -72,7 +72,7 @@ eventFault x r used room l =
     let f = frameOf l in
     orElse (slicesFault x)
     (orElse (fleetFault t r)
-    (orElse (lineFault t l) (orElse (unsentFault (eventOf t f) (own t (f .from) r)) (cond (ltb used room) 0 26))))
+    (orElse (eventLineFault t l) (orElse (unsentFault (eventOf t f) (own t (f .from) r)) (cond (ltb used room) 0 26))))
 
 -- what befalls the probe `to`: the end's own rule on its own bytes
 abbrev pub outcomeOf : Table → List ℕ → Frame → Outcome
@@ -143,8 +143,8 @@ abbrev pub opens : Table → List ℕ → ℕ → Bool
 opens t r p = ltb (standing t p (own t p r)) (spare t p) && ltb (dearestUntried t p (own t p r)) (t .links)
 
 -- an offer that may be sent is unseen, or a refusal that may be sent is not learnt: from the probe p to the probe q on the link i
-abbrev pub stirs : Table → List ℕ → ℕ → ℕ → ℕ → Bool
-stirs t r p q i =
+abbrev pub alters : Table → List ℕ → ℕ → ℕ → ℕ → Bool
+alters t r p q i =
     let a = own t p r in
     let b = own t q r in
     (eqb (outbound a i) 1 && eqb (inbound b i) 0) || (eqb (inbound b i) 2 && not (eqb (outbound a i) 2))
@@ -153,4 +153,4 @@ stirs t r p q i =
 unfoldable pub finished : Table → List ℕ → Bool
 finished t r =
     eqb (count (t .probes) (opens t r)) 0
-    && eqb (count (t .links) (λ i. stirs t r (t .low i) (t .high i) i || stirs t r (t .high i) (t .low i) i)) 0
+    && eqb (count (t .links) (λ i. alters t r (t .low i) (t .high i) i || alters t r (t .high i) (t .low i) i)) 0

@@ -28,15 +28,15 @@ m4 = slices (0 ∷ 0 ∷ []) (0 ∷ []) (1 ∷ []) (7 ∷ [])
 abbrev pub line : ℕ → ℕ → ℕ → List ℕ
 line kind from to = frameLine record { kind = kind; number = 1; from = from; to = to }
 
--- "Kind 01 is an offer, 02 a refusal; .. 00, an opening, with from and to the same probe"
-abbrev pub opening : ℕ → List ℕ
-opening p = line 0 p p
+-- "Kind 01 is an offerLine, 02 a refusalFrame; .. 00, an openingLine, with from and to the same probe"
+abbrev pub openingLine : ℕ → List ℕ
+openingLine p = line 0 p p
 
-abbrev pub offer : ℕ → ℕ → List ℕ
-offer p q = line 1 p q
+abbrev pub offerLine : ℕ → ℕ → List ℕ
+offerLine p q = line 1 p q
 
-abbrev pub refusal : ℕ → ℕ → List ℕ
-refusal p q = line 2 p q
+abbrev pub refusalFrame : ℕ → ℕ → List ℕ
+refusalFrame p q = line 2 p q
 
 abbrev pub entry : ℕ → What → Entry
 entry p w = record { probe = p; what = w }
@@ -46,7 +46,7 @@ abbrev pub after : Slices → List (List ℕ) → State
 after x lines = run x 1024 (start x) lines
 
 -- a legal table, and the entries, the finish and the changes of a list of lines, none turned down
-pub record Script (x : Slices) (lines : List (List ℕ)) (entries : List Entry) (total : ℕ) : Type 0 where
+pub record SampleScript (x : Slices) (lines : List (List ℕ)) (entries : List Entry) (total : ℕ) : Type 0 where
   pub table-legal : slicesFault x ≡ 0
   pub entries-logged : after x lines .log ≡ entries
   pub says-finished : finished (tableOf x) (after x lines .bytes) ≡ true
@@ -55,10 +55,10 @@ pub record Script (x : Slices) (lines : List (List ℕ)) (entries : List Entry) 
 -- "0 opens and 1 takes it; 1 opens and 2 takes it; 2 opens and 1 takes it, displacing 0, which learns it; 3 opens, 2 refuses, 3 learns it."
 abbrev pub m11-lines : List (List ℕ)
 m11-lines =
-    opening 0 ∷ offer 0 1
-    ∷ opening 1 ∷ offer 1 2
-    ∷ opening 2 ∷ offer 2 1 ∷ refusal 1 0
-    ∷ opening 3 ∷ offer 3 2 ∷ refusal 2 3
+    openingLine 0 ∷ offerLine 0 1
+    ∷ openingLine 1 ∷ offerLine 1 2
+    ∷ openingLine 2 ∷ offerLine 2 1 ∷ refusalFrame 1 0
+    ∷ openingLine 3 ∷ offerLine 3 2 ∷ refusalFrame 2 3
     ∷ []
 
 abbrev pub m11-entries : List Entry
@@ -71,29 +71,29 @@ m11-entries =
 
 -- "the script lines `00000100000000`, `01000100000001`, `00000100010001`, `01000100010000`"
 abbrev pub m4-lines : List (List ℕ)
-m4-lines = opening 0 ∷ offer 0 1 ∷ opening 1 ∷ offer 1 0 ∷ []
+m4-lines = openingLine 0 ∷ offerLine 0 1 ∷ openingLine 1 ∷ offerLine 1 0 ∷ []
 
 abbrev pub m4-entries : List Entry
 m4-entries = entry 0 (what.Opened 0) ∷ entry 1 (what.Taken 0) ∷ entry 1 (what.Opened 0) ∷ entry 0 (what.Taken 0) ∷ []
 
--- lines turned down by their refusal alone, on M2: fresh, or after M11
-pub record Refusals : Type 0 where
-  pub cut-line : answerTo m2 1024 (start m2) (take 14 (opening 0)) ≡ Refused 1
-  pub capital-digit : answerTo m2 1024 (start m2) (take 13 (opening 0) ++ (65 ∷ 10 ∷ [])) ≡ Refused 2
+-- lines turned down by their refusalFrame alone, on M2: fresh, or after M11
+pub record LineRefusals : Type 0 where
+  pub cut-line : answerTo m2 1024 (start m2) (take 14 (openingLine 0)) ≡ Refused 1
+  pub capital-digit : answerTo m2 1024 (start m2) (take 13 (openingLine 0) ++ (65 ∷ 10 ∷ [])) ≡ Refused 2
   pub other-kind : answerTo m2 1024 (start m2) (line 3 0 1) ≡ Refused 9
   pub other-table : answerTo m2 1024 (start m2) (frameLine record { kind = 0; number = 2; from = 0; to = 0 }) ≡ Refused 23
-  pub no-probe : answerTo m2 1024 (start m2) (opening 4) ≡ Refused 24
+  pub no-probe : answerTo m2 1024 (start m2) (openingLine 4) ≡ Refused 24
   pub two-ends : answerTo m2 1024 (start m2) (line 0 0 1) ≡ Refused 24
-  pub no-link : answerTo m2 1024 (start m2) (offer 0 2) ≡ Refused 24
-  pub never-offered : answerTo m2 1024 (after m2 m11-lines) (offer 1 0) ≡ Refused 27
-  pub never-refused : answerTo m2 1024 (after m2 m11-lines) (refusal 2 1) ≡ Refused 27
-  pub full-log : answerTo m2 0 (start m2) (opening 0) ≡ Refused 26
+  pub no-link : answerTo m2 1024 (start m2) (offerLine 0 2) ≡ Refused 24
+  pub never-offered : answerTo m2 1024 (after m2 m11-lines) (offerLine 1 0) ≡ Refused 27
+  pub never-refused : answerTo m2 1024 (after m2 m11-lines) (refusalFrame 2 1) ≡ Refused 27
+  pub full-log : answerTo m2 0 (start m2) (openingLine 0) ≡ Refused 26
 
 -- `m2-table`, `m4-table`: the tables are those of M2 and M4
 pub record Samples : Type 0 where
   pub m1-to-m10 : Sites
   pub m2-table : tableOf m2 ≡ row (5 ∷ 6 ∷ 5 ∷ [])
-  pub m11 : Script m2 m11-lines m11-entries 11
-  pub refusals : Refusals
+  pub m11 : SampleScript m2 m11-lines m11-entries 11
+  pub refusals : LineRefusals
   pub m4-table : tableOf m4 ≡ site (0 ∷ 0 ∷ []) (0 ∷ []) (1 ∷ []) (7 ∷ [])
-  pub m4-script : Script m4 m4-lines m4-entries 4
+  pub m4-script : SampleScript m4 m4-lines m4-entries 4

@@ -22,9 +22,9 @@ Small [] = Unit
 Small (v ∷ vs) = (v < 65536) × Small vs
 
 -- the numbers are read from an offset on
-abbrev pub Reads : List ℕ → ℕ → List ℕ → Type 0
-Reads s at [] = Unit
-Reads s at (v ∷ vs) = (numberAt s at 4 ≡ v) × Reads s (at + 4) vs
+abbrev pub ReadsNumbers : List ℕ → ℕ → List ℕ → Type 0
+ReadsNumbers s at [] = Unit
+ReadsNumbers s at (v ∷ vs) = (numberAt s at 4 ≡ v) × ReadsNumbers s (at + 4) vs
 
 pub length-line : (vs : List ℕ) → length (lineOf vs) ≡ 4 * length vs + 1
 length-line [] = refl
@@ -56,14 +56,14 @@ four : (n : ℕ) → 4 * suc n ≡ 4 + 4 * n
 four n = omega arith
 
 -- the numbers of a good line fit four digits
-pub reads-small : (s : List ℕ) (at : ℕ) (vs : List ℕ) → GoodLine s at (4 * length vs) → Reads s at vs → Small vs
+pub reads-small : (s : List ℕ) (at : ℕ) (vs : List ℕ) → GoodLine s at (4 * length vs) → ReadsNumbers s at vs → Small vs
 reads-small s at [] g r = tt
 reads-small s at (v ∷ vs) g r =
     let a = number-fits s at 4 (λ j l. g .digits j (omega arith)) in
     (omega (arith, r .0), reads-small s (at + 4) vs (good-tail s at 4 (4 * length vs) (rw (four (length vs)) at g)) (r .1))
 
 -- the line of the numbers that a good line says is that line
-pub reads-line : (s : List ℕ) (at : ℕ) (vs : List ℕ) → GoodLine s at (4 * length vs) → Reads s at vs → lineOf vs ≡ part s at (4 * length vs + 1)
+pub reads-line : (s : List ℕ) (at : ℕ) (vs : List ℕ) → GoodLine s at (4 * length vs) → ReadsNumbers s at vs → lineOf vs ≡ part s at (4 * length vs + 1)
 reads-line s at [] g r =
     let here : 0 < length (drop at s) = simp length-drop (omega arith) in
     sym (take-suc (drop at s) 0 0 here ∙ rw (getD-drop at s 0 0, g .feed))
@@ -74,7 +74,7 @@ reads-line s at (v ∷ vs) g r =
     (reads-line s (at + 4) vs (good-tail s at 4 (4 * length vs) (rw (four (length vs)) at g)) (r .1)))
 
 -- where the line of some numbers stands, it is good, and these are read
-pub line-reads : (s : List ℕ) (at : ℕ) (vs : List ℕ) → Small vs → at + 4 * length vs < length s → part s at (4 * length vs + 1) ≡ lineOf vs → GoodLine s at (4 * length vs) × Reads s at vs
+pub line-reads : (s : List ℕ) (at : ℕ) (vs : List ℕ) → Small vs → at + 4 * length vs < length s → part s at (4 * length vs + 1) ≡ lineOf vs → GoodLine s at (4 * length vs) × ReadsNumbers s at vs
 line-reads s at [] small within e = (record { within = within; feed = part-at s (10 ∷ []) at 1 0 e (omega arith); digits = λ j l. absurd (omega arith) }, tt)
 line-reads s at (v ∷ vs) small within e =
     let k : 4 * suc (length vs) + 1 ≡ 4 + (4 * length vs + 1) = omega arith in

@@ -9,7 +9,7 @@ ghost use Rattle.range.specs.Lists.{stored};
 ghost use Rattle.table.specs.Table.{item, ofSlices};
 ghost use Rattle.table.specs.Legal.{tableFault, roomFault};
 ghost use Rattle.plan_theory.specs.Plan.{kept};
-ghost use Rattle.plan_slse.specs.Ordered.{planByte};
+ghost use Rattle.plan_slse.specs.FromDearest.{planByte};
 ghost use Rattle.plan_methods.specs.Planning.{planFault, turnsFault, Plans, PlansByTurns};
 ghost use Rattle.plan_methods.specs.declared.Planning.the-variants.{Plan};
 

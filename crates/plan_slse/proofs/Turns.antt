@@ -24,7 +24,7 @@ use Rattle.table.proofs.LegalLaws.{legal-table}
 use Rattle.plan_theory.proofs.Plan.{at-same}
 use Rattle.plan_theory.proofs.Slse.{slse-is-plan}
 use Rattle.plan_theory.proofs.Pass.{early, pass-step}
-use Rattle.plan_slse.specs.Ordered.{planByte}
+use Rattle.plan_slse.specs.FromDearest.{planByte}
 use Rattle.plan_slse.specs.Steps.{eitherShort, bothOver, oneMore, oneLess}
 
 and-false : (b : Bool) → (b && false) ≡ false

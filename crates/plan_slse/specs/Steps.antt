@@ -4,7 +4,7 @@ use mathlib.Core.Bool.{Bool, _&&_, _||_}
 use mathlib.Core.List.{List}
 use lib.Dec.{ltb}
 use Rattle.table.specs.Table.{item}
-use Rattle.table.proofs.DegreeLaws.{changed}
+use Rattle.table.proofs.DegreeLaws.{changedAt}
 
 -- an end has fewer links than it needs
 abbrev pub eitherShort : List ℕ → List ℕ → ℕ → ℕ → Bool
@@ -16,7 +16,7 @@ bothOver counts needs low high = ltb (item needs low) (item counts low) && ltb (
 
 -- one link more, or one less, at both ends
 abbrev pub oneMore : List ℕ → ℕ → ℕ → List ℕ
-oneMore counts low high = changed (λ n. n + 1) (changed (λ n. n + 1) counts low) high
+oneMore counts low high = changedAt (λ n. n + 1) (changedAt (λ n. n + 1) counts low) high
 
 abbrev pub oneLess : List ℕ → ℕ → ℕ → List ℕ
-oneLess counts low high = changed (λ n. n - 1) (changed (λ n. n - 1) counts low) high
+oneLess counts low high = changedAt (λ n. n - 1) (changedAt (λ n. n - 1) counts low) high

@@ -6,7 +6,7 @@ ghost use Rattle.range.specs.Lists.{stored};
 ghost use Rattle.table.specs.Table.{ofSlices};
 ghost use Rattle.table.specs.Legal.{tableFault};
 ghost use Rattle.plan_theory.specs.Plan.{linksAt, added, slse, kept};
-ghost use Rattle.plan_slse.specs.Ordered.{Ordered, planByte};
+ghost use Rattle.plan_slse.specs.FromDearest.{FromDearest, planByte};
 
 // From cheapest up. The costs stand in the contract alone.
 fn add_links(
@@ -23,7 +23,7 @@ fn add_links(
     requires { ⌜ (tableFault 256 2048 (ofSlices 0 probes links (now needs) (now lows) (now highs) (now costs)) ≡ 0)
         × (links ≤ length (now plan)) × (probes ≤ length (now counts)) × (links ≤ length (now order))
         × (probes ≤ length (now needs)) × (links ≤ length (now lows)) × (links ≤ length (now highs))
-        × Ordered (ofSlices 0 probes links (now needs) (now lows) (now highs) (now costs)) (now order)
+        × FromDearest (ofSlices 0 probes links (now needs) (now lows) (now highs) (now costs)) (now order)
         × ((j : ℕ) → j < links → getD (now plan) j 0 ≡ 0) × ((v : ℕ) → v < probes → getD (now counts) v 0 ≡ 0) ⌝ }
     ensures { λ _. ⌜ (now (plan .exit) ≡ stored (λ j. planByte (added (ofSlices 0 probes links (now (needs .entry)) (now (lows .entry)) (now (highs .entry)) (now (costs .entry))) j)) links (now (plan .entry)))
         × ((v : ℕ) → v < probes → getD (now (counts .exit)) v 0 ≡ linksAt (ofSlices 0 probes links (now (needs .entry)) (now (lows .entry)) (now (highs .entry)) (now (costs .entry))) (added (ofSlices 0 probes links (now (needs .entry)) (now (lows .entry)) (now (highs .entry)) (now (costs .entry)))) v) ⌝ }
@@ -58,7 +58,7 @@ fn remove_links(
     requires { ⌜ (tableFault 256 2048 (ofSlices 0 probes links (now needs) (now lows) (now highs) (now costs)) ≡ 0)
         × (links ≤ length (now plan)) × (probes ≤ length (now counts)) × (links ≤ length (now order))
         × (probes ≤ length (now needs)) × (links ≤ length (now lows)) × (links ≤ length (now highs))
-        × Ordered (ofSlices 0 probes links (now needs) (now lows) (now highs) (now costs)) (now order)
+        × FromDearest (ofSlices 0 probes links (now needs) (now lows) (now highs) (now costs)) (now order)
         × ((j : ℕ) → j < links → getD (now plan) j 0 ≡ planByte (added (ofSlices 0 probes links (now needs) (now lows) (now highs) (now costs)) j))
         × ((v : ℕ) → v < probes → getD (now counts) v 0 ≡ linksAt (ofSlices 0 probes links (now needs) (now lows) (now highs) (now costs)) (added (ofSlices 0 probes links (now needs) (now lows) (now highs) (now costs))) v) ⌝ }
     ensures { λ _. ⌜ now (plan .exit) ≡ stored (λ j. planByte (slse (ofSlices 0 probes links (now (needs .entry)) (now (lows .entry)) (now (highs .entry)) (now (costs .entry))) j)) links (now (plan .entry)) ⌝ }
@@ -103,7 +103,7 @@ pub fn plan_in_order(
     requires { ⌜ (tableFault 256 2048 (ofSlices 0 probes links (now needs) (now lows) (now highs) (now costs)) ≡ 0)
         × (links ≤ length (now plan)) × (links ≤ length (now order))
         × (probes ≤ length (now needs)) × (links ≤ length (now lows)) × (links ≤ length (now highs))
-        × Ordered (ofSlices 0 probes links (now needs) (now lows) (now highs) (now costs)) (now order) ⌝ }
+        × FromDearest (ofSlices 0 probes links (now needs) (now lows) (now highs) (now costs)) (now order) ⌝ }
     ensures { λ _. ⌜ now (plan .exit) ≡ stored (λ j. planByte (kept (ofSlices 0 probes links (now (needs .entry)) (now (lows .entry)) (now (highs .entry)) (now (costs .entry))) j)) links (now (plan .entry)) ⌝ }
 {
     let mut counts = [0u16; 256];

@@ -17,7 +17,7 @@ ends t s zero = []
 ends t s (suc n) = ends t s n ++ cond (s n) ((t .low n, t .high n) ∷ []) []
 
 -- the plan's links, their count and their cost
-pub record Plans (t : Table) (links : List (ℕ × ℕ)) (cost : ℕ) : Type 0 where
+pub record SitePlan (t : Table) (links : List (ℕ × ℕ)) (cost : ℕ) : Type 0 where
   pub links-kept : ends t (kept t) (t .links) ≡ links
   pub count-kept : keptCount t ≡ length links
   pub cost-kept : costOf t (kept t) ≡ cost
@@ -35,13 +35,13 @@ abbrev pub triangle : List ℕ → Table
 triangle costs = site (1 ∷ 1 ∷ 1 ∷ []) (0 ∷ 0 ∷ 1 ∷ []) (1 ∷ 2 ∷ 2 ∷ []) costs
 
 pub record Sites : Type 0 where
-  pub m1 : Plans (row (5 ∷ 5 ∷ 5 ∷ [])) ((1, 2) ∷ []) 5
-  pub m2 : Plans (row (5 ∷ 6 ∷ 5 ∷ [])) ((0, 1) ∷ (2, 3) ∷ []) 10
-  pub m3 : Plans (site (0 ∷ []) [] [] []) [] 0
-  pub m4 : Plans (site (0 ∷ 0 ∷ []) (0 ∷ []) (1 ∷ []) (7 ∷ [])) [] 0
-  pub m5 : Plans (site (1 ∷ 0 ∷ []) (0 ∷ []) (1 ∷ []) (7 ∷ [])) ((0, 1) ∷ []) 7
-  pub m6 : Plans (triangle (1 ∷ 2 ∷ 3 ∷ [])) ((0, 1) ∷ (0, 2) ∷ []) 3
-  pub m7 : Plans (triangle (4 ∷ 4 ∷ 4 ∷ [])) ((0, 1) ∷ (0, 2) ∷ []) 8
-  pub m8 : Plans (row (0 ∷ 0 ∷ 0 ∷ [])) ((1, 2) ∷ []) 0
+  pub m1 : SitePlan (row (5 ∷ 5 ∷ 5 ∷ [])) ((1, 2) ∷ []) 5
+  pub m2 : SitePlan (row (5 ∷ 6 ∷ 5 ∷ [])) ((0, 1) ∷ (2, 3) ∷ []) 10
+  pub m3 : SitePlan (site (0 ∷ []) [] [] []) [] 0
+  pub m4 : SitePlan (site (0 ∷ 0 ∷ []) (0 ∷ []) (1 ∷ []) (7 ∷ [])) [] 0
+  pub m5 : SitePlan (site (1 ∷ 0 ∷ []) (0 ∷ []) (1 ∷ []) (7 ∷ [])) ((0, 1) ∷ []) 7
+  pub m6 : SitePlan (triangle (1 ∷ 2 ∷ 3 ∷ [])) ((0, 1) ∷ (0, 2) ∷ []) 3
+  pub m7 : SitePlan (triangle (4 ∷ 4 ∷ 4 ∷ [])) ((0, 1) ∷ (0, 2) ∷ []) 8
+  pub m8 : SitePlan (row (0 ∷ 0 ∷ 0 ∷ [])) ((1, 2) ∷ []) 0
   pub m9 : Phases (row (5 ∷ 6 ∷ 5 ∷ [])) ((0, 1) ∷ (2, 3) ∷ []) []
   pub m10 : Phases (row (5 ∷ 5 ∷ 5 ∷ [])) ((0, 1) ∷ (1, 2) ∷ []) ((0, 1) ∷ [])

@@ -3,11 +3,11 @@ ghost use mathlib.Core.Bool.{true};
 ghost use Prim.Native.Nat.{_+_, _*_, _<_};
 ghost use lib.ListN.{length};
 ghost use Rattle.table.specs.Table.{item};
-ghost use Rattle.plan_turns_search.specs.Chain.{Falling, Rising};
-ghost use Rattle.plan_turns_search.specs.Record.{endOf, mark, Ready, Kept, Offered, Displaces};
-use plan_turns_search::directions::CURSOR;
-use plan_turns_search::directions::FLOOR;
+ghost use Rattle.plan_turns_search.specs.Chain.{DownChains, UpChains};
+ghost use Rattle.plan_turns_search.specs.Record.{endOf, mark, OffersReady, MarksAgree, Offered, Displaces};
 use plan_turns_search::directions::HELD;
+use plan_turns_search::directions::HELD_CURSOR;
+use plan_turns_search::directions::OFFER_CURSOR;
 use plan_turns_search::directions::STANDING;
 use plan_turns_search::directions::end_of;
 use plan_turns_search::directions::entry;
@@ -28,9 +28,9 @@ pub fn make_offer(
     ups: &[u16],
     u: usize,
 ) -> bool
-    requires { ⌜ (Ready links (now lows) (now highs) (now costs) (now spares) (now rec)) × (Kept links (now lows) (now highs) (now costs) (now spares) (now rec) (now marks))
-        × (Falling links (now lows) (now highs) (now costs) (now nexts)) × (Rising links (now lows) (now highs) (now costs) (now ups)) × (u < length (now spares)) × (mark (now marks) u 0 < item (now spares) u) ⌝ }
-    ensures { λ r. ⌜ (Offered links (now (lows .entry)) (now (highs .entry)) (now (costs .entry)) (now (spares .entry)) (now (rec .entry)) (now (rec .exit)) u r) × (Kept links (now (lows .entry)) (now (highs .entry)) (now (costs .entry)) (now (spares .entry)) (now (rec .exit)) (now (marks .exit))) ⌝ }
+    requires { ⌜ (OffersReady links (now lows) (now highs) (now costs) (now spares) (now rec)) × (MarksAgree links (now lows) (now highs) (now costs) (now spares) (now rec) (now marks))
+        × (DownChains links (now lows) (now highs) (now costs) (now nexts)) × (UpChains links (now lows) (now highs) (now costs) (now ups)) × (u < length (now spares)) × (mark (now marks) u 0 < item (now spares) u) ⌝ }
+    ensures { λ r. ⌜ (Offered links (now (lows .entry)) (now (highs .entry)) (now (costs .entry)) (now (spares .entry)) (now (rec .entry)) (now (rec .exit)) u r) × (MarksAgree links (now (lows .entry)) (now (highs .entry)) (now (costs .entry)) (now (spares .entry)) (now (rec .exit)) (now (marks .exit))) ⌝ }
 {
     let d = plan_turns_search::search::next_offer(
         rec,
@@ -44,7 +44,7 @@ pub fn make_offer(
         ups,
         u,
     );
-    store(marks, 4 * u + CURSOR, d);
+    store(marks, 4 * u + OFFER_CURSOR, d);
     if 2 * links <= d {
         return false;
     }
@@ -73,14 +73,14 @@ fn displace(
     ups: &[u16],
     d: usize,
 )
-    requires { ⌜ (Displaces links (now lows) (now highs) (now costs) (now spares) (now rec) d) × (Kept links (now lows) (now highs) (now costs) (now spares) (now rec) (now marks))
-        × (Falling links (now lows) (now highs) (now costs) (now nexts)) × (Rising links (now lows) (now highs) (now costs) (now ups)) ⌝ }
+    requires { ⌜ (Displaces links (now lows) (now highs) (now costs) (now spares) (now rec) d) × (MarksAgree links (now lows) (now highs) (now costs) (now spares) (now rec) (now marks))
+        × (DownChains links (now lows) (now highs) (now costs) (now nexts)) × (UpChains links (now lows) (now highs) (now costs) (now ups)) ⌝ }
     ensures { λ _. ⌜ (Offered links (now (lows .entry)) (now (highs .entry)) (now (costs .entry)) (now (spares .entry)) (now (rec .entry)) (now (rec .exit)) (endOf (now (lows .entry)) (now (highs .entry)) d) true)
-        × (Kept links (now (lows .entry)) (now (highs .entry)) (now (costs .entry)) (now (spares .entry)) (now (rec .exit)) (now (marks .exit))) ⌝ }
+        × (MarksAgree links (now (lows .entry)) (now (highs .entry)) (now (costs .entry)) (now (spares .entry)) (now (rec .exit)) (now (marks .exit))) ⌝ }
 {
     let u = end_of(lows, highs, d);
     let v = end_of(highs, lows, d);
-    let floor = plan_turns_search::search::cheapest(
+    let against = plan_turns_search::search::cheapest(
         rec,
         marks,
         links,
@@ -91,9 +91,9 @@ fn displace(
         ups,
         v,
     );
-    let w = end_of(highs, lows, floor);
-    store(marks, 4 * v + FLOOR, floor);
-    put(rec, opposite(floor), 2);
+    let w = end_of(highs, lows, against);
+    store(marks, 4 * v + HELD_CURSOR, against);
+    put(rec, opposite(against), 2);
     put(rec, d, 1);
     table::degrees::take_one(marks, 4 * w + STANDING);
     table::degrees::add_one(marks, 4 * u + STANDING);

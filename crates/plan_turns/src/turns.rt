@@ -1,8 +1,8 @@
 // The functions, each within the bounds that it asks.
 ghost use Prim.Native.Nat.{_+_, _*_, _<_, _≤_};
 ghost use lib.ListN.{length};
-ghost use Rattle.plan_turns_search.specs.Chain.{Falling, Rising};
-ghost use Rattle.plan_turns_search.specs.Record.{Ready, Kept, Turned, Over};
+ghost use Rattle.plan_turns_search.specs.Chain.{DownChains, UpChains};
+ghost use Rattle.plan_turns_search.specs.Record.{OffersReady, MarksAgree, Turned, Over};
 use plan_turns_search::directions::STANDING;
 use plan_turns_search::directions::entry;
 
@@ -19,9 +19,9 @@ fn turn(
     ups: &[u16],
     p: usize,
 )
-    requires { ⌜ (Ready links (now lows) (now highs) (now costs) (now spares) (now rec)) × (Kept links (now lows) (now highs) (now costs) (now spares) (now rec) (now marks))
-        × (Falling links (now lows) (now highs) (now costs) (now nexts)) × (Rising links (now lows) (now highs) (now costs) (now ups)) × (p < length (now spares)) ⌝ }
-    ensures { λ _. ⌜ (Turned links (now (lows .entry)) (now (highs .entry)) (now (costs .entry)) (now (spares .entry)) (now (rec .entry)) (now (rec .exit)) p) × (Kept links (now (lows .entry)) (now (highs .entry)) (now (costs .entry)) (now (spares .entry)) (now (rec .exit)) (now (marks .exit))) ⌝ }
+    requires { ⌜ (OffersReady links (now lows) (now highs) (now costs) (now spares) (now rec)) × (MarksAgree links (now lows) (now highs) (now costs) (now spares) (now rec) (now marks))
+        × (DownChains links (now lows) (now highs) (now costs) (now nexts)) × (UpChains links (now lows) (now highs) (now costs) (now ups)) × (p < length (now spares)) ⌝ }
+    ensures { λ _. ⌜ (Turned links (now (lows .entry)) (now (highs .entry)) (now (costs .entry)) (now (spares .entry)) (now (rec .entry)) (now (rec .exit)) p) × (MarksAgree links (now (lows .entry)) (now (highs .entry)) (now (costs .entry)) (now (spares .entry)) (now (rec .exit)) (now (marks .exit))) ⌝ }
 {
     loop {
         if entry(spares, p) <= entry(marks, 4 * p + STANDING) {
@@ -58,8 +58,8 @@ pub fn take_turns(
     nexts: &[u16],
     ups: &[u16],
 )
-    requires { ⌜ (Ready links (now lows) (now highs) (now costs) (now spares) (now rec)) × (Kept links (now lows) (now highs) (now costs) (now spares) (now rec) (now marks))
-        × (Falling links (now lows) (now highs) (now costs) (now nexts)) × (Rising links (now lows) (now highs) (now costs) (now ups)) × (probes ≤ length (now spares)) ⌝ }
+    requires { ⌜ (OffersReady links (now lows) (now highs) (now costs) (now spares) (now rec)) × (MarksAgree links (now lows) (now highs) (now costs) (now spares) (now rec) (now marks))
+        × (DownChains links (now lows) (now highs) (now costs) (now nexts)) × (UpChains links (now lows) (now highs) (now costs) (now ups)) × (probes ≤ length (now spares)) ⌝ }
     ensures { λ _. ⌜ Over links (now (lows .entry)) (now (highs .entry)) (now (costs .entry)) (now (spares .entry)) (now (rec .exit)) probes ⌝ }
 {
     let mut p = 0;

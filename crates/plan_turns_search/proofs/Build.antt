@@ -18,7 +18,7 @@ use Rattle.plan_theory.proofs.Places.{place-lt, place-below}
 use Rattle.plan_order.specs.Order.{falling, later, ByPlace}
 use Rattle.plan_order.proofs.Order.{By, is-by, later-order}
 use Rattle.plan_turns_search.specs.Record.{endOf, keyOf}
-use Rattle.plan_turns_search.specs.Chain.{Below, ChainBelow, Falls, LinkedBy, turnedKey, Falling, Rising}
+use Rattle.plan_turns_search.specs.Chain.{Below, ChainBelow, Falls, LinkedBy, turnedKey, DownChains, UpChains}
 use Rattle.plan_turns_search.proofs.Record.{end-from, end-back}
 
 -- the order of links as one number
@@ -113,8 +113,8 @@ module _ (links : ℕ) (lows highs order : List ℕ) (key : ℕ → ℕ) (f : Fa
       (c : ChainBelow (2 * links) source at heads nexts (roof links key order (k + 1))) (lk : k < links) (ei : i ≡ item order k) (el : low ≡ item lows i) (eh : high ≡ item highs i)
       (room : high < length heads) (long : 2 * links ≤ length nexts)
       (eheads : heads′ ≡ set (set heads low (2 * i)) high (2 * i + 1)) (enexts : nexts′ ≡ set (set nexts (2 * i) (item heads low)) (2 * i + 1) (item heads high)) where
-    abbrev floor : ℕ
-    floor = roof links key order (k + 1)
+    abbrev held : ℕ
+    held = roof links key order (k + 1)
 
     abbrev top : ℕ
     top = key i
@@ -138,10 +138,10 @@ module _ (links : ℕ) (lows highs order : List ℕ) (key : ℕ → ℕ) (f : Fa
         go j lj q w (no a) (yes b) = let m = f .falls k j b lj in let t = top-at in absurd (omega arith)
         go j lj q w (no a) (no b) = let z : j ≡ k = omega arith in let y = ap (item order) z in omega arith
 
-    gap : (g : ℕ) → g < 2 * links → at g < top → at g < floor
+    gap : (g : ℕ) → g < 2 * links → at g < top → at g < held
     gap g lg m = let x = spot g lg in go (x .0) (x .1) (x .2) (decLt k (x .0)) (decLt (k + 1) (x .0))
       where
-        go : (j : ℕ) → j < links → at g ≡ key (item order j) → Dec (k < j) → Dec (k + 1 < j) → at g < floor
+        go : (j : ℕ) → j < links → at g ≡ key (item order j) → Dec (k < j) → Dec (k + 1 < j) → at g < held
         go j lj q (no a) b = absurd (less (decLt j k))
           where
             less : Dec (j < k) → ⊥
@@ -153,10 +153,10 @@ module _ (links : ℕ) (lows highs order : List ℕ) (key : ℕ → ℕ) (f : Fa
             let n = ap {B = ℕ} (λ (x : ℕ). key (item order x)) z in
             rw (lt-ltb (k + 1) links (omega arith)) (omega arith)
 
-    over : floor ≤ top
+    over : held ≤ top
     over = go (decLt (k + 1) links)
       where
-        go : Dec (k + 1 < links) → floor ≤ top
+        go : Dec (k + 1 < links) → held ≤ top
         go (yes a) = let m = f .falls k (k + 1) (omega arith) a in let t = top-at in rw (lt-ltb (k + 1) links a) (omega arith)
         go (no a) = rw (le-ltb (k + 1) links (omega arith)) (omega arith)
 
@@ -196,12 +196,12 @@ module _ (links : ℕ) (lows highs order : List ℕ) (key : ℕ → ℕ) (f : Fa
             (head low (2 * i) (omega arith) end-low key-low)
         firsts v m (no n) (no n′) =
             rw (eheads, getD-set-other (set heads low (2 * i)) high v (2 * i + 1) 0 n, getD-set-other heads low v (2 * i) 0 n′)
-            (raise (2 * links) source at v floor (top + 1) (item heads v) (c .firsts v (let a = heads-same in omega arith)) (let a = over in omega arith) under)
+            (raise (2 * links) source at v held (top + 1) (item heads v) (c .firsts v (let a = heads-same in omega arith)) (let a = over in omega arith) under)
           where
-            under : (g : ℕ) → g < 2 * links → source g ≡ v → at g < top + 1 → at g < floor
+            under : (g : ℕ) → g < 2 * links → source g ≡ v → at g < top + 1 → at g < held
             under g lg own a = go (ℕ-discrete (at g) top)
               where
-                go : Dec (at g ≡ top) → at g < floor
+                go : Dec (at g ≡ top) → at g < held
                 go (no x) = gap g lg (omega arith)
                 go (yes x) = absurd (side (ℕ-discrete g (2 * i)))
                   where
@@ -224,16 +224,16 @@ module _ (links : ℕ) (lows highs order : List ℕ) (key : ℕ → ℕ) (f : Fa
               end-low,
               key-low,
             )
-            (raise (2 * links) source at low floor top (item heads low) (c .firsts low (let x = rises i l in omega arith)) over (λ g lg own b. gap g lg b))
+            (raise (2 * links) source at low held top (item heads low) (c .firsts low (let x = rises i l in omega arith)) over (λ g lg own b. gap g lg b))
         follows d m a (no n) (yes e) =
             let y = l in
             rw (e, enexts, getD-set-same (set nexts (2 * i) (item heads low)) (2 * i + 1) (item heads high) 0 (simp length-set (omega arith)), end-high, key-high)
-            (raise (2 * links) source at high floor top (item heads high) (c .firsts high room) over (λ g lg own b. gap g lg b))
+            (raise (2 * links) source at high held top (item heads high) (c .firsts high room) over (λ g lg own b. gap g lg b))
         follows d m a (no n) (no n′) =
             rw (enexts, getD-set-other (set nexts (2 * i) (item heads low)) (2 * i + 1) d (item heads high) 0 n′, getD-set-other nexts (2 * i) d (item heads low) 0 n)
             (c .follows d m (go (ℕ-discrete (at d) top)))
           where
-            go : Dec (at d ≡ top) → at d < floor
+            go : Dec (at d ≡ top) → at d < held
             go (no x) = gap d m (omega arith)
             go (yes x) = let h = own-link d m x in absurd (omega (arith, n, n′))
 
@@ -248,7 +248,7 @@ module _ (links : ℕ) (lows highs costs : List ℕ) (few : links ≤ 2048) (che
   by-key = order-falls links costs order few p
 
   pub chains-down : (firsts nexts : List ℕ) → LinkedBy links lows highs order firsts nexts → 2 * links ≤ length nexts
-      → ((v : ℕ) → v < length firsts → Below (2 * links) (endOf lows highs) (keyOf costs) v 4294967296 (item firsts v)) × Falling links lows highs costs nexts
+      → ((v : ℕ) → v < length firsts → Below (2 * links) (endOf lows highs) (keyOf costs) v 4294967296 (item firsts v)) × DownChains links lows highs costs nexts
   unfolding keyOf
   chains-down firsts nexts c long =
       (k .firsts, record { long = long; next = λ d l. k .follows d l (small (d / 2) (omega arith)) })
@@ -280,7 +280,7 @@ module _ (links : ℕ) (lows highs costs : List ℕ) (few : links ≤ 2048) (che
             (links - 1 - x .0, y, at-round (links - 1 - x .0) y ∙ ap (item order) z ∙ x .2)
 
     pub chains-up : (firsts ups : List ℕ) → LinkedBy links lows highs round firsts ups → 2 * links ≤ length ups
-        → ((v : ℕ) → v < length firsts → Below (2 * links) (endOf lows highs) (turnedKey costs) v 4294967296 (item firsts v)) × Rising links lows highs costs ups
+        → ((v : ℕ) → v < length firsts → Below (2 * links) (endOf lows highs) (turnedKey costs) v 4294967296 (item firsts v)) × UpChains links lows highs costs ups
     unfolding keyOf
     chains-up firsts ups c long =
         (k .firsts, record { long = long; next = λ d l. k .follows d l (omega arith) })

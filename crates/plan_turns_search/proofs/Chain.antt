@@ -10,9 +10,9 @@ use borrow.Author.Tests.{lt-ltb, le-ltb, eqb-true, eq-eqb, ne-eqb}
 use Rattle.range.proofs.Bools.{and-left, and-right, and-intro}
 use Rattle.range.proofs.Sums.{weigh-le, count-less, member}
 use Rattle.table.specs.Table.{item}
-use Rattle.plan_turns_search.specs.Offers.{Site, holds, rivals, Shut, Inv, Grows, Sought, Cheapest, Walk, Floor}
-use Rattle.plan_turns_search.specs.Record.{endOf, keyOf, siteOf, Fits}
-use Rattle.plan_turns_search.specs.Chain.{opposite, Below, Follows, Falling, Rising, turnedKey}
+use Rattle.plan_turns_search.specs.Offers.{Site, holds, dearerHeld, WouldRefuse, Inv, Grows, Sought, Cheapest, OfferSearch, HeldSearch}
+use Rattle.plan_turns_search.specs.Record.{endOf, keyOf, siteOf, SiteInSlices}
+use Rattle.plan_turns_search.specs.Chain.{opposite, Below, Follows, DownChains, UpChains, turnedKey}
 use Rattle.plan_turns_search.proofs.Record.{end-even, end-odd, distinct}
 
 opposite-even : (d : ℕ) → d % 2 ≡ 0 → opposite d ≡ d + 1
@@ -63,22 +63,22 @@ falls dirs source key nexts follows d e l q = rw (lt-ltb d dirs l) (go (decLt e 
     go (no k) = rw (le-ltb e dirs (omega arith)) (omega arith)
 
 -- what the searches know stays so
-pub walk-grows : (s : Site) (o o′ : ℕ → ℕ) → Grows s o o′ → (u e : ℕ) → Walk s o u e → Walk s o′ u e
+pub walk-grows : (s : Site) (o o′ : ℕ → ℕ) → Grows s o o′ → (u e : ℕ) → OfferSearch s o u e → OfferSearch s o′ u e
 walk-grows s o o′ grows u e w =
     record {
       own = w .own;
-      top = λ l g lg own z m. grows .shut g lg (w .top l g lg own (grows .tried g z) m);
-      end = λ l g lg own z. grows .shut g lg (w .end l g lg own (grows .tried g z));
+      top = λ l g lg own z m. grows .refuses g lg (w .top l g lg own (grows .tried g z) m);
+      end = λ l g lg own z. grows .refuses g lg (w .end l g lg own (grows .tried g z));
     }
 
-pub floor-grows : (s : Site) (o o′ : ℕ → ℕ) → Grows s o o′ → (v f : ℕ) → Floor s o v f → Floor s o′ v f
-floor-grows s o o′ grows v f h =
-    record { below = h .below; own = h .own; low = λ g lg at m. grows .shut g lg (h .low g lg at m) }
+pub held-grows : (s : Site) (o o′ : ℕ → ℕ) → Grows s o o′ → (v f : ℕ) → HeldSearch s o v f → HeldSearch s o′ v f
+held-grows s o o′ grows v f h =
+    record { below = h .below; own = h .own; low = λ g lg at m. grows .refuses g lg (h .low g lg at m) }
 
-pub walk-sought : (s : Site) (o : ℕ → ℕ) (u r : ℕ) → Sought s o u r → Walk s o u r
+pub walk-sought : (s : Site) (o : ℕ → ℕ) (u r : ℕ) → Sought s o u r → OfferSearch s o u r
 walk-sought s o u r h = record { own = λ l. h .some l .own; top = λ l. h .some l .dearest; end = h .none }
 
-module _ (links : ℕ) (lows highs costs spares : List ℕ) (fits : Fits links lows highs costs spares) where
+module _ (links : ℕ) (lows highs costs spares : List ℕ) (fits : SiteInSlices links lows highs costs spares) where
   abbrev site : Site
   site = siteOf links lows highs costs spares
 
@@ -86,7 +86,7 @@ module _ (links : ℕ) (lows highs costs spares : List ℕ) (fits : Fits links l
   unfolding keyOf
   small d l = let a = fits .cheap (d / 2) in let b = fits .few in omega arith
 
-  pub walk-start : (o : ℕ → ℕ) (u e : ℕ) → Below (2 * links) (endOf lows highs) (keyOf costs) u 4294967296 e → Walk site o u e
+  pub walk-start : (o : ℕ → ℕ) (u e : ℕ) → Below (2 * links) (endOf lows highs) (keyOf costs) u 4294967296 e → OfferSearch site o u e
   walk-start o u e b =
       record {
         own = b .own;
@@ -94,10 +94,10 @@ module _ (links : ℕ) (lows highs costs spares : List ℕ) (fits : Fits links l
         end = λ k g lg own z. absurd (b .none k g lg own (small g lg));
       }
 
-  pub floor-start : (o : ℕ → ℕ) (v f : ℕ) → Below (2 * links) (endOf lows highs) (turnedKey costs) v 4294967296 f → (d : ℕ) → d < 2 * links → endOf highs lows d ≡ v → Floor site o v f
-  floor-start o v f b d l at = go (decLt f (2 * links))
+  pub held-start : (o : ℕ → ℕ) (v f : ℕ) → Below (2 * links) (endOf lows highs) (turnedKey costs) v 4294967296 f → (d : ℕ) → d < 2 * links → endOf highs lows d ≡ v → HeldSearch site o v f
+  held-start o v f b d l at = go (decLt f (2 * links))
     where
-      go : Dec (f < 2 * links) → Floor site o v f
+      go : Dec (f < 2 * links) → HeldSearch site o v f
       go (no n) = absurd (b .none (omega arith) (opposite d) (opposite-below links d l) (opposite-end lows highs d ∙ at) (omega arith))
       go (yes k) = record { below = k; own = b .own k; low = λ g lg own m. absurd (none g lg own m) }
         where
@@ -109,7 +109,7 @@ module _ (links : ℕ) (lows highs costs spares : List ℕ) (fits : Fits links l
               omega arith
 
   module _ (o : ℕ → ℕ) (u : ℕ) where
-    pub walk-next : (nexts : List ℕ) → Falling links lows highs costs nexts → (d e : ℕ) → d < 2 * links → Walk site o u d → (o d ≡ 0 → Shut site o d) → e ≡ item nexts d → Walk site o u e
+    pub walk-next : (nexts : List ℕ) → DownChains links lows highs costs nexts → (d e : ℕ) → d < 2 * links → OfferSearch site o u d → (o d ≡ 0 → WouldRefuse site o d) → e ≡ item nexts d → OfferSearch site o u e
     walk-next nexts chain d e l w past q =
         record {
           own = λ k. b .own k ∙ w .own l;
@@ -120,21 +120,21 @@ module _ (links : ℕ) (lows highs costs spares : List ℕ) (fits : Fits links l
         b : Below (2 * links) (endOf lows highs) (keyOf costs) (endOf lows highs d) (keyOf costs d) e
         b = rw q (chain .next d l)
 
-        go : (g : ℕ) → g < 2 * links → endOf lows highs g ≡ u → o g ≡ 0 → (keyOf costs g < keyOf costs d → ⊥) → Dec (keyOf costs g < keyOf costs d) → Dec (keyOf costs d < keyOf costs g) → Shut site o g
+        go : (g : ℕ) → g < 2 * links → endOf lows highs g ≡ u → o g ≡ 0 → (keyOf costs g < keyOf costs d → ⊥) → Dec (keyOf costs g < keyOf costs d) → Dec (keyOf costs d < keyOf costs g) → WouldRefuse site o g
         go g lg own z n (yes a) c = absurd (n a)
         go g lg own z n (no a) (yes c) = w .top l g lg own z c
         go g lg own z n (no a) (no c) =
             let e : g ≡ d = distinct links lows highs costs spares fits .sources g d lg l (own ∙ sym (w .own l)) (omega arith) in
             rw e (past (sym (ap o e) ∙ z))
 
-    pub walk-found : (d : ℕ) → d < 2 * links → Walk site o u d → o d ≡ 0 → rivals site o d < item spares (endOf highs lows d) → Sought site o u d
+    pub walk-found : (d : ℕ) → d < 2 * links → OfferSearch site o u d → o d ≡ 0 → dearerHeld site o d < item spares (endOf highs lows d) → Sought site o u d
     walk-found d l w z free =
         record {
           some = λ k. record { below = l; own = w .own l; untried = z; wanted = free; dearest = w .top l };
           none = λ k. absurd (omega arith);
         }
 
-    pub walk-end : (e : ℕ) → 2 * links ≤ e → Walk site o u e → Sought site o u (2 * links)
+    pub walk-end : (e : ℕ) → 2 * links ≤ e → OfferSearch site o u e → Sought site o u (2 * links)
     walk-end e l w = record { some = λ k. absurd (omega arith); none = λ k. w .end l }
 
   -- the offers that v holds, of which f's opposite may be the cheapest
@@ -163,41 +163,41 @@ module _ (links : ℕ) (lows highs costs spares : List ℕ) (fits : Fits links l
         held-is g (eqb-true (endOf highs lows g) (endOf highs lows d) (and-left x y both) ∙ at) (eqb-true (o g) 1 (and-right (x && y) (eqb (o g) 1) h))
 
     -- v holds g, which is not dearer than d: not all that v holds is dearer
-    some-cheaper : (d : ℕ) → endOf highs lows d ≡ v → (g : ℕ) → g < 2 * links → endOf highs lows g ≡ v → o g ≡ 1 → keyOf costs g ≤ keyOf costs d → rivals site o d < item spares v
+    some-cheaper : (d : ℕ) → endOf highs lows d ≡ v → (g : ℕ) → g < 2 * links → endOf highs lows g ≡ v → o g ≡ 1 → keyOf costs g ≤ keyOf costs d → dearerHeld site o d < item spares v
     some-cheaper d at g lg own e m =
         let a = count-less (2 * links) (rival d) holder g (λ j l h. rival-held d at j h) lg (rw (eq-eqb (endOf highs lows g) (endOf highs lows d) (own ∙ sym at), le-ltb (keyOf costs d) (keyOf costs g) m)) (held-is g own e) in
         let b = inv .holding v in
         omega arith
 
-    pub taken-free : (d n : ℕ) → endOf highs lows d ≡ v → n ≡ holds site o v → n < item spares v → rivals site o d < item spares (endOf highs lows d)
+    pub taken-free : (d n : ℕ) → endOf highs lows d ≡ v → n ≡ holds site o v → n < item spares v → dearerHeld site o d < item spares (endOf highs lows d)
     taken-free d n at e m =
         let a = weigh-le (2 * links) (rival d) holder (λ g. 1) (λ j l h. rival-held d at j h) in
         let b = ap (item spares) at in
         omega arith
 
-    pub floor-at : 0 < holds site o v → (f : ℕ) → ((d : ℕ) → d < 2 * links → endOf highs lows d ≡ v → Floor site o v f) → Floor site o v f
-    floor-at some f h = let m = member (2 * links) holder some in h (m .0) (m .1) (holder-at (m .0) (m .2))
+    pub held-at : 0 < holds site o v → (f : ℕ) → ((d : ℕ) → d < 2 * links → endOf highs lows d ≡ v → HeldSearch site o v f) → HeldSearch site o v f
+    held-at some f h = let m = member (2 * links) holder some in h (m .0) (m .1) (holder-at (m .0) (m .2))
 
-    module _ (f : ℕ) (floor : Floor site o v f) where
+    module _ (f : ℕ) (held : HeldSearch site o v f) where
       back-below : opposite f < 2 * links
-      back-below = opposite-below links f (floor .below)
+      back-below = opposite-below links f (held .below)
 
       back-at : endOf highs lows (opposite f) ≡ v
-      back-at = opposite-end highs lows f ∙ floor .own
+      back-at = opposite-end highs lows f ∙ held .own
 
       back-key : keyOf costs (opposite f) ≡ keyOf costs f
       back-key = opposite-key costs f
 
-      -- what v holds is not below its floor
+      -- what v holds is not below its cursor
       not-below : (g : ℕ) → g < 2 * links → endOf highs lows g ≡ v → o g ≡ 1 → keyOf costs g < keyOf costs f → ⊥
       not-below g lg own e m =
           let a = some-cheaper g own g lg own e (omega arith) in
-          let b = floor .low g lg own m in
+          let b = held .low g lg own m in
           let k = ap (item spares) own in
           omega arith
 
-      pub floor-cheapest : o (opposite f) ≡ 1 → Cheapest site o v (opposite f)
-      floor-cheapest e =
+      pub held-cheapest : o (opposite f) ≡ 1 → Cheapest site o v (opposite f)
+      held-cheapest e =
           record {
             below = back-below;
             own = back-at;
@@ -209,16 +209,16 @@ module _ (links : ℕ) (lows highs costs spares : List ℕ) (fits : Fits links l
           least g lg own h (yes m) = absurd (not-below g lg own h m)
           least g lg own h (no m) = let a = back-key in omega arith
 
-      pub floor-wanted : (d : ℕ) → endOf highs lows d ≡ v → keyOf costs f < keyOf costs d → o (opposite f) ≡ 1 → rivals site o d < item spares (endOf highs lows d)
-      floor-wanted d at m e =
+      pub held-wanted : (d : ℕ) → endOf highs lows d ≡ v → keyOf costs f < keyOf costs d → o (opposite f) ≡ 1 → dearerHeld site o d < item spares (endOf highs lows d)
+      held-wanted d at m e =
           let a = some-cheaper d at (opposite f) back-below back-at e (let k = back-key in omega arith) in
           let b = ap (item spares) at in
           omega arith
 
       module _ (full : item spares v ≤ holds site o v) where
         -- v holds nothing as cheap as d
-        pub floor-shut : (d : ℕ) → d < 2 * links → endOf highs lows d ≡ v → (o d ≡ 1 → ⊥) → keyOf costs d ≤ keyOf costs f → Shut site o d
-        floor-shut d ld at off m =
+        pub held-refuses : (d : ℕ) → d < 2 * links → endOf highs lows d ≡ v → (o d ≡ 1 → ⊥) → keyOf costs d ≤ keyOf costs f → WouldRefuse site o d
+        held-refuses d ld at off m =
             let a = weigh-le (2 * links) holder (rival d) (λ g. 1) (λ g lg h.
             and-intro (and-intro (eq-eqb (endOf highs lows g) (endOf highs lows d) (holder-at g h ∙ sym at))
             (lt-ltb (keyOf costs d) (keyOf costs g) (less g lg (holder-at g h) (holder-on g h) (decLt (keyOf costs g) (keyOf costs f)) (decLt (keyOf costs d) (keyOf costs g))))) (eq-eqb (o g) 1 (holder-on g h))) in
@@ -232,29 +232,29 @@ module _ (links : ℕ) (lows highs costs spares : List ℕ) (fits : Fits links l
                 let q : g ≡ d = distinct links lows highs costs spares fits .targets g d lg ld (own ∙ sym at) (omega arith) in
                 absurd (off (sym (ap o q) ∙ e))
 
-        pub floor-next : (ups : List ℕ) → Rising links lows highs costs ups → (o (opposite f) ≡ 1 → ⊥) → (d : ℕ) → d < 2 * links → endOf highs lows d ≡ v → keyOf costs f < keyOf costs d
-            → (e : ℕ) → e ≡ item ups f → Floor site o v e
-        floor-next ups chain off d ld at more e q = go (decLt e (2 * links))
+        pub held-next : (ups : List ℕ) → UpChains links lows highs costs ups → (o (opposite f) ≡ 1 → ⊥) → (d : ℕ) → d < 2 * links → endOf highs lows d ≡ v → keyOf costs f < keyOf costs d
+            → (e : ℕ) → e ≡ item ups f → HeldSearch site o v e
+        held-next ups chain off d ld at more e q = go (decLt e (2 * links))
           where
             b : Below (2 * links) (endOf lows highs) (turnedKey costs) (endOf lows highs f) (turnedKey costs f) e
-            b = rw q (chain .next f (floor .below))
+            b = rw q (chain .next f (held .below))
 
             -- what is dearer than f
             above : (g : ℕ) → g < 2 * links → endOf highs lows g ≡ v → keyOf costs f < keyOf costs g → (endOf lows highs (opposite g) ≡ endOf lows highs f) × (turnedKey costs (opposite g) < turnedKey costs f)
             above g lg own m =
-                (opposite-end lows highs g ∙ own ∙ sym (floor .own), let a = opposite-key costs g in let x = small g lg in omega arith)
+                (opposite-end lows highs g ∙ own ∙ sym (held .own), let a = opposite-key costs g in let x = small g lg in omega arith)
 
-            go : Dec (e < 2 * links) → Floor site o v e
+            go : Dec (e < 2 * links) → HeldSearch site o v e
             go (no n) = let a = above d ld at more in absurd (b .none (omega arith) (opposite d) (opposite-below links d ld) (a .0) (a .1))
             go (yes k) =
                 record {
                   below = k;
-                  own = b .own k ∙ floor .own;
+                  own = b .own k ∙ held .own;
                   low = λ g lg own m. low g lg own m (decLt (keyOf costs g) (keyOf costs f)) (decLt (keyOf costs f) (keyOf costs g));
                 }
               where
-                low : (g : ℕ) → g < 2 * links → endOf highs lows g ≡ v → keyOf costs g < keyOf costs e → Dec (keyOf costs g < keyOf costs f) → Dec (keyOf costs f < keyOf costs g) → Shut site o g
-                low g lg own m (yes x) y = floor .low g lg own x
+                low : (g : ℕ) → g < 2 * links → endOf highs lows g ≡ v → keyOf costs g < keyOf costs e → Dec (keyOf costs g < keyOf costs f) → Dec (keyOf costs f < keyOf costs g) → WouldRefuse site o g
+                low g lg own m (yes x) y = held .low g lg own x
                 low g lg own m (no x) (yes y) =
                     let a = above g lg own y in
                     let w = b .most k (opposite g) (opposite-below links g lg) (a .0) (a .1) in
@@ -264,14 +264,14 @@ module _ (links : ℕ) (lows highs costs spares : List ℕ) (fits : Fits links l
                 low g lg own m (no x) (no y) =
                     let z = back-key in
                     let t : g ≡ opposite f = distinct links lows highs costs spares fits .targets g (opposite f) lg back-below (own ∙ sym back-at) (omega arith) in
-                    floor-shut g lg own (λ w. off (sym (ap o t) ∙ w)) (omega arith)
+                    held-refuses g lg own (λ w. off (sym (ap o t) ∙ w)) (omega arith)
 
         -- what v holds is further up
-        pub floor-step : (ups : List ℕ) → Rising links lows highs costs ups → (o (opposite f) ≡ 1 → ⊥) → 0 < holds site o v → (e : ℕ) → e ≡ item ups f → Floor site o v e
-        floor-step ups chain off some e q =
+        pub held-step : (ups : List ℕ) → UpChains links lows highs costs ups → (o (opposite f) ≡ 1 → ⊥) → 0 < holds site o v → (e : ℕ) → e ≡ item ups f → HeldSearch site o v e
+        held-step ups chain off some e q =
             let m = member (2 * links) holder some in
             let g = m .0 in
-            floor-next ups chain off g (m .1) (holder-at g (m .2)) (dearer g (m .1) (m .2) (decLt (keyOf costs g) (keyOf costs f)) (decLt (keyOf costs f) (keyOf costs g))) e q
+            held-next ups chain off g (m .1) (holder-at g (m .2)) (dearer g (m .1) (m .2) (decLt (keyOf costs g) (keyOf costs f)) (decLt (keyOf costs f) (keyOf costs g))) e q
           where
             dearer : (g : ℕ) → g < 2 * links → holder g ≡ true → Dec (keyOf costs g < keyOf costs f) → Dec (keyOf costs f < keyOf costs g) → keyOf costs f < keyOf costs g
             dearer g lg h (yes x) y = absurd (not-below g lg (holder-at g h) (holder-on g h) x)

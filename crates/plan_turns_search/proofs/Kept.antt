@@ -7,8 +7,8 @@ use native.Mathlib.Decide.{ℕ-discrete}
 use lib.ListN.{length, set, length-set}
 use lib.Seq.{getD-set-same, getD-set-other}
 use Rattle.table.specs.Table.{item}
-use Rattle.plan_turns_search.specs.Record.{atSource, endOf, siteOf, mark, FirstMarks, Kept}
-use Rattle.plan_turns_search.specs.Offers.{Site, Sought, Floor, Walk}
+use Rattle.plan_turns_search.specs.Record.{atSource, endOf, siteOf, mark, FirstMarks, MarksAgree}
+use Rattle.plan_turns_search.specs.Offers.{Site, Sought, HeldSearch, OfferSearch}
 use Rattle.plan_turns_search.proofs.Chain.{walk-sought}
 
 -- in another column
@@ -36,17 +36,17 @@ pub room-kept : (marks marks′ : List ℕ) (n i x : ℕ) → marks′ ≡ set m
 room-kept marks marks′ n i x e l = rw e (simp length-set l)
 
 -- the searches' starts of one more probe
-pub first-next : (cursors floors marks marks₁ marks₂ : List ℕ) (v x y : ℕ) → 4 * v + 3 < length marks → x ≡ item cursors v → y ≡ item floors v → marks₁ ≡ set marks (4 * v + 2) x → marks₂ ≡ set marks₁ (4 * v + 3) y
-    → FirstMarks cursors floors marks v → FirstMarks cursors floors marks₂ (v + 1)
-first-next cursors floors marks marks₁ marks₂ v x y l ex ey e₁ e₂ f =
+pub first-next : (cursors lasts marks marks₁ marks₂ : List ℕ) (v x y : ℕ) → 4 * v + 3 < length marks → x ≡ item cursors v → y ≡ item lasts v → marks₁ ≡ set marks (4 * v + 2) x → marks₂ ≡ set marks₁ (4 * v + 3) y
+    → FirstMarks cursors lasts marks v → FirstMarks cursors lasts marks₂ (v + 1)
+first-next cursors lasts marks marks₁ marks₂ v x y l ex ey e₁ e₂ f =
     record { none = λ w. (still w 0 (omega arith) ∙ f .none w .0, still w 1 (omega arith) ∙ f .none w .1); starts = starts }
   where
     still : (w k : ℕ) → k < 2 → mark marks₂ w k ≡ mark marks w k
     still w k lk = mark-other marks₁ marks₂ v 3 y w k e₂ (omega arith) (omega arith) (λ z. omega arith) ∙ mark-other marks marks₁ v 2 x w k e₁ (omega arith) (omega arith) (λ z. omega arith)
 
-    floors-at : (w : ℕ) → w < v + 1 → mark marks₂ w 3 ≡ item floors w
-    floors-at =
-        mark-column (λ w n. w < v → n ≡ item floors w) (λ w n. n ≡ item floors w) (v + 1) 3 marks₁ marks₂ v y e₂ (omega arith) (room-kept marks marks₁ (4 * (v + 1)) (4 * v + 2) x e₁ (omega arith)) (omega arith) ey
+    lasts-at : (w : ℕ) → w < v + 1 → mark marks₂ w 3 ≡ item lasts w
+    lasts-at =
+        mark-column (λ w n. w < v → n ≡ item lasts w) (λ w n. n ≡ item lasts w) (v + 1) 3 marks₁ marks₂ v y e₂ (omega arith) (room-kept marks marks₁ (4 * (v + 1)) (4 * v + 2) x e₁ (omega arith)) (omega arith) ey
         (λ w m z h. h (omega arith)) (λ w m b. mark-other marks marks₁ v 2 x w 3 e₁ (omega arith) (omega arith) (λ z. omega arith) ∙ f .starts w b .1)
 
     cursors-at : (w : ℕ) → w < v + 1 → mark marks₁ w 2 ≡ item cursors w
@@ -54,32 +54,32 @@ first-next cursors floors marks marks₁ marks₂ v x y l ex ey e₁ e₂ f =
         mark-column (λ w n. w < v → n ≡ item cursors w) (λ w n. n ≡ item cursors w) (v + 1) 2 marks marks₁ v x e₁ (omega arith) (omega arith) (omega arith) ex
         (λ w m z h. h (omega arith)) (λ w m b. f .starts w b .0)
 
-    starts : (w : ℕ) → w < v + 1 → (mark marks₂ w 2 ≡ item cursors w) × (mark marks₂ w 3 ≡ item floors w)
-    starts w m = (mark-other marks₁ marks₂ v 3 y w 2 e₂ (omega arith) (omega arith) (λ z. omega arith) ∙ cursors-at w m, floors-at w m)
+    starts : (w : ℕ) → w < v + 1 → (mark marks₂ w 2 ≡ item cursors w) × (mark marks₂ w 3 ≡ item lasts w)
+    starts w m = (mark-other marks₁ marks₂ v 3 y w 2 e₂ (omega arith) (omega arith) (λ z. omega arith) ∙ cursors-at w m, lasts-at w m)
 
-module _ (links : ℕ) (lows highs costs spares r marks : List ℕ) (k : Kept links lows highs costs spares r marks) where
+module _ (links : ℕ) (lows highs costs spares r marks : List ℕ) (k : MarksAgree links lows highs costs spares r marks) where
   abbrev site : Site
   site = siteOf links lows highs costs spares
 
-  pub cursor-moved : (u d : ℕ) → u < length spares → Sought site (atSource r) u d → (marks′ : List ℕ) → marks′ ≡ set marks (4 * u + 2) d → Kept links lows highs costs spares r marks′
+  pub cursor-moved : (u d : ℕ) → u < length spares → Sought site (atSource r) u d → (marks′ : List ℕ) → marks′ ≡ set marks (4 * u + 2) d → MarksAgree links lows highs costs spares r marks′
   cursor-moved u d l s marks′ e =
       record {
         room = room-kept marks marks′ (4 * length spares) (4 * u + 2) d e (k .room);
         standing = λ w m. rw (mark-other marks marks′ u 2 d w 0 e (omega arith) (omega arith) (λ z. omega arith)) (k .standing w m);
         held = λ w m. rw (mark-other marks marks′ u 2 d w 1 e (omega arith) (omega arith) (λ z. omega arith)) (k .held w m);
-        cursors = mark-column (Walk site (atSource r)) (Walk site (atSource r)) (length spares) 2 marks marks′ u d e (omega arith) (k .room) l (walk-sought site (atSource r) u d s) (λ w m z a. a) (k .cursors);
-        floors = λ w m. rw (mark-other marks marks′ u 2 d w 3 e (omega arith) (omega arith) (λ z. omega arith)) (k .floors w m);
+        cursors = mark-column (OfferSearch site (atSource r)) (OfferSearch site (atSource r)) (length spares) 2 marks marks′ u d e (omega arith) (k .room) l (walk-sought site (atSource r) u d s) (λ w m z a. a) (k .cursors);
+        lasts = λ w m. rw (mark-other marks marks′ u 2 d w 3 e (omega arith) (omega arith) (λ z. omega arith)) (k .lasts w m);
       }
 
-  pub floor-moved : (v f : ℕ) → v < length spares → Floor site (atSource r) v f → (marks′ : List ℕ) → marks′ ≡ set marks (4 * v + 3) f → Kept links lows highs costs spares r marks′
-  floor-moved v f l h marks′ e =
+  pub held-moved : (v f : ℕ) → v < length spares → HeldSearch site (atSource r) v f → (marks′ : List ℕ) → marks′ ≡ set marks (4 * v + 3) f → MarksAgree links lows highs costs spares r marks′
+  held-moved v f l h marks′ e =
       record {
         room = room-kept marks marks′ (4 * length spares) (4 * v + 3) f e (k .room);
         standing = λ w m. rw (mark-other marks marks′ v 3 f w 0 e (omega arith) (omega arith) (λ z. omega arith)) (k .standing w m);
         held = λ w m. rw (mark-other marks marks′ v 3 f w 1 e (omega arith) (omega arith) (λ z. omega arith)) (k .held w m);
         cursors = λ w m. rw (mark-other marks marks′ v 3 f w 2 e (omega arith) (omega arith) (λ z. omega arith)) (k .cursors w m);
-        floors = mark-column at at (length spares) 3 marks marks′ v f e (omega arith) (k .room) l (λ d m own. h) (λ w m z a. a) (k .floors);
+        lasts = mark-column at at (length spares) 3 marks marks′ v f e (omega arith) (k .room) l (λ d m own. h) (λ w m z a. a) (k .lasts);
       }
     where
       at : ℕ → ℕ → Type 0
-      at v f = (d : ℕ) → d < 2 * links → endOf highs lows d ≡ v → Floor site (atSource r) v f
+      at v f = (d : ℕ) → d < 2 * links → endOf highs lows d ≡ v → HeldSearch site (atSource r) v f

@@ -10,7 +10,7 @@ use borrow.Author.Tests.{ltb-true, ltb-false, lt-ltb, eqb-true, eq-eqb, ne-eqb}
 use Rattle.range.proofs.Bools.{and-left, and-right, and-intro, decided}
 use Rattle.range.proofs.Counts.{member-outside}
 use Rattle.range.proofs.Sums.{sum-same, sum-add, sum-one, weigh-le}
-use Rattle.plan_turns_search.specs.Offers.{Site, on, stands, holds, beats, rivals, Shut, NoneLeft, Satisfied, Inv, Grows, Made, Next, Cheapest}
+use Rattle.plan_turns_search.specs.Offers.{Site, on, stands, holds, dearerAtTarget, dearerHeld, WouldRefuse, NoneLeft, Satisfied, Inv, Grows, Made, Next, Cheapest}
 
 -- the bit of a direction of q by its byte, where the byte becomes 1, and where it is 1 no more
 one-more : (b : Bool) → cond (b && eqb 1 1) 1 0 ≡ cond (b && eqb 0 1) 1 0 + cond b 1 0
@@ -31,7 +31,7 @@ pub record Distinct (s : Site) : Type 0 where
   pub targets : (f g : ℕ) → f < s .dirs → g < s .dirs → s .target f ≡ s .target g → s .key f ≡ s .key g → f ≡ g
 
 none-grows : (s : Site) (o o′ : ℕ → ℕ) (u : ℕ) → Grows s o o′ → NoneLeft s o u → NoneLeft s o′ u
-none-grows s o o′ u g h d l e z = g .shut d l (h d l e (g .tried d z))
+none-grows s o o′ u g h d l e z = g .refuses d l (h d l e (g .tried d z))
 
 pub satisfied-made : (s : Site) (o o′ : ℕ → ℕ) (u : ℕ) → Made s o o′ u → (w : ℕ) → Satisfied s o w → Satisfied s o′ w
 satisfied-made s o o′ u m w (inr h) = inr (none-grows s o o′ w (m .grows) h)
@@ -43,7 +43,7 @@ satisfied-made s o o′ u m w (inl h) = go (m .more w)
 
 -- nothing is made where none is left
 pub made-none : (s : Site) (o : ℕ → ℕ) (u : ℕ) → Inv s o → NoneLeft s o u → Made s o o u
-made-none s o u i h = record { inv = i; grows = record { tried = λ d e. e; shut = λ d l e. e }; more = λ w. go w (ℕ-discrete u w) }
+made-none s o u i h = record { inv = i; grows = record { tried = λ d e. e; refuses = λ d l e. e }; more = λ w. go w (ℕ-discrete u w) }
   where
     go : (w : ℕ) → Dec (u ≡ w) → (stands s o w + cond (eqb u w) 1 0 ≤ stands s o w) ⊎ NoneLeft s o w
     go w (yes e) = inr (rw (← e) h)
@@ -53,30 +53,30 @@ made-none s o u i h = record { inv = i; grows = record { tried = λ d e. e; shut
 record Step (s : Site) (o o′ : ℕ → ℕ) (d : ℕ) : Type 0 where
   tried : (e : ℕ) → o′ e ≡ 0 → (o e ≡ 0) × (e ≡ d → ⊥)
   taken : (e : ℕ) → o′ e ≡ 1 → (e ≡ d) ⊎ (o e ≡ 1)
-  shut : (e : ℕ) → e < s .dirs → Shut s o e → Shut s o′ e
-  refused : (e : ℕ) → e < s .dirs → (o′ e ≡ 0 → ⊥) → (o′ e ≡ 1 → ⊥) → Shut s o′ e
+  refuses : (e : ℕ) → e < s .dirs → WouldRefuse s o e → WouldRefuse s o′ e
+  refused : (e : ℕ) → e < s .dirs → (o′ e ≡ 0 → ⊥) → (o′ e ≡ 1 → ⊥) → WouldRefuse s o′ e
 
 module _ (s : Site) (laws : Distinct s) (o : ℕ → ℕ) (i : Inv s o) (u d : ℕ) (next : Next s o u d) where
   step-inv : (o′ : ℕ → ℕ) → Step s o o′ d → ((w : ℕ) → stands s o′ w ≤ s .spare w) → ((w : ℕ) → holds s o′ w ≤ s .spare w) → Inv s o′
   step-inv o′ t standing holding = record { standing = standing; holding = holding; refused = t .refused; order = order }
     where
-      order : (f g : ℕ) → f < s .dirs → g < s .dirs → s .source f ≡ s .source g → o′ f ≡ 1 → o′ g ≡ 0 → (s .key g < s .key f) ⊎ Shut s o′ g
+      order : (f g : ℕ) → f < s .dirs → g < s .dirs → s .source f ≡ s .source g → o′ f ≡ 1 → o′ g ≡ 0 → (s .key g < s .key f) ⊎ WouldRefuse s o′ g
       order f g lf lg e f1 g0 = go (t .taken f f1)
         where
           g-was : o g ≡ 0
           g-was = t .tried g g0 .0
 
-          kept : (s .key g < s .key f) ⊎ Shut s o g → (s .key g < s .key f) ⊎ Shut s o′ g
+          kept : (s .key g < s .key f) ⊎ WouldRefuse s o g → (s .key g < s .key f) ⊎ WouldRefuse s o′ g
           kept (inl a) = inl a
-          kept (inr a) = inr (t .shut g lg a)
+          kept (inr a) = inr (t .refuses g lg a)
 
-          own : f ≡ d → Dec (s .key g < s .key d) → Dec (s .key d < s .key g) → (s .key g < s .key f) ⊎ Shut s o′ g
+          own : f ≡ d → Dec (s .key g < s .key d) → Dec (s .key d < s .key g) → (s .key g < s .key f) ⊎ WouldRefuse s o′ g
           own q (yes a) b = inl (rw q a)
-          own q (no a) (yes b) = inr (t .shut g lg (next .dearest g lg (sym e ∙ ap (s .source) q ∙ next .own) g-was b))
+          own q (no a) (yes b) = inr (t .refuses g lg (next .dearest g lg (sym e ∙ ap (s .source) q ∙ next .own) g-was b))
           own q (no a) (no b) =
               absurd (t .tried g g0 .1 (sym (laws .sources d g (next .below) lg (ap (s .source) (sym q) ∙ e) (omega arith))))
 
-          go : (f ≡ d) ⊎ (o f ≡ 1) → (s .key g < s .key f) ⊎ Shut s o′ g
+          go : (f ≡ d) ⊎ (o f ≡ 1) → (s .key g < s .key f) ⊎ WouldRefuse s o′ g
           go (inl q) = own q (decLt (s .key g) (s .key d)) (decLt (s .key d) (s .key g))
           go (inr q) = kept (i .order f g lf lg e q g-was)
 
@@ -95,7 +95,7 @@ module _ (s : Site) (laws : Distinct s) (o : ℕ → ℕ) (i : Inv s o) (u d : �
         part f (no n) = rw (ne-eqb f d n, rest f n) (omega arith)
 
     take-step : Step s o o′ d
-    take-step = record { tried = tried; taken = taken; shut = shut; refused = refused }
+    take-step = record { tried = tried; taken = taken; refuses = refuses; refused = refused }
       where
         tried : (e : ℕ) → o′ e ≡ 0 → (o e ≡ 0) × (e ≡ d → ⊥)
         tried e z = go (ℕ-discrete e d)
@@ -111,21 +111,21 @@ module _ (s : Site) (laws : Distinct s) (o : ℕ → ℕ) (i : Inv s o) (u d : �
             go (yes q) = inl q
             go (no n) = inr (sym (rest e n) ∙ z)
 
-        shut : (e : ℕ) → e < s .dirs → Shut s o e → Shut s o′ e
-        shut e l h = let a = on-take (beats s e) in omega arith
+        refuses : (e : ℕ) → e < s .dirs → WouldRefuse s o e → WouldRefuse s o′ e
+        refuses e l h = let a = on-take (dearerAtTarget s e) in omega arith
 
-        refused : (e : ℕ) → e < s .dirs → (o′ e ≡ 0 → ⊥) → (o′ e ≡ 1 → ⊥) → Shut s o′ e
+        refused : (e : ℕ) → e < s .dirs → (o′ e ≡ 0 → ⊥) → (o′ e ≡ 1 → ⊥) → WouldRefuse s o′ e
         refused e l n0 n1 = go (ℕ-discrete e d)
           where
-            go : Dec (e ≡ d) → Shut s o′ e
+            go : Dec (e ≡ d) → WouldRefuse s o′ e
             go (yes q) = absurd (n1 (ap o′ q ∙ here))
-            go (no n) = shut e l (i .refused e l (λ z. n0 (rest e n ∙ z)) (λ z. n1 (rest e n ∙ z)))
+            go (no n) = refuses e l (i .refused e l (λ z. n0 (rest e n ∙ z)) (λ z. n1 (rest e n ∙ z)))
 
     pub take-made : stands s o u < s .spare u → holds s o (s .target d) < s .spare (s .target d) → Made s o o′ u
     take-made room free =
         record {
           inv = step-inv o′ take-step (λ w. standing w (ℕ-discrete (s .source d) w)) (λ w. holding w (ℕ-discrete (s .target d) w));
-          grows = record { tried = λ e z. take-step .tried e z .0; shut = take-step .shut };
+          grows = record { tried = λ e z. take-step .tried e z .0; refuses = take-step .refuses };
           more = λ w. inl (let a = on-take (λ f. eqb (s .source f) w) in let b = ap {B = ℕ} (λ (x : ℕ). cond (eqb x w) 1 0) (next .own) in omega arith);
         }
       where
@@ -178,9 +178,9 @@ module _ (s : Site) (laws : Distinct s) (o : ℕ → ℕ) (i : Inv s o) (u d : �
         part f (no n) (no g) = rw (ne-eqb f d n, ne-eqb f c g, rest f n g)
 
     cheaper : s .key c < s .key d
-    cheaper = go (member-outside (s .dirs) (λ f. beats s d f && eqb (o f) 1) (λ f. eqb (s .target f) (s .target d) && eqb (o f) 1) (let a = next .wanted in omega arith))
+    cheaper = go (member-outside (s .dirs) (λ f. dearerAtTarget s d f && eqb (o f) 1) (λ f. eqb (s .target f) (s .target d) && eqb (o f) 1) (let a = next .wanted in omega arith))
       where
-        go : (f : ℕ) × (f < s .dirs) × ((eqb (s .target f) (s .target d) && eqb (o f) 1) ≡ true) × ((beats s d f && eqb (o f) 1) ≡ false) → s .key c < s .key d
+        go : (f : ℕ) × (f < s .dirs) × ((eqb (s .target f) (s .target d) && eqb (o f) 1) ≡ true) × ((dearerAtTarget s d f && eqb (o f) 1) ≡ false) → s .key c < s .key d
         go (f, l, h, n) = last (decided (ltb (s .key d) (s .key f)))
           where
             at : eqb (s .target f) (s .target d) ≡ true
@@ -200,10 +200,10 @@ module _ (s : Site) (laws : Distinct s) (o : ℕ → ℕ) (i : Inv s o) (u d : �
                 less (yes a) b = a
                 less (no a) b = absurd (apart (laws .targets d c (next .below) (low .below) (sym (low .own)) (omega arith)))
 
-    shut-kept : (e : ℕ) → e < s .dirs → Shut s o e → Shut s o′ e
+    shut-kept : (e : ℕ) → e < s .dirs → WouldRefuse s o e → WouldRefuse s o′ e
     shut-kept e l h =
-        let a = on-swap (beats s e) in
-        let b = bit-le (beats s e c) (beats s e d) (λ z.
+        let a = on-swap (dearerAtTarget s e) in
+        let b = bit-le (dearerAtTarget s e c) (dearerAtTarget s e d) (λ z.
         let x = and-left (eqb (s .target c) (s .target e)) (ltb (s .key e) (s .key c)) z in
         let y = ltb-true (s .key e) (s .key c) (and-right (eqb (s .target c) (s .target e)) (ltb (s .key e) (s .key c)) z) in
         let k = cheaper in
@@ -211,16 +211,16 @@ module _ (s : Site) (laws : Distinct s) (o : ℕ → ℕ) (i : Inv s o) (u d : �
         omega arith
 
     -- all that the target holds then is dearer than c
-    shut-gone : Shut s o′ c
+    shut-gone : WouldRefuse s o′ c
     shut-gone =
         let q : ℕ → Bool = λ f. eqb (s .target f) (s .target d) in
         let a = on-swap q in
         let b = ap {B = ℕ} (λ (x : ℕ). cond (eqb x (s .target d)) 1 0) (low .own) in
-        let k = weigh-le (s .dirs) (λ f. q f && eqb (o′ f) 1) (λ f. beats s c f && eqb (o′ f) 1) (λ f. 1) all in
+        let k = weigh-le (s .dirs) (λ f. q f && eqb (o′ f) 1) (λ f. dearerAtTarget s c f && eqb (o′ f) 1) (λ f. 1) all in
         let e = ap (s .spare) (low .own) in
         omega arith
       where
-        all : (f : ℕ) → f < s .dirs → (eqb (s .target f) (s .target d) && eqb (o′ f) 1) ≡ true → (beats s c f && eqb (o′ f) 1) ≡ true
+        all : (f : ℕ) → f < s .dirs → (eqb (s .target f) (s .target d) && eqb (o′ f) 1) ≡ true → (dearerAtTarget s c f && eqb (o′ f) 1) ≡ true
         all f l h =
             and-intro (and-intro (rw (← low .own) at at-d) (lt-ltb (s .key c) (s .key f) (go (ℕ-discrete f d) (ℕ-discrete f c)))) byte
           where
@@ -243,7 +243,7 @@ module _ (s : Site) (laws : Distinct s) (o : ℕ → ℕ) (i : Inv s o) (u d : �
                 less (no a) b = absurd (n (laws .targets f c l (low .below) (at ∙ sym (low .own)) (omega arith)))
 
     swap-step : Step s o o′ d
-    swap-step = record { tried = λ e z. tried e z (ℕ-discrete e d) (ℕ-discrete e c); taken = λ e z. taken e z (ℕ-discrete e d) (ℕ-discrete e c); shut = shut-kept; refused = λ e l a b. refused e l a b (ℕ-discrete e d) (ℕ-discrete e c) }
+    swap-step = record { tried = λ e z. tried e z (ℕ-discrete e d) (ℕ-discrete e c); taken = λ e z. taken e z (ℕ-discrete e d) (ℕ-discrete e c); refuses = shut-kept; refused = λ e l a b. refused e l a b (ℕ-discrete e d) (ℕ-discrete e c) }
       where
         tried : (e : ℕ) → o′ e ≡ 0 → Dec (e ≡ d) → Dec (e ≡ c) → (o e ≡ 0) × (e ≡ d → ⊥)
         tried e z (yes q) m = let a = ap o′ q in absurd (omega arith)
@@ -255,7 +255,7 @@ module _ (s : Site) (laws : Distinct s) (o : ℕ → ℕ) (i : Inv s o) (u d : �
         taken e z (no n) (yes q) = absurd (gone (sym (ap o′ q) ∙ z))
         taken e z (no n) (no m) = inr (sym (rest e n m) ∙ z)
 
-        refused : (e : ℕ) → e < s .dirs → (o′ e ≡ 0 → ⊥) → (o′ e ≡ 1 → ⊥) → Dec (e ≡ d) → Dec (e ≡ c) → Shut s o′ e
+        refused : (e : ℕ) → e < s .dirs → (o′ e ≡ 0 → ⊥) → (o′ e ≡ 1 → ⊥) → Dec (e ≡ d) → Dec (e ≡ c) → WouldRefuse s o′ e
         refused e l n0 n1 (yes q) m = absurd (n1 (ap o′ q ∙ here))
         refused e l n0 n1 (no n) (yes q) = rw q shut-gone
         refused e l n0 n1 (no n) (no m) = shut-kept e l (i .refused e l (λ z. n0 (rest e n m ∙ z)) (λ z. n1 (rest e n m ∙ z)))
@@ -300,7 +300,7 @@ module _ (s : Site) (laws : Distinct s) (o : ℕ → ℕ) (i : Inv s o) (u d : �
             omega arith
 
     pub swap-grows : Grows s o o′
-    swap-grows = record { tried = λ e z. swap-step .tried e z .0; shut = shut-kept }
+    swap-grows = record { tried = λ e z. swap-step .tried e z .0; refuses = shut-kept }
 
     pub swap-made : (o″ : ℕ → ℕ) → Made s o′ o″ (s .source c) → Made s o o″ u
     swap-made o″ m =
@@ -308,7 +308,7 @@ module _ (s : Site) (laws : Distinct s) (o : ℕ → ℕ) (i : Inv s o) (u d : �
           inv = m .inv;
           grows = record {
             tried = λ e z. swap-grows .tried e (m .grows .tried e z);
-            shut = λ e l h. m .grows .shut e l (swap-grows .shut e l h);
+            refuses = λ e l h. m .grows .refuses e l (swap-grows .refuses e l h);
           };
           more = λ w. more w (m .more w);
         }
@@ -323,11 +323,11 @@ module _ (s : Site) (laws : Distinct s) (o : ℕ → ℕ) (i : Inv s o) (u d : �
 
 -- at the end each offer that does not stand is explained
 pub explained : (s : Site) (o : ℕ → ℕ) → Inv s o → (d : ℕ) → d < s .dirs → Satisfied s o (s .source d) → (o d ≡ 1 → ⊥)
-    → (s .spare (s .source d) ≤ on s o (λ f. eqb (s .source f) (s .source d) && ltb (s .key d) (s .key f))) ⊎ Shut s o d
-explained s o i d l end n1 = go end (ℕ-discrete (o d) 0) (decLe (s .spare (s .target d)) (rivals s o d))
+    → (s .spare (s .source d) ≤ on s o (λ f. eqb (s .source f) (s .source d) && ltb (s .key d) (s .key f))) ⊎ WouldRefuse s o d
+explained s o i d l end n1 = go end (ℕ-discrete (o d) 0) (decLe (s .spare (s .target d)) (dearerHeld s o d))
   where
-    go : Satisfied s o (s .source d) → Dec (o d ≡ 0) → Dec (Shut s o d)
-        → (s .spare (s .source d) ≤ on s o (λ f. eqb (s .source f) (s .source d) && ltb (s .key d) (s .key f))) ⊎ Shut s o d
+    go : Satisfied s o (s .source d) → Dec (o d ≡ 0) → Dec (WouldRefuse s o d)
+        → (s .spare (s .source d) ≤ on s o (λ f. eqb (s .source f) (s .source d) && ltb (s .key d) (s .key f))) ⊎ WouldRefuse s o d
     go e z (yes h) = inr h
     go e (no n) (no h) = inr (i .refused d l n n1)
     go (inr e) (yes z) (no h) = inr (e d l refl z)
@@ -341,6 +341,6 @@ explained s o i d l end n1 = go end (ℕ-discrete (o d) 0) (decLe (s .spare (s .
         (sure (s .key d < s .key f) (i .order f d m l (eqb-true (s .source f) (s .source d) x) (eqb-true (o f) 1 y) z)))) y) in
         inl (omega arith)
       where
-        sure : (P : Type 0) → P ⊎ Shut s o d → P
+        sure : (P : Type 0) → P ⊎ WouldRefuse s o d → P
         sure P (inl a) = a
         sure P (inr a) = absurd (h a)

@@ -23,8 +23,8 @@ use Rattle.plan_theory.proofs.Order.{dear, on-dear, Dear}
 use Rattle.table.proofs.LegalLaws.{legal-table}
 use Rattle.plan_theory.proofs.Plan.{dearerAt}
 use Rattle.plan_theory.proofs.Settled.{Across, up, down, Settled, settled-is-plan}
-use Rattle.plan_turns_search.specs.Record.{atSource, atTarget, endOf, keyOf, siteOf, keptByte, Fits, Over}
-use Rattle.plan_turns_search.specs.Offers.{Site, on, Shut}
+use Rattle.plan_turns_search.specs.Record.{atSource, atTarget, endOf, keyOf, siteOf, keptByte, SiteInSlices, Over}
+use Rattle.plan_turns_search.specs.Offers.{Site, on, WouldRefuse}
 use Rattle.plan_turns_search.proofs.Offers.{explained}
 use Rattle.plan_turns_search.proofs.Record.{end-from, end-back}
 
@@ -40,15 +40,15 @@ sides p (suc n) =
     rw e (omega arith)
 
 -- the byte of the direction of the link i that starts at u, among first and second ends
-abbrev byteOf : List ℕ → List ℕ → ℕ → ℕ → Bool
-byteOf a r u i = eqb (atSource r (cond (eqb u (item a i)) (2 * i) (2 * i + 1))) 1
+abbrev offerOf : List ℕ → List ℕ → ℕ → ℕ → Bool
+offerOf a r u i = eqb (atSource r (cond (eqb u (item a i)) (2 * i) (2 * i + 1))) 1
 
 -- at each link v is one of the two ends, or none
 module _ (links : ℕ) (a b r : List ℕ) (v : ℕ) (t q : ℕ → Bool) (apart : (i : ℕ) → i < links → item a i ≡ item b i → ⊥)
     (at : (i : ℕ) → t i ≡ (eqb v (item a i) || eqb v (item b i))) where
   point : (i : ℕ) → i < links → Dec (v ≡ item a i) → Dec (v ≡ item b i)
       → cond ((eqb (item a i) v && q i) && eqb (atSource r (2 * i)) 1) 1 0 + cond ((eqb (item b i) v && q i) && eqb (atSource r (2 * i + 1)) 1) 1 0
-      ≡ cond (t i && (q i && byteOf a r v i)) 1 0
+      ≡ cond (t i && (q i && offerOf a r v i)) 1 0
   point i l (yes x) (yes y) = absurd (apart i l (sym x ∙ y))
   point i l (yes x) (no y) =
       rw (at i, eq-eqb v (item a i) x, eq-eqb (item a i) v (sym x), ne-eqb (item b i) v (λ z. y (sym z))) (omega arith)
@@ -57,10 +57,10 @@ module _ (links : ℕ) (a b r : List ℕ) (v : ℕ) (t q : ℕ → Bool) (apart 
   point i l (no x) (no y) =
       rw (at i, ne-eqb v (item a i) x, ne-eqb v (item b i) y, ne-eqb (item a i) v (λ z. x (sym z)), ne-eqb (item b i) v (λ z. y (sym z)))
 
-  by-links : count (2 * links) (λ f. (eqb (endOf a b f) v && q (f / 2)) && eqb (atSource r f) 1) ≡ count links (λ i. t i && (q i && byteOf a r v i))
+  by-links : count (2 * links) (λ f. (eqb (endOf a b f) v && q (f / 2)) && eqb (atSource r f) 1) ≡ count links (λ i. t i && (q i && offerOf a r v i))
   by-links =
       sides (λ f. (eqb (endOf a b f) v && q (f / 2)) && eqb (atSource r f) 1) links
-      ∙ sum-same links _ (λ i. cond (t i && (q i && byteOf a r v i)) 1 0)
+      ∙ sum-same links _ (λ i. cond (t i && (q i && offerOf a r v i)) 1 0)
       (λ i l.
       let e : 2 * i / 2 ≡ i = omega arith in
       let f : (2 * i + 1) / 2 ≡ i = omega arith in
@@ -93,7 +93,7 @@ module _ (probes links : ℕ) (needs lows highs costs : List ℕ) (legal : Legal
   pub ends : (i : ℕ) → i < links → Ends probes (item lows i) (item highs i)
   ends = good .ends
 
-  pub fits : (spares : List ℕ) → length spares ≡ 256 → links ≤ length lows → links ≤ length highs → links ≤ length costs → ((i : ℕ) → item costs i < 65536) → Fits links lows highs costs spares
+  pub fits : (spares : List ℕ) → length spares ≡ 256 → links ≤ length lows → links ≤ length highs → links ≤ length costs → ((i : ℕ) → item costs i < 65536) → SiteInSlices links lows highs costs spares
   fits spares e a b d cheap =
       record {
         few = let s = small in omega (arith, s .1);
@@ -111,10 +111,10 @@ module _ (probes links : ℕ) (needs lows highs costs : List ℕ) (legal : Legal
     site = siteOf links lows highs costs spares
 
     abbrev stand : ℕ → ℕ → Bool
-    stand = byteOf lows r
+    stand = offerOf lows r
 
     abbrev held : ℕ → ℕ → Bool
-    held = byteOf highs r
+    held = offerOf highs r
 
     apart : (i : ℕ) → i < links → item lows i ≡ item highs i → ⊥
     apart i l e = let a = ends i l .rises in omega arith
@@ -163,7 +163,7 @@ module _ (probes links : ℕ) (needs lows highs costs : List ℕ) (legal : Legal
     why i u w d l e ld eu ew lu n = go (explained site (atSource r) (over .ready .inv) d ld (over .done (endOf lows highs d) (rw eu lu)) n)
       where
         go : (item spares (endOf lows highs d) ≤ on site (atSource r) (λ f. eqb (endOf lows highs f) (endOf lows highs d) && ltb (keyOf costs d) (keyOf costs f)))
-            ⊎ Shut site (atSource r) d → (spare table u ≤ dearerAt table (stand u) i u) ⊎ (spare table w ≤ dearerAt table (held w) i w)
+            ⊎ WouldRefuse site (atSource r) d → (spare table u ≤ dearerAt table (stand u) i u) ⊎ (spare table w ≤ dearerAt table (held w) i w)
         go (inl a) =
             let x = rw (eu, e) at (dearer-of (endOf lows highs) (endOf lows highs d) d ld) in
             let y = standing-at u (λ g. dearer table g i) in

@@ -10,18 +10,18 @@ use lib.ListN.{length, set}
 use borrow.Author.Tests.{eq-eqb, ne-eqb}
 use Rattle.range.proofs.Sums.{sum-at}
 use Rattle.table.specs.Table.{item}
-use Rattle.plan_turns_search.specs.Record.{atSource, endOf, siteOf, put, untriedCount, Ready, mark, Kept, Offered, Displaces}
+use Rattle.plan_turns_search.specs.Record.{atSource, endOf, siteOf, put, untriedCount, OffersReady, mark, MarksAgree, Offered, Displaces}
 use Rattle.plan_turns_search.specs.Offers.{Site, on, stands, holds, Grows, Sought, Cheapest}
 use Rattle.plan_turns_search.proofs.Offers.{on-take, made-none, take-made, on-swap, swap-inv, swap-room, swap-grows, swap-made}
 use Rattle.plan_turns_search.proofs.Record.{length-put, put-here, put-other, put-paired, untried-most, untried-less, distinct, source-below, target-below}
-use Rattle.plan_turns_search.proofs.Chain.{walk-grows, floor-grows}
+use Rattle.plan_turns_search.proofs.Chain.{walk-grows, held-grows}
 use Rattle.plan_turns_search.proofs.Kept.{mark-other, mark-column, room-kept}
 
 module _ (links : ℕ) (lows highs costs spares r : List ℕ) where
   abbrev site : Site
   site = siteOf links lows highs costs spares
 
-  pub offered-none : (u d : ℕ) → Ready links lows highs costs spares r → Sought site (atSource r) u d → 2 * links ≤ d → Offered links lows highs costs spares r r u false
+  pub offered-none : (u d : ℕ) → OffersReady links lows highs costs spares r → Sought site (atSource r) u d → 2 * links ≤ d → Offered links lows highs costs spares r r u false
   offered-none u d ready s l =
       record {
         paired = ready .paired;
@@ -30,7 +30,7 @@ module _ (links : ℕ) (lows highs costs spares r : List ℕ) where
         none = λ e. s .none l;
       }
 
-  pub offered-take : (u d v n spare : ℕ) → Ready links lows highs costs spares r → stands site (atSource r) u < item spares u → Sought site (atSource r) u d → d < 2 * links
+  pub offered-take : (u d v n spare : ℕ) → OffersReady links lows highs costs spares r → stands site (atSource r) u < item spares u → Sought site (atSource r) u d → d < 2 * links
       → v ≡ endOf highs lows d → n ≡ holds site (atSource r) v → spare ≡ item spares v → n < spare
       → (r′ : List ℕ) → r′ ≡ put r d 1 → Offered links lows highs costs spares r r′ u true
   offered-take u d v n spare ready room s l ev en es less r′ e =
@@ -46,9 +46,9 @@ module _ (links : ℕ) (lows highs costs spares r : List ℕ) where
       }
 
   -- the marks after an offer taken: one more of u stands, and one more is held by v
-  pub taken-kept : (u d v : ℕ) → Ready links lows highs costs spares r → Sought site (atSource r) u d → d < 2 * links → v ≡ endOf highs lows d → u < length spares → (marks : List ℕ)
-      → Kept links lows highs costs spares r marks → (r′ marks₁ marks₂ : List ℕ) → r′ ≡ put r d 1 → marks₁ ≡ set marks (4 * u + 0) (mark marks u 0 + 1) → marks₂ ≡ set marks₁ (4 * v + 1) (mark marks₁ v 1 + 1)
-      → Grows site (atSource r) (atSource r′) → Kept links lows highs costs spares r′ marks₂
+  pub taken-kept : (u d v : ℕ) → OffersReady links lows highs costs spares r → Sought site (atSource r) u d → d < 2 * links → v ≡ endOf highs lows d → u < length spares → (marks : List ℕ)
+      → MarksAgree links lows highs costs spares r marks → (r′ marks₁ marks₂ : List ℕ) → r′ ≡ put r d 1 → marks₁ ≡ set marks (4 * u + 0) (mark marks u 0 + 1) → marks₂ ≡ set marks₁ (4 * v + 1) (mark marks₁ v 1 + 1)
+      → Grows site (atSource r) (atSource r′) → MarksAgree links lows highs costs spares r′ marks₂
   taken-kept u d v ready s l ev lu marks k r′ marks₁ marks₂ e e₁ e₂ grows =
       record {
         room = room-kept marks₁ marks₂ (4 * length spares) (4 * v + 1) (mark marks₁ v 1 + 1) e₂ room₁;
@@ -57,7 +57,7 @@ module _ (links : ℕ) (lows highs costs spares r : List ℕ) where
             (let a = law (λ f. eqb (endOf highs lows f) v) in let b = held₁ v lv in let x = rw (eq-eqb (endOf highs lows d) v (sym ev)) at a in omega arith)
             (λ w m z q. let a = law (λ f. eqb (endOf highs lows f) w) in let x = rw (ne-eqb (endOf highs lows d) w (λ y. z (sym y ∙ sym ev))) at a in omega arith) held₁;
         cursors = λ w m. rw (still w 2 (omega arith) (λ z. omega arith) (λ z. omega arith)) (walk-grows site (atSource r) (atSource r′) grows w (mark marks w 2) (k .cursors w m));
-        floors = λ w m c lc at. rw (still w 3 (omega arith) (λ z. omega arith) (λ z. omega arith)) (floor-grows site (atSource r) (atSource r′) grows w (mark marks w 3) (k .floors w m c lc at));
+        lasts = λ w m c lc at. rw (still w 3 (omega arith) (λ z. omega arith) (λ z. omega arith)) (held-grows site (atSource r) (atSource r′) grows w (mark marks w 3) (k .lasts w m c lc at));
       }
     where
       fits : 2 * d + 1 < length r
@@ -89,7 +89,7 @@ module _ (links : ℕ) (lows highs costs spares r : List ℕ) where
           mark-other marks₁ marks₂ v 1 (mark marks₁ v 1 + 1) w j e₂ (omega arith) lj n₁ ∙ mark-other marks marks₁ u 0 (mark marks u 0 + 1) w j e₁ (omega arith) lj n₀
 
   -- u's next offer goes to an end that holds its spare
-  module _ (u d v : ℕ) (ready : Ready links lows highs costs spares r) (room : stands site (atSource r) u < item spares u) (s : Sought site (atSource r) u d)
+  module _ (u d v : ℕ) (ready : OffersReady links lows highs costs spares r) (room : stands site (atSource r) u < item spares u) (s : Sought site (atSource r) u d)
       (l : d < 2 * links) (ev : v ≡ endOf highs lows d) where
     pub displaces : (n spare : ℕ) → n ≡ holds site (atSource r) v → spare ≡ item spares v → spare ≤ n → Displaces links lows highs costs spares r d
     displaces n spare en es more =
@@ -138,7 +138,7 @@ module _ (links : ℕ) (lows highs costs spares r : List ℕ) where
       rest : (x : ℕ) → (x ≡ d → ⊥) → (x ≡ c → ⊥) → atSource r₂ x ≡ atSource r x
       rest x n m = rw e (put-other (put r c byte) d 1 room-d x n ∙ put-other r c byte room-c x m)
 
-      pub displaced-ready : Ready links lows highs costs spares r₂
+      pub displaced-ready : OffersReady links lows highs costs spares r₂
       displaced-ready =
           record {
             fits = at .ready .fits;
@@ -172,8 +172,8 @@ module _ (links : ℕ) (lows highs costs spares r : List ℕ) where
           }
 
       -- the marks then: one less of w stands, and one more of u
-      pub displaced-kept : (w u : ℕ) → w ≡ endOf lows highs c → u ≡ endOf lows highs d → (marks : List ℕ) → Kept links lows highs costs spares r marks
-          → (marks₁ marks₂ : List ℕ) → marks₁ ≡ set marks (4 * w + 0) (mark marks w 0 - 1) → marks₂ ≡ set marks₁ (4 * u + 0) (mark marks₁ u 0 + 1) → Kept links lows highs costs spares r₂ marks₂
+      pub displaced-kept : (w u : ℕ) → w ≡ endOf lows highs c → u ≡ endOf lows highs d → (marks : List ℕ) → MarksAgree links lows highs costs spares r marks
+          → (marks₁ marks₂ : List ℕ) → marks₁ ≡ set marks (4 * w + 0) (mark marks w 0 - 1) → marks₂ ≡ set marks₁ (4 * u + 0) (mark marks₁ u 0 + 1) → MarksAgree links lows highs costs spares r₂ marks₂
       displaced-kept w u ew eu marks k marks₁ marks₂ e₁ e₂ =
           record {
             room = room-kept marks₁ marks₂ (4 * length spares) (4 * u + 0) (mark marks₁ u 0 + 1) e₂ room₁;
@@ -182,7 +182,7 @@ module _ (links : ℕ) (lows highs costs spares r : List ℕ) where
                 (λ x m z q. let a = law (λ f. eqb (endOf lows highs f) x) in let y = rw (ne-eqb (endOf lows highs d) x (λ t. z (sym t ∙ sym eu))) at a in omega arith) one;
             held = λ x m. rw (same x 1 (omega arith) (λ z. omega arith)) (let q = k .held x m in let a = law (λ f. eqb (endOf highs lows f) x) in let b = ap {B = ℕ} (λ (y : ℕ). cond (eqb y x) 1 0) (low-d .own) in omega arith);
             cursors = λ x m. rw (same x 2 (omega arith) (λ z. omega arith)) (walk-grows site (atSource r) (atSource r₂) grows x (mark marks x 2) (k .cursors x m));
-            floors = λ x m f lf at. rw (same x 3 (omega arith) (λ z. omega arith)) (floor-grows site (atSource r) (atSource r₂) grows x (mark marks x 3) (k .floors x m f lf at));
+            lasts = λ x m f lf at. rw (same x 3 (omega arith) (λ z. omega arith)) (held-grows site (atSource r) (atSource r₂) grows x (mark marks x 3) (k .lasts x m f lf at));
           }
         where
           grows : Grows site (atSource r) (atSource r₂)

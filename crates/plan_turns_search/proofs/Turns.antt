@@ -13,18 +13,18 @@ use Rattle.range.specs.Sum.{count}
 use Rattle.range.proofs.Bools.{and-right}
 use Rattle.range.proofs.Sums.{none-count}
 use Rattle.table.specs.Table.{item}
-use Rattle.plan_turns_search.specs.Record.{atSource, endOf, siteOf, Fits, Ready, mark, Kept, Offered, Turned, Over}
+use Rattle.plan_turns_search.specs.Record.{atSource, endOf, siteOf, SiteInSlices, OffersReady, mark, MarksAgree, Offered, Turned, Over}
 use Rattle.plan_turns_search.specs.Offers.{stands, Satisfied}
 use Rattle.plan_turns_search.specs.Chain.{Started}
 use Rattle.plan_turns_search.proofs.Offers.{satisfied-made}
-use Rattle.plan_turns_search.proofs.Chain.{walk-start, floor-start}
+use Rattle.plan_turns_search.proofs.Chain.{walk-start, held-start}
 
 -- with no offer made, all is as it has to be
-module _ (links : ℕ) (lows highs costs spares r : List ℕ) (fits : Fits links lows highs costs spares) (none : (j : ℕ) → item r j ≡ 0) where
+module _ (links : ℕ) (lows highs costs spares r : List ℕ) (fits : SiteInSlices links lows highs costs spares) (none : (j : ℕ) → item r j ≡ 0) where
   nothing : (q : ℕ → Bool) → count (2 * links) (λ f. q f && eqb (atSource r f) 1) ≡ 0
   nothing q = none-count (2 * links) (λ f. q f && eqb (atSource r f) 1) (λ f l h. let a = none (2 * f) in let b = eqb-true (atSource r f) 1 (and-right (q f) (eqb (atSource r f) 1) h) in omega arith)
 
-  pub zeros-ready : 4 * links ≤ length r → Ready links lows highs costs spares r
+  pub zeros-ready : 4 * links ≤ length r → OffersReady links lows highs costs spares r
   zeros-ready room =
       record {
         fits = fits;
@@ -37,23 +37,23 @@ module _ (links : ℕ) (lows highs costs spares r : List ℕ) (fits : Fits links
         };
       }
 
-  pub zeros-kept : (marks : List ℕ) → 1024 ≤ length marks → Started links lows highs costs marks → Kept links lows highs costs spares r marks
+  pub zeros-kept : (marks : List ℕ) → 1024 ≤ length marks → Started links lows highs costs marks → MarksAgree links lows highs costs spares r marks
   zeros-kept marks room s =
       record {
         room = let a = fits .within in omega arith;
         standing = λ u l. let a = fits .within in s .standing u (omega arith) ∙ sym (nothing (λ f. eqb (endOf lows highs f) u));
         held = λ v l. let a = fits .within in s .held v (omega arith) ∙ sym (nothing (λ f. eqb (endOf highs lows f) v));
         cursors = λ u l. let a = fits .within in walk-start links lows highs costs spares fits (atSource r) u (mark marks u 2) (s .cursors u (omega arith));
-        floors = λ v l. let a = fits .within in floor-start links lows highs costs spares fits (atSource r) v (mark marks v 3) (s .floors v (omega arith));
+        lasts = λ v l. let a = fits .within in held-start links lows highs costs spares fits (atSource r) v (mark marks v 3) (s .lasts v (omega arith));
       }
 
 -- in the turn: r₀ is where it began
 pub record Turning (links : ℕ) (lows highs costs spares r₀ r : List ℕ) : Type 0 where
-  pub ready : Ready links lows highs costs spares r
+  pub ready : OffersReady links lows highs costs spares r
   pub keeps : (w : ℕ) → Satisfied (siteOf links lows highs costs spares) (atSource r₀) w → Satisfied (siteOf links lows highs costs spares) (atSource r) w
 
 module _ (links : ℕ) (lows highs costs spares r₀ : List ℕ) where
-  pub turn-start : Ready links lows highs costs spares r₀ → Turning links lows highs costs spares r₀ r₀
+  pub turn-start : OffersReady links lows highs costs spares r₀ → Turning links lows highs costs spares r₀ r₀
   turn-start h = record { ready = h; keeps = λ w e. e }
 
   module _ (r r′ : List ℕ) (t : Turning links lows highs costs spares r₀ r) (p : ℕ) where
@@ -77,7 +77,7 @@ module _ (links : ℕ) (lows highs costs spares r₀ : List ℕ) where
   turned-full r t p spare n es en l =
       record { ready = t .ready; keeps = t .keeps; done = inl (omega arith) }
 
-  pub over-start : Ready links lows highs costs spares r₀ → Over links lows highs costs spares r₀ 0
+  pub over-start : OffersReady links lows highs costs spares r₀ → Over links lows highs costs spares r₀ 0
   over-start h = record { ready = h; done = λ w l. absurd (omega arith) }
 
   pub over-next : (p : ℕ) (r′ : List ℕ) → Over links lows highs costs spares r₀ p → Turned links lows highs costs spares r₀ r′ p

@@ -34,18 +34,18 @@ abbrev pub turnedKey : List ℕ → ℕ → ℕ
 turnedKey costs d = 4294967295 - keyOf costs d
 
 -- the chains down from the dearest, and up from the cheapest
-abbrev pub Falling : ℕ → List ℕ → List ℕ → List ℕ → List ℕ → Type 0
-Falling links lows highs costs nexts = Follows (2 * links) (endOf lows highs) (keyOf costs) nexts
+abbrev pub DownChains : ℕ → List ℕ → List ℕ → List ℕ → List ℕ → Type 0
+DownChains links lows highs costs nexts = Follows (2 * links) (endOf lows highs) (keyOf costs) nexts
 
-abbrev pub Rising : ℕ → List ℕ → List ℕ → List ℕ → List ℕ → Type 0
-Rising links lows highs costs ups = Follows (2 * links) (endOf lows highs) (turnedKey costs) ups
+abbrev pub UpChains : ℕ → List ℕ → List ℕ → List ℕ → List ℕ → Type 0
+UpChains links lows highs costs ups = Follows (2 * links) (endOf lows highs) (turnedKey costs) ups
 
 -- no offer is made, and the searches stand at the chains' firsts
 pub record Started (links : ℕ) (lows highs costs marks : List ℕ) : Type 0 where
   pub standing : (v : ℕ) → v < 256 → mark marks v 0 ≡ 0
   pub held : (v : ℕ) → v < 256 → mark marks v 1 ≡ 0
   pub cursors : (v : ℕ) → v < 256 → Below (2 * links) (endOf lows highs) (keyOf costs) v 4294967296 (mark marks v 2)
-  pub floors : (v : ℕ) → v < 256 → Below (2 * links) (endOf lows highs) (turnedKey costs) v 4294967296 (mark marks v 3)
+  pub lasts : (v : ℕ) → v < 256 → Below (2 * links) (endOf lows highs) (turnedKey costs) v 4294967296 (mark marks v 3)
 
 -- `order` has each link, from the largest key to the smallest
 pub record Falls (links : ℕ) (key : ℕ → ℕ) (order : List ℕ) : Type 0 where

@@ -27,20 +27,20 @@ abbrev pub holds : Site → (ℕ → ℕ) → ℕ → ℕ
 holds s o v = on s o (λ f. eqb (s .target f) v)
 
 -- f ends at the target of d and is dearer
-abbrev pub beats : Site → ℕ → ℕ → Bool
-beats s d f = eqb (s .target f) (s .target d) && ltb (s .key d) (s .key f)
+abbrev pub dearerAtTarget : Site → ℕ → ℕ → Bool
+dearerAtTarget s d f = eqb (s .target f) (s .target d) && ltb (s .key d) (s .key f)
 
 -- how many dearer ones the target of d holds
-abbrev pub rivals : Site → (ℕ → ℕ) → ℕ → ℕ
-rivals s o d = on s o (beats s d)
+abbrev pub dearerHeld : Site → (ℕ → ℕ) → ℕ → ℕ
+dearerHeld s o d = on s o (dearerAtTarget s d)
 
 -- the target of d would not take it: "An end takes an offer if it holds fewer than its spare, or if the offer is dearer than its cheapest held"
-abbrev pub Shut : Site → (ℕ → ℕ) → ℕ → Type 0
-Shut s o d = s .spare (s .target d) ≤ rivals s o d
+abbrev pub WouldRefuse : Site → (ℕ → ℕ) → ℕ → Type 0
+WouldRefuse s o d = s .spare (s .target d) ≤ dearerHeld s o d
 
 -- "none is left to make"
 abbrev pub NoneLeft : Site → (ℕ → ℕ) → ℕ → Type 0
-NoneLeft s o u = (d : ℕ) → d < s .dirs → s .source d ≡ u → o d ≡ 0 → Shut s o d
+NoneLeft s o u = (d : ℕ) → d < s .dirs → s .source d ≡ u → o d ≡ 0 → WouldRefuse s o d
 
 -- "until its offers standing equal its spare or none is left to make"
 abbrev pub Satisfied : Site → (ℕ → ℕ) → ℕ → Type 0
@@ -50,13 +50,13 @@ Satisfied s o u = (s .spare u ≤ stands s o u) ⊎ NoneLeft s o u
 pub record Inv (s : Site) (o : ℕ → ℕ) : Type 0 where
   pub standing : (u : ℕ) → stands s o u ≤ s .spare u
   pub holding : (v : ℕ) → holds s o v ≤ s .spare v
-  pub refused : (d : ℕ) → d < s .dirs → (o d ≡ 0 → ⊥) → (o d ≡ 1 → ⊥) → Shut s o d
-  pub order : (f g : ℕ) → f < s .dirs → g < s .dirs → s .source f ≡ s .source g → o f ≡ 1 → o g ≡ 0 → (s .key g < s .key f) ⊎ Shut s o g
+  pub refused : (d : ℕ) → d < s .dirs → (o d ≡ 0 → ⊥) → (o d ≡ 1 → ⊥) → WouldRefuse s o d
+  pub order : (f g : ℕ) → f < s .dirs → g < s .dirs → s .source f ≡ s .source g → o f ≡ 1 → o g ≡ 0 → (s .key g < s .key f) ⊎ WouldRefuse s o g
 
 -- no offer is untried again, and no target would take again
 pub record Grows (s : Site) (o o′ : ℕ → ℕ) : Type 0 where
   pub tried : (d : ℕ) → o′ d ≡ 0 → o d ≡ 0
-  pub shut : (d : ℕ) → d < s .dirs → Shut s o d → Shut s o′ d
+  pub refuses : (d : ℕ) → d < s .dirs → WouldRefuse s o d → WouldRefuse s o′ d
 
 -- an offer of u was made, and each probe displaced on the way offered again
 pub record Made (s : Site) (o o′ : ℕ → ℕ) (u : ℕ) : Type 0 where
@@ -69,8 +69,8 @@ pub record Next (s : Site) (o : ℕ → ℕ) (u d : ℕ) : Type 0 where
   pub below : d < s .dirs
   pub own : s .source d ≡ u
   pub untried : o d ≡ 0
-  pub wanted : rivals s o d < s .spare (s .target d)
-  pub dearest : (g : ℕ) → g < s .dirs → s .source g ≡ u → o g ≡ 0 → s .key d < s .key g → Shut s o g
+  pub wanted : dearerHeld s o d < s .spare (s .target d)
+  pub dearest : (g : ℕ) → g < s .dirs → s .source g ≡ u → o g ≡ 0 → s .key d < s .key g → WouldRefuse s o g
 
 -- what the search answers: the next offer of u, or a number past all directions
 pub record Sought (s : Site) (o : ℕ → ℕ) (u r : ℕ) : Type 0 where
@@ -85,13 +85,13 @@ pub record Cheapest (s : Site) (o : ℕ → ℕ) (v c : ℕ) : Type 0 where
   pub least : (f : ℕ) → f < s .dirs → s .target f ≡ v → o f ≡ 1 → s .key c ≤ s .key f
 
 -- the search along u's links stands at e: what is dearer is tried or would not be taken
-pub record Walk (s : Site) (o : ℕ → ℕ) (u e : ℕ) : Type 0 where
+pub record OfferSearch (s : Site) (o : ℕ → ℕ) (u e : ℕ) : Type 0 where
   pub own : e < s .dirs → s .source e ≡ u
-  pub top : e < s .dirs → (g : ℕ) → g < s .dirs → s .source g ≡ u → o g ≡ 0 → s .key e < s .key g → Shut s o g
+  pub top : e < s .dirs → (g : ℕ) → g < s .dirs → s .source g ≡ u → o g ≡ 0 → s .key e < s .key g → WouldRefuse s o g
   pub end : s .dirs ≤ e → NoneLeft s o u
 
 -- the search along the offers held by v stands at v's link f: what is cheaper would not be taken
-pub record Floor (s : Site) (o : ℕ → ℕ) (v f : ℕ) : Type 0 where
+pub record HeldSearch (s : Site) (o : ℕ → ℕ) (v f : ℕ) : Type 0 where
   pub below : f < s .dirs
   pub own : s .source f ≡ v
-  pub low : (g : ℕ) → g < s .dirs → s .target g ≡ v → s .key g < s .key f → Shut s o g
+  pub low : (g : ℕ) → g < s .dirs → s .target g ≡ v → s .key g < s .key f → WouldRefuse s o g

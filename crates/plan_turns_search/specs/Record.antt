@@ -7,7 +7,7 @@ use lib.Dec.{eqb}
 use lib.ListN.{length, set}
 use Rattle.range.specs.Sum.{count}
 use Rattle.table.specs.Table.{item}
-use Rattle.plan_turns_search.specs.Offers.{Site, stands, holds, NoneLeft, Satisfied, Inv, Made, Next, Walk, Floor}
+use Rattle.plan_turns_search.specs.Offers.{Site, stands, holds, NoneLeft, Satisfied, Inv, Made, Next, OfferSearch, HeldSearch}
 
 -- two bytes for each direction: its offer at its source, and at its target
 abbrev pub atSource : List ℕ → ℕ → ℕ
@@ -41,7 +41,7 @@ abbrev pub keptByte : List ℕ → ℕ → ℕ
 keptByte r i = cond (eqb (atTarget r (2 * i)) 1 && eqb (atTarget r (2 * i + 1)) 1) 0 1
 
 -- the links fit the slices, and the links' ends the spares
-pub record Fits (links : ℕ) (lows highs costs spares : List ℕ) : Type 0 where
+pub record SiteInSlices (links : ℕ) (lows highs costs spares : List ℕ) : Type 0 where
   pub few : links ≤ 2048
   pub in-lows : links ≤ length lows
   pub in-highs : links ≤ length highs
@@ -56,8 +56,8 @@ pub record Paired (links : ℕ) (r : List ℕ) : Type 0 where
   pub room : 4 * links ≤ length r
   pub twin : (d : ℕ) → atTarget r d ≡ atSource r d
 
-pub record Ready (links : ℕ) (lows highs costs spares r : List ℕ) : Type 0 where
-  pub fits : Fits links lows highs costs spares
+pub record OffersReady (links : ℕ) (lows highs costs spares r : List ℕ) : Type 0 where
+  pub fits : SiteInSlices links lows highs costs spares
   pub paired : Paired links r
   pub inv : Inv (siteOf links lows highs costs spares) (atSource r)
 
@@ -65,18 +65,18 @@ pub record Ready (links : ℕ) (lows highs costs spares r : List ℕ) : Type 0 w
 abbrev pub mark : List ℕ → ℕ → ℕ → ℕ
 mark marks v k = item marks (4 * v + k)
 
--- the first n probes' entries where no offer is made and the searches start at `cursors` and `floors`
-pub record FirstMarks (cursors floors marks : List ℕ) (n : ℕ) : Type 0 where
+-- the first n probes' entries where no offer is made and the searches start at `cursors` and `lasts`
+pub record FirstMarks (cursors lasts marks : List ℕ) (n : ℕ) : Type 0 where
   pub none : (v : ℕ) → (mark marks v 0 ≡ 0) × (mark marks v 1 ≡ 0)
-  pub starts : (v : ℕ) → v < n → (mark marks v 2 ≡ item cursors v) × (mark marks v 3 ≡ item floors v)
+  pub starts : (v : ℕ) → v < n → (mark marks v 2 ≡ item cursors v) × (mark marks v 3 ≡ item lasts v)
 
 -- the entries beside the bytes: how many of a probe's offers stand and how many it holds, and where the searches along its links and along its held offers stand
-pub record Kept (links : ℕ) (lows highs costs spares r marks : List ℕ) : Type 0 where
+pub record MarksAgree (links : ℕ) (lows highs costs spares r marks : List ℕ) : Type 0 where
   pub room : 4 * length spares ≤ length marks
   pub standing : (u : ℕ) → u < length spares → mark marks u 0 ≡ stands (siteOf links lows highs costs spares) (atSource r) u
   pub held : (v : ℕ) → v < length spares → mark marks v 1 ≡ holds (siteOf links lows highs costs spares) (atSource r) v
-  pub cursors : (u : ℕ) → u < length spares → Walk (siteOf links lows highs costs spares) (atSource r) u (mark marks u 2)
-  pub floors : (v : ℕ) → v < length spares → (d : ℕ) → d < 2 * links → endOf highs lows d ≡ v → Floor (siteOf links lows highs costs spares) (atSource r) v (mark marks v 3)
+  pub cursors : (u : ℕ) → u < length spares → OfferSearch (siteOf links lows highs costs spares) (atSource r) u (mark marks u 2)
+  pub lasts : (v : ℕ) → v < length spares → (d : ℕ) → d < 2 * links → endOf highs lows d ≡ v → HeldSearch (siteOf links lows highs costs spares) (atSource r) v (mark marks v 3)
 
 -- an offer of u was made, or none was left to make
 pub record Offered (links : ℕ) (lows highs costs spares r r′ : List ℕ) (u : ℕ) (made? : Bool) : Type 0 where
@@ -87,18 +87,18 @@ pub record Offered (links : ℕ) (lows highs costs spares r r′ : List ℕ) (u 
 
 -- d is its source's next offer, and its target holds its spare
 pub record Displaces (links : ℕ) (lows highs costs spares r : List ℕ) (d : ℕ) : Type 0 where
-  pub ready : Ready links lows highs costs spares r
+  pub ready : OffersReady links lows highs costs spares r
   pub next : Next (siteOf links lows highs costs spares) (atSource r) (endOf lows highs d) d
   pub room : stands (siteOf links lows highs costs spares) (atSource r) (endOf lows highs d) < item spares (endOf lows highs d)
   pub full : item spares (endOf highs lows d) ≤ holds (siteOf links lows highs costs spares) (atSource r) (endOf highs lows d)
 
 -- probe p had its turn: it is satisfied, and so is each that was
 pub record Turned (links : ℕ) (lows highs costs spares r r′ : List ℕ) (p : ℕ) : Type 0 where
-  pub ready : Ready links lows highs costs spares r′
+  pub ready : OffersReady links lows highs costs spares r′
   pub keeps : (w : ℕ) → Satisfied (siteOf links lows highs costs spares) (atSource r) w → Satisfied (siteOf links lows highs costs spares) (atSource r′) w
   pub done : Satisfied (siteOf links lows highs costs spares) (atSource r′) p
 
 -- the first n probes are satisfied
 pub record Over (links : ℕ) (lows highs costs spares r : List ℕ) (n : ℕ) : Type 0 where
-  pub ready : Ready links lows highs costs spares r
+  pub ready : OffersReady links lows highs costs spares r
   pub done : (w : ℕ) → w < n → Satisfied (siteOf links lows highs costs spares) (atSource r) w

@@ -4,10 +4,10 @@ ghost use Prim.Native.Nat.{ℕ, _+_, _*_, _-_, _<_, _≤_};
 ghost use lib.ListN.{length, set};
 ghost use Rattle.range.specs.Lists.{stored};
 ghost use Rattle.table.specs.Table.{item};
-ghost use Rattle.plan_turns_search.specs.Chain.{Falling, Rising, Started, LinkedBy};
+ghost use Rattle.plan_turns_search.specs.Chain.{DownChains, UpChains, Started, LinkedBy};
 ghost use Rattle.plan_turns_search.specs.Record.{FirstMarks};
-use super::directions::CURSOR;
-use super::directions::FLOOR;
+use super::directions::HELD_CURSOR;
+use super::directions::OFFER_CURSOR;
 use super::directions::entry;
 use super::directions::store;
 
@@ -59,14 +59,14 @@ fn turn_round(to: &mut [u16], from: &[u16], links: usize)
 }
 
 // Stores where each probe's searches start, into zeros.
-fn start(marks: &mut [u16], cursors: &[u16], floors: &[u16])
-    requires { ⌜ (length (now marks) ≡ 1024) × (length (now cursors) ≡ 256) × (length (now floors) ≡ 256) × ((j : ℕ) → item (now marks) j ≡ 0) ⌝ }
-    ensures { λ _. ⌜ FirstMarks (now (cursors .entry)) (now (floors .entry)) (now (marks .exit)) 256 ⌝ }
+fn start(marks: &mut [u16], cursors: &[u16], lasts: &[u16])
+    requires { ⌜ (length (now marks) ≡ 1024) × (length (now cursors) ≡ 256) × (length (now lasts) ≡ 256) × ((j : ℕ) → item (now marks) j ≡ 0) ⌝ }
+    ensures { λ _. ⌜ FirstMarks (now (cursors .entry)) (now (lasts .entry)) (now (marks .exit)) 256 ⌝ }
 {
     let mut v = 0;
     while v < 256 {
-        store(marks, 4 * v + CURSOR, entry(cursors, v));
-        store(marks, 4 * v + FLOOR, entry(floors, v));
+        store(marks, 4 * v + OFFER_CURSOR, entry(cursors, v));
+        store(marks, 4 * v + HELD_CURSOR, entry(lasts, v));
         v += 1;
     }
 }
@@ -84,7 +84,7 @@ pub fn link_up(
     requires { ⌜ (links ≤ 2048) × (links ≤ length (now lows)) × (links ≤ length (now highs)) × (links ≤ length (now costs))
         × ((i : ℕ) → i < links → (item (now lows) i < item (now highs) i) × (item (now highs) i < 256))
         × (length (now marks) ≡ 1024) × ((j : ℕ) → item (now marks) j ≡ 0) × (2 * links ≤ length (now nexts)) × (2 * links ≤ length (now ups)) ⌝ }
-    ensures { λ _. ⌜ (Started links (now (lows .entry)) (now (highs .entry)) (now (costs .entry)) (now (marks .exit))) × (Falling links (now (lows .entry)) (now (highs .entry)) (now (costs .entry)) (now (nexts .exit))) × (Rising links (now (lows .entry)) (now (highs .entry)) (now (costs .entry)) (now (ups .exit))) ⌝ }
+    ensures { λ _. ⌜ (Started links (now (lows .entry)) (now (highs .entry)) (now (costs .entry)) (now (marks .exit))) × (DownChains links (now (lows .entry)) (now (highs .entry)) (now (costs .entry)) (now (nexts .exit))) × (UpChains links (now (lows .entry)) (now (highs .entry)) (now (costs .entry)) (now (ups .exit))) ⌝ }
 {
     let mut order = [0u16; 2048];
     plan_order::sorting::order_links(&mut order, links, costs);
@@ -92,7 +92,7 @@ pub fn link_up(
     turn_round(&mut turned, &order, links);
     let mut cursors = [65535u16; 256];
     chain_links(&mut cursors, nexts, links, lows, highs, &order);
-    let mut floors = [65535u16; 256];
-    chain_links(&mut floors, ups, links, lows, highs, &turned);
-    start(marks, &cursors, &floors);
+    let mut lasts = [65535u16; 256];
+    chain_links(&mut lasts, ups, links, lows, highs, &turned);
+    start(marks, &cursors, &lasts);
 }

@@ -13,9 +13,9 @@ pub const STANDING: usize = 0;
 
 pub const HELD: usize = 1;
 
-pub const CURSOR: usize = 2;
+pub const OFFER_CURSOR: usize = 2;
 
-pub const FLOOR: usize = 3;
+pub const HELD_CURSOR: usize = 3;
 
 // The end of a direction among the links' first and second ends: with lows first its source, with highs first its target.
 pub fn end_of(firsts: &[u16], seconds: &[u16], d: usize) -> usize

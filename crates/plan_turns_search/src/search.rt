@@ -2,19 +2,19 @@
 ghost use Prim.Native.Nat.{_+_, _*_, _<_, _≤_};
 ghost use lib.ListN.{length};
 ghost use Rattle.table.specs.Table.{item};
-ghost use Rattle.plan_turns_search.specs.Record.{atSource, siteOf, Ready, Kept};
-ghost use Rattle.plan_turns_search.specs.Chain.{opposite, Falling, Rising};
-ghost use Rattle.plan_turns_search.specs.Offers.{Sought, Cheapest, Floor, holds};
-use super::directions::CURSOR;
-use super::directions::FLOOR;
+ghost use Rattle.plan_turns_search.specs.Record.{atSource, siteOf, OffersReady, MarksAgree};
+ghost use Rattle.plan_turns_search.specs.Chain.{opposite, DownChains, UpChains};
+ghost use Rattle.plan_turns_search.specs.Offers.{Sought, Cheapest, HeldSearch, holds};
 use super::directions::HELD;
+use super::directions::HELD_CURSOR;
+use super::directions::OFFER_CURSOR;
 use super::directions::cheaper;
 use super::directions::end_of;
 use super::directions::entry;
 use super::directions::opposite;
 
 // The dearest untried direction of u whose target would take it, or a number past all. An end that holds its spare takes what is
-// dearer than one of its held offers; below its floor it holds none.
+// dearer than one of its held offers; below its cursor it holds none.
 pub fn next_offer(
     rec: &[u8],
     marks: &[u16],
@@ -27,13 +27,13 @@ pub fn next_offer(
     ups: &[u16],
     u: usize,
 ) -> usize
-    requires { ⌜ (Ready links (now lows) (now highs) (now costs) (now spares) (now rec)) × (Kept links (now lows) (now highs) (now costs) (now spares) (now rec) (now marks))
-        × (Falling links (now lows) (now highs) (now costs) (now nexts)) × (Rising links (now lows) (now highs) (now costs) (now ups)) × (u < length (now spares)) ⌝ }
+    requires { ⌜ (OffersReady links (now lows) (now highs) (now costs) (now spares) (now rec)) × (MarksAgree links (now lows) (now highs) (now costs) (now spares) (now rec) (now marks))
+        × (DownChains links (now lows) (now highs) (now costs) (now nexts)) × (UpChains links (now lows) (now highs) (now costs) (now ups)) × (u < length (now spares)) ⌝ }
     ensures { λ r. ⌜ (Sought (siteOf links (now (lows .entry)) (now (highs .entry)) (now (costs .entry)) (now (spares .entry))) (atSource (now (rec .entry))) u r) × (r ≤ 2 * links) ⌝ }
 {
     let dirs = 2 * links;
     let mut found = dirs;
-    let mut e = entry(marks, 4 * u + CURSOR);
+    let mut e = entry(marks, 4 * u + OFFER_CURSOR);
     'search: while e < dirs {
         let d = e;
         e = entry(nexts, d);
@@ -45,7 +45,7 @@ pub fn next_offer(
             found = d;
             break 'search;
         }
-        let mut f = entry(marks, 4 * v + FLOOR);
+        let mut f = entry(marks, 4 * v + HELD_CURSOR);
         while cheaper(costs, f, d) {
             if rec[2 * opposite(f) + 1] == 1 {
                 found = d;
@@ -69,12 +69,12 @@ pub fn cheapest(
     ups: &[u16],
     v: usize,
 ) -> usize
-    requires { ⌜ (Ready links (now lows) (now highs) (now costs) (now spares) (now rec)) × (Kept links (now lows) (now highs) (now costs) (now spares) (now rec) (now marks)) × (Rising links (now lows) (now highs) (now costs) (now ups)) × (v < length (now spares))
+    requires { ⌜ (OffersReady links (now lows) (now highs) (now costs) (now spares) (now rec)) × (MarksAgree links (now lows) (now highs) (now costs) (now spares) (now rec) (now marks)) × (UpChains links (now lows) (now highs) (now costs) (now ups)) × (v < length (now spares))
         × (0 < holds (siteOf links (now lows) (now highs) (now costs) (now spares)) (atSource (now rec)) v) × (item (now spares) v ≤ holds (siteOf links (now lows) (now highs) (now costs) (now spares)) (atSource (now rec)) v) ⌝ }
     ensures { λ r. ⌜ (Cheapest (siteOf links (now (lows .entry)) (now (highs .entry)) (now (costs .entry)) (now (spares .entry))) (atSource (now (rec .entry))) v (opposite r))
-        × (Floor (siteOf links (now (lows .entry)) (now (highs .entry)) (now (costs .entry)) (now (spares .entry))) (atSource (now (rec .entry))) v r) ⌝ }
+        × (HeldSearch (siteOf links (now (lows .entry)) (now (highs .entry)) (now (costs .entry)) (now (spares .entry))) (atSource (now (rec .entry))) v r) ⌝ }
 {
-    let mut f = entry(marks, 4 * v + FLOOR);
+    let mut f = entry(marks, 4 * v + HELD_CURSOR);
     while rec[2 * opposite(f) + 1] != 1 {
         f = entry(ups, f);
     }

@@ -4,7 +4,7 @@ ghost use Prim.Native.Nat.{_+_, _*_, _<_};
 ghost use lib.ListN.{length};
 ghost use Rattle.table.specs.Table.{ofSlices};
 ghost use Rattle.probe_rules.specs.Rules.{befalls, alter, entryOf, sendable, rests};
-ghost use Rattle.probe_rules.specs.Within.{EventWithin, Ready};
+ghost use Rattle.probe_rules.specs.Within.{EventWithin, EndReady};
 ghost use Rattle.probe.specs.Answers.{kindOf, askedEvent};
 
 // Lets the event befall the probe: its record altered, and its entry.
@@ -19,7 +19,7 @@ pub fn apply(
     probe: u16,
     rec: &mut [u8],
 ) -> wake_log::Entry
-    requires { ⌜ Ready (ofSlices 0 probes links (now needs) (now lows) (now highs) (now costs)) probe (now rec) (length (now lows)) (length (now highs)) (length (now costs)) × EventWithin links event ⌝ }
+    requires { ⌜ EndReady (ofSlices 0 probes links (now needs) (now lows) (now highs) (now costs)) probe (now rec) (length (now lows)) (length (now highs)) (length (now costs)) × EventWithin links event ⌝ }
     ensures { λ r. ⌜ (r ≡ entryOf (ofSlices 0 probes links (now (needs .entry)) (now (lows .entry)) (now (highs .entry)) (now (costs .entry))) probe
         (befalls (ofSlices 0 probes links (now (needs .entry)) (now (lows .entry)) (now (highs .entry)) (now (costs .entry))) probe event (now (rec .entry))))
         × (now (rec .exit) ≡ alter (befalls (ofSlices 0 probes links (now (needs .entry)) (now (lows .entry)) (now (highs .entry)) (now (costs .entry))) probe event (now (rec .entry))) (now (rec .entry))) ⌝ }

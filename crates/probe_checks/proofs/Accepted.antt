@@ -16,7 +16,7 @@ use Rattle.probe_frame.specs.Frame.{Frame, frameOf, frameFault}
 use Rattle.probe_record.specs.Record.{recordFault}
 use Rattle.probe_rules.specs.Frames.{numberFault, heardOf}
 use Rattle.probe_rules.specs.Within.{EventWithin}
-use Rattle.probe_checks.specs.Checks.{kindFault, toFault, probeFault, linkFault, untriedFault, fullFault, heardFault, hearFault, openFault, linkCallFault}
+use Rattle.probe_checks.specs.Checks.{frameKindFault, toFault, probeFault, ownLinkFault, untriedFault, fullFault, heardFault, hearFault, openFault, linkCallFault}
 
 module _ (t : Table) (p : ℕ) (l : List ℕ) (e : heardFault t p l ≡ 0) where
   abbrev f : Frame
@@ -24,13 +24,13 @@ module _ (t : Table) (p : ℕ) (l : List ℕ) (e : heardFault t p l ≡ 0) where
 
   pub heard-frame : frameFault l ≡ 0
   unfolding heardFault
-  heard-frame = or-left (frameFault l) (orElse (kindFault f) (orElse (numberFault t f) (toFault t p f))) e
+  heard-frame = or-left (frameFault l) (orElse (frameKindFault f) (orElse (numberFault t f) (toFault t p f))) e
 
   to-passes : (eqb (f .to) p && ltb (between t (f .from) (f .to)) (t .links)) ≡ true
   unfolding heardFault
   to-passes =
-      let a = or-right (frameFault l) (orElse (kindFault f) (orElse (numberFault t f) (toFault t p f))) e in
-      let b = or-right (kindFault f) (orElse (numberFault t f) (toFault t p f)) a in
+      let a = or-right (frameFault l) (orElse (frameKindFault f) (orElse (numberFault t f) (toFault t p f))) e in
+      let b = or-right (frameKindFault f) (orElse (numberFault t f) (toFault t p f)) a in
       let c = or-right (numberFault t f) (toFault t p f) b in
       unless-none (eqb (f .to) p && ltb (between t (f .from) (f .to)) (t .links)) 23 c
 
@@ -69,9 +69,9 @@ module _ (slices : ℕ) (t : Table) (p : ℕ) (e : List ℕ) where
   pub link-parts : (i : ℕ) → linkCallFault slices t p e i ≡ 0 → (slices ≡ 0) × (recordFault t p e ≡ 0) × (i < t .links)
   unfolding linkCallFault
   link-parts i f =
-      let a = or-right slices (orElse (recordFault t p e) (linkFault t p i)) f in
-      let b = or-right (recordFault t p e) (linkFault t p i) a in
-      (or-left slices (orElse (recordFault t p e) (linkFault t p i)) f, or-left (recordFault t p e) (linkFault t p i) a, ltb-true i (t .links) (and-left (ltb i (t .links)) (touches t p i) (unless-none (ltb i (t .links) && touches t p i) 23 b)))
+      let a = or-right slices (orElse (recordFault t p e) (ownLinkFault t p i)) f in
+      let b = or-right (recordFault t p e) (ownLinkFault t p i) a in
+      (or-left slices (orElse (recordFault t p e) (ownLinkFault t p i)) f, or-left (recordFault t p e) (ownLinkFault t p i) a, ltb-true i (t .links) (and-left (ltb i (t .links)) (touches t p i) (unless-none (ltb i (t .links) && touches t p i) 23 b)))
 
   -- table and record are checked as one stage: its fault is the call's, or the rest's is
   module _ (r : ℕ) where
@@ -94,11 +94,11 @@ module _ (slices : ℕ) (t : Table) (p : ℕ) (e : List ℕ) where
 
     pub link-early : (i : ℕ) → r ≡ orElse slices (recordFault t p e) → (r ≡ 0 → ⊥) → r ≡ linkCallFault slices t p e i
     unfolding linkCallFault
-    link-early i = or-through r slices (recordFault t p e) (linkFault t p i)
+    link-early i = or-through r slices (recordFault t p e) (ownLinkFault t p i)
 
-    pub link-late : (i : ℕ) → orElse slices (recordFault t p e) ≡ 0 → r ≡ linkFault t p i → r ≡ linkCallFault slices t p e i
+    pub link-late : (i : ℕ) → orElse slices (recordFault t p e) ≡ 0 → r ≡ ownLinkFault t p i → r ≡ linkCallFault slices t p e i
     unfolding linkCallFault
-    link-late i = or-past r slices (recordFault t p e) (linkFault t p i)
+    link-late i = or-past r slices (recordFault t p e) (ownLinkFault t p i)
 
 -- the code's tests of the kind
 pub known-kind : (k : ℕ) → (k ≡ 0 → ⊥) → k ≤ 2 → (eqb k 1 || eqb k 2) ≡ true

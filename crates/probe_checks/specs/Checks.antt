@@ -12,8 +12,8 @@ use Rattle.probe_rules.specs.declared.Event.the-variants.{Opening, Offer, Refus
 use Rattle.probe_rules.specs.Frames.{numberFault, heardOf}
 
 -- 9: "Kind 01 is an offer, 02 a refusal"; an end alone knows no other
-abbrev pub kindFault : Frame → ℕ
-kindFault f = cond (eqb (f .kind) 1 || eqb (f .kind) 2) 0 9
+abbrev pub frameKindFault : Frame → ℕ
+frameKindFault f = cond (eqb (f .kind) 1 || eqb (f .kind) 2) 0 9
 
 -- 24: "No such probe, a frame for another probe, .. or no such link."
 abbrev pub toFault : Table → ℕ → Frame → ℕ
@@ -23,8 +23,8 @@ abbrev pub probeFault : Table → ℕ → ℕ
 probeFault t p = cond (ltb p (t .probes)) 0 24
 
 -- "A link not its own is refused by 24."
-abbrev pub linkFault : Table → ℕ → ℕ → ℕ
-linkFault t p i = cond (ltb i (t .links) && touches t p i) 0 24
+abbrev pub ownLinkFault : Table → ℕ → ℕ → ℕ
+ownLinkFault t p i = cond (ltb i (t .links) && touches t p i) 0 24
 
 -- 25: "One end alone: a refusal where outbound is 0."
 abbrev pub untriedFault : Event → List ℕ → ℕ
@@ -40,7 +40,7 @@ fullFault free = cond (eqb free 0) 26 0
 unfoldable pub heardFault : Table → ℕ → List ℕ → ℕ
 heardFault t p l =
     let f = frameOf l in
-    orElse (frameFault l) (orElse (kindFault f) (orElse (numberFault t f) (toFault t p f)))
+    orElse (frameFault l) (orElse (frameKindFault f) (orElse (numberFault t f) (toFault t p f)))
 
 -- "These come after the table's checks: 20, 21, 22, then the frame's 1, 2, 9, 23, 24, then 25 .., then 26."
 unfoldable pub hearFault : ℕ → Table → ℕ → List ℕ → List ℕ → ℕ → ℕ
@@ -53,4 +53,4 @@ openFault slices t p e free = orElse slices (orElse (recordFault t p e) (orElse 
 
 -- of a call about one link; 8 for a lent slice comes with the table's own
 unfoldable pub linkCallFault : ℕ → Table → ℕ → List ℕ → ℕ → ℕ
-linkCallFault slices t p e i = orElse slices (orElse (recordFault t p e) (linkFault t p i))
+linkCallFault slices t p e i = orElse slices (orElse (recordFault t p e) (ownLinkFault t p i))

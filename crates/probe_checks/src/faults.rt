@@ -10,11 +10,11 @@ ghost use Rattle.probe_frame.specs.Frame.{frameOf, frameFault};
 ghost use Rattle.probe_record.specs.Record.{recordFault};
 ghost use Rattle.probe_rules.specs.Frames.{heardOf};
 ghost use Rattle.probe_rules.specs.Within.{EventWithin};
-ghost use Rattle.table_links.specs.Ordered.{Ordered};
+ghost use Rattle.table_links.specs.RisingSlices.{RisingSlices};
 ghost use Rattle.probe_checks.specs.Checks.{untriedFault, heardFault, hearFault, openFault, linkCallFault};
 
 // 9, 23, 24 of a frame's line.
-fn frame_fault(
+fn heard_fault(
     number: u16,
     links: usize,
     lows: &[u16],
@@ -22,7 +22,7 @@ fn frame_fault(
     probe: usize,
     frame: &[u8],
 ) -> u8
-    requires { ⌜ Ordered links (now lows) (now highs) ⌝ }
+    requires { ⌜ RisingSlices links (now lows) (now highs) ⌝ }
     ensures { λ r. ⌜ r ≡ heardFault (ofSlices number 0 links [] (now (lows .entry)) (now (highs .entry)) []) probe (now (frame .entry)) ⌝ }
 {
     let fault = probe_frame::frame_line::frame_fault(frame);
@@ -59,7 +59,7 @@ fn frame_fault(
 
 // What a frame that was not turned down says.
 pub fn event_of(links: usize, lows: &[u16], highs: &[u16], frame: &[u8]) -> probe_rules::Event
-    requires { ⌜ Ordered links (now lows) (now highs) × (frameFault (now frame) ≡ 0) ⌝ }
+    requires { ⌜ RisingSlices links (now lows) (now highs) × (frameFault (now frame) ≡ 0) ⌝ }
     ensures { λ r. ⌜ r ≡ heardOf (ofSlices 0 0 links [] (now (lows .entry)) (now (highs .entry)) []) (frameOf (now (frame .entry))) ⌝ }
 {
     let from = probe_frame::frame_line::field(frame, 6, 4);
@@ -158,7 +158,7 @@ pub fn hear_fault(
     if fault != 0 {
         return fault;
     }
-    let heard = frame_fault(number, links, lows, highs, probe, frame);
+    let heard = heard_fault(number, links, lows, highs, probe, frame);
     if heard != 0 {
         return heard;
     }

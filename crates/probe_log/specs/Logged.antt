@@ -16,7 +16,7 @@ use Rattle.wake_log.specs.declared.storing.Told.{Told}
 use Rattle.wake_log.specs.Log.{toldOf}
 
 -- the call's answer and record as without a log; the log has the entry behind its used ones, or is unchanged
-pub record Logs (fault : ℕ) (t : Table) (p : ℕ) (event : Event) (r : Answer) (before after : List ℕ) (used : ℕ) (log log′ : List Entry) : Type 0 where
+pub record LogsAtEnd (fault : ℕ) (t : Table) (p : ℕ) (event : Event) (r : Answer) (before after : List ℕ) (used : ℕ) (log log′ : List Entry) : Type 0 where
   pub befallen : Befallen fault t p event r before after
   pub log-after : log′ ≡ cond (eqb fault 0) (set log used (entryOf t p (befalls t p event before))) log
 

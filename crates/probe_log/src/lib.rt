@@ -7,7 +7,7 @@ ghost use Rattle.probe_frame.specs.Frame.{frameOf};
 ghost use Rattle.probe_rules.specs.declared.Event.the-variants.{Opening};
 ghost use Rattle.probe_rules.specs.Frames.{heardOf};
 ghost use Rattle.probe_checks.specs.Checks.{hearFault, openFault};
-ghost use Rattle.probe_log.specs.Logged.{ToldCall, Logs};
+ghost use Rattle.probe_log.specs.Logged.{ToldCall, LogsAtEnd};
 use wake_log::storing::Told;
 
 fn open_told(
@@ -95,7 +95,7 @@ pub fn open_logged(
     log: &mut [wake_log::Entry],
     used: usize,
 ) -> wake_log::Answer
-    ensures { λ r. ⌜ Logs
+    ensures { λ r. ⌜ LogsAtEnd
         (openFault (sliceFault 256 2048 (slicesOf number probes links (now (needs .entry)) (now (lows .entry)) (now (highs .entry)) (now (costs .entry))))
         (ofSlices number probes links (now (needs .entry)) (now (lows .entry)) (now (highs .entry)) (now (costs .entry))) probe (now (rec .entry)) (length (now (log .entry)) - used))
         (ofSlices number probes links (now (needs .entry)) (now (lows .entry)) (now (highs .entry)) (now (costs .entry))) probe Opening
@@ -133,7 +133,7 @@ pub fn hear_logged(
     log: &mut [wake_log::Entry],
     used: usize,
 ) -> wake_log::Answer
-    ensures { λ r. ⌜ Logs
+    ensures { λ r. ⌜ LogsAtEnd
         (hearFault (sliceFault 256 2048 (slicesOf number probes links (now (needs .entry)) (now (lows .entry)) (now (highs .entry)) (now (costs .entry))))
         (ofSlices number probes links (now (needs .entry)) (now (lows .entry)) (now (highs .entry)) (now (costs .entry))) probe (now (rec .entry)) (now (frame .entry)) (length (now (log .entry)) - used))
         (ofSlices number probes links (now (needs .entry)) (now (lows .entry)) (now (highs .entry)) (now (costs .entry))) probe

@@ -14,14 +14,14 @@ use Rattle.range.proofs.Bools.{or-false-left, or-false-right, when-none, unless
 use Rattle.range.proofs.Faults.{or-left, or-right, or-none, first-all, none-first}
 use Rattle.range.proofs.Sums.{weigh-same}
 use Rattle.table.specs.Table.{Table, item, touches, spare}
-use Rattle.probe_record.specs.Record.{outbound, inbound, ownWith, standing, held, lengthFault, byteFault, spareFault, recordFault}
+use Rattle.probe_record.specs.Record.{outbound, inbound, ownWith, standing, held, recordLengthFault, byteFault, spareFault, recordFault}
 
 -- 20 and 21 let the record pass
 pub record-good : (t : Table) (p : ℕ) (e : List ℕ) → recordFault t p e ≡ 0 → (length e ≡ 2 * t .links) × (first (byteFault t p e) (t .links) ≡ 0)
 record-good t p e f =
     let bytes = first (byteFault t p e) (t .links) in
-    let rest = or-right (lengthFault t e) (orElse bytes (spareFault t p e)) f in
-    let size = or-left (lengthFault t e) (orElse bytes (spareFault t p e)) f in
+    let rest = or-right (recordLengthFault t e) (orElse bytes (spareFault t p e)) f in
+    let size = or-left (recordLengthFault t e) (orElse bytes (spareFault t p e)) f in
     (eqb-true (length e) (2 * t .links) (unless-none (eqb (length e) (2 * t .links)) 19 size), or-left bytes (spareFault t p e) rest)
 
 module _ (t : Table) (p : ℕ) (e : List ℕ) where
@@ -91,7 +91,7 @@ module _ (t : Table) (p : ℕ) (e : List ℕ) where
       let many = ltb (spare t p) (standing t p e) in
       let much = ltb (spare t p) (held t p e) in
       let bytes = first (byteFault t p e) (t .links) in
-      let last = or-right bytes (spareFault t p e) (or-right (lengthFault t e) (orElse bytes (spareFault t p e)) f) in
+      let last = or-right bytes (spareFault t p e) (or-right (recordLengthFault t e) (orElse bytes (spareFault t p e)) f) in
       let none = when-none (many || much) 21 last in
       record {
         size = r .0;
@@ -109,7 +109,7 @@ module _ (t : Table) (p : ℕ) (e : List ℕ) where
 
   pub record-passes : GoodRecord t p e → recordFault t p e ≡ 0
   record-passes g =
-      or-none (lengthFault t e) (orElse (first (byteFault t p e) (t .links)) (spareFault t p e)) (rw (eq-eqb (length e) (2 * t .links) (g .size)))
+      or-none (recordLengthFault t e) (orElse (first (byteFault t p e) (t .links)) (spareFault t p e)) (rw (eq-eqb (length e) (2 * t .links) (g .size)))
       ∙ or-none (first (byteFault t p e) (t .links)) (spareFault t p e) (none-first (byteFault t p e) (t .links) (λ i l. byte-passes i (g .bytes i l)))
       ∙ rw (le-ltb (spare t p) (standing t p e) (g .standing-fits), le-ltb (spare t p) (held t p e) (g .held-fits))
 
@@ -118,7 +118,7 @@ module _ (t : Table) (p : ℕ) (e : List ℕ) (size : length e ≡ 2 * t .links)
     (is : room ≡ spare t p) (stands : out ≡ count (t .links) (λ i. eqb (item e (2 * i + 0)) 1)) where
   last-fault : recordFault t p e ≡ cond (ltb room out || ltb room (held t p e)) 22 0
   last-fault =
-      or-none (lengthFault t e) (orElse (first (byteFault t p e) (t .links)) (spareFault t p e)) (rw (eq-eqb (length e) (2 * t .links) size))
+      or-none (recordLengthFault t e) (orElse (first (byteFault t p e) (t .links)) (spareFault t p e)) (rw (eq-eqb (length e) (2 * t .links) size))
       ∙ or-none (first (byteFault t p e) (t .links)) (spareFault t p e) fine
       ∙ rw (is, stands, ones-standing t p e fine)
 

@@ -39,8 +39,8 @@ abbrev pub cheapestHeld : Table → ℕ → List ℕ → ℕ
 cheapestHeld t p e = best (cheaper t) (ownWith t p (inbound e) 1) (t .links) (t .links)
 
 -- 20: "A record of the wrong length."
-abbrev pub lengthFault : Table → List ℕ → ℕ
-lengthFault t e = cond (eqb (length e) (2 * t .links)) 0 20
+abbrev pub recordLengthFault : Table → List ℕ → ℕ
+recordLengthFault t e = cond (eqb (length e) (2 * t .links)) 0 20
 
 -- 21: "A byte over 2, or not 0 on another probe's link."
 abbrev pub byteFault : Table → ℕ → List ℕ → ℕ → ℕ
@@ -53,4 +53,4 @@ spareFault t p e = cond (ltb (spare t p) (standing t p e) || ltb (spare t p) (he
 
 -- "20, 21, 22"
 abbrev pub recordFault : Table → ℕ → List ℕ → ℕ
-recordFault t p e = orElse (lengthFault t e) (orElse (first (byteFault t p e) (t .links)) (spareFault t p e))
+recordFault t p e = orElse (recordLengthFault t e) (orElse (first (byteFault t p e) (t .links)) (spareFault t p e))

@@ -19,7 +19,7 @@ use Rattle.probe_record.proofs.SearchLaws.{dearest, cheapest}
 use Rattle.probe_rules.specs.declared.Event.{Event}
 use Rattle.probe_rules.specs.declared.Event.the-variants.{Opening, Offer, Refusal}
 use Rattle.probe_rules.specs.declared.Outcome.{Outcome}
-use Rattle.probe_rules.specs.declared.Outcome.the-variants.{Opened, NothingToOpen, Taken, Displacing, Refused, Learnt, NoChange}
+use Rattle.probe_rules.specs.declared.Outcome.the-variants.{Opened, NothingToOpen, Taken, TakenDisplacing, Refused, RefusalLearnt, NoChange}
 use Rattle.probe_rules.specs.Rules.{opening, offer, befalls}
 use Rattle.probe_rules.specs.Within.{OwnLink, OwnEvent, OwnOutcome, EventWithin}
 
@@ -29,11 +29,11 @@ pub data Befell (t : Table) (p : ℕ) (e : List ℕ) : Event → Outcome → Typ
   nothing-to-open : Befell t p e Opening NothingToOpen
   taken : (i : ℕ) → inbound e i ≡ 0 → held t p e < spare t p → Befell t p e (Offer i) (Taken i)
   displacing : (i c : ℕ) → inbound e i ≡ 0 → spare t p ≤ held t p e → OwnLink t p c → inbound e c ≡ 1 → dearer t i c ≡ true
-      → ((g : ℕ) → OwnLink t p g → inbound e g ≡ 1 → dearer t c g ≡ false) → Befell t p e (Offer i) (Displacing i c)
+      → ((g : ℕ) → OwnLink t p g → inbound e g ≡ 1 → dearer t c g ≡ false) → Befell t p e (Offer i) (TakenDisplacing i c)
   refused : (i : ℕ) → inbound e i ≡ 0 → spare t p ≤ held t p e → ((g : ℕ) → OwnLink t p g → inbound e g ≡ 1 → dearer t g i ≡ true)
       → Befell t p e (Offer i) (Refused i)
   seen : (i : ℕ) → (inbound e i ≡ 0 → ⊥) → Befell t p e (Offer i) (NoChange i)
-  learnt : (i : ℕ) → (outbound e i ≡ 2 → ⊥) → Befell t p e (Refusal i) (Learnt i)
+  learnt : (i : ℕ) → (outbound e i ≡ 2 → ⊥) → Befell t p e (Refusal i) (RefusalLearnt i)
   known : (i : ℕ) → outbound e i ≡ 2 → Befell t p e (Refusal i) (NoChange i)
 
 module _ (t : Table) (legal : Legal t) (p : ℕ) (e : List ℕ) where
@@ -81,7 +81,7 @@ module _ (t : Table) (legal : Legal t) (p : ℕ) (e : List ℕ) where
       IsCheapest : Type 0
       IsCheapest = Best (cheaper t) (ownWith t p (inbound e) 1) (t .links) (t .links) c
 
-      displaced : room ≡ false → some ≡ true → dear ≡ true → IsCheapest → Befell t p e (Offer i) (Displacing i c)
+      displaced : room ≡ false → some ≡ true → dear ≡ true → IsCheapest → Befell t p e (Offer i) (TakenDisplacing i c)
       displaced a s d (nobody y h) = let k = ltb-true c (t .links) s in absurd (omega arith)
       displaced a s d (chosen k y h) =
           displacing i c z (ltb-false (held t p e) (spare t p) a) (k, and-left (touches t p c) (eqb (inbound e c) 1) y)

@@ -15,7 +15,7 @@ use Rattle.probe_record.specs.Record.{outbound, inbound, standing, held, deares
 use Rattle.probe_rules.specs.declared.Event.{Event}
 use Rattle.probe_rules.specs.declared.Event.the-variants.{Opening, Offer, Refusal}
 use Rattle.probe_rules.specs.declared.Outcome.{Outcome}
-use Rattle.probe_rules.specs.declared.Outcome.the-variants.{Opened, NothingToOpen, Taken, Displacing, Refused, Learnt, NoChange}
+use Rattle.probe_rules.specs.declared.Outcome.the-variants.{Opened, NothingToOpen, Taken, TakenDisplacing, Refused, RefusalLearnt, NoChange}
 use Rattle.probe_rules.specs.Rules.{befalls, offer, entryOf}
 use Rattle.probe_rules.specs.Within.{EventWithin, Within}
 
@@ -40,17 +40,17 @@ befalls-within t p (Offer i) e w = either (t .links) (eqb (inbound e i) 0) (offe
     heard : Within (t .links) (offer t p e i)
     heard =
         either (t .links) (ltb (held t p e) (spare t p)) (Taken i) _ (λ f. w)
-        (either (t .links) (ltb c (t .links) && dearer t i c) (Displacing i c) (Refused i)
+        (either (t .links) (ltb c (t .links) && dearer t i c) (TakenDisplacing i c) (Refused i)
         (λ f. (w, ltb-true c (t .links) (and-left (ltb c (t .links)) (dearer t i c) f))) w)
-befalls-within t p (Refusal i) e w = either (t .links) (eqb (outbound e i) 2) (NoChange i) (Learnt i) (λ f. w) w
+befalls-within t p (Refusal i) e w = either (t .links) (eqb (outbound e i) 2) (NoChange i) (RefusalLearnt i) (λ f. w) w
 
 pub within-wider : (n m : ℕ) (o : Outcome) → n ≤ m → Within n o → Within m o
 within-wider n m (Opened i) l w = omega arith
 within-wider n m NothingToOpen l w = tt
 within-wider n m (Taken i) l w = omega arith
-within-wider n m (Displacing i c) l w = (omega (arith, w .0), omega (arith, w .1))
+within-wider n m (TakenDisplacing i c) l w = (omega (arith, w .0), omega (arith, w .1))
 within-wider n m (Refused i) l w = omega arith
-within-wider n m (Learnt i) l w = omega arith
+within-wider n m (RefusalLearnt i) l w = omega arith
 within-wider n m (NoChange i) l w = omega arith
 
 pub few-links : (t : Table) → Legal t → t .links ≤ 65536
@@ -67,9 +67,9 @@ module _ (number probes links : ℕ) (needs lows highs costs : List ℕ) (p : �
   entry-same (Opened i) = refl
   entry-same NothingToOpen = refl
   entry-same (Taken i) = refl
-  entry-same (Displacing i c) = refl
+  entry-same (TakenDisplacing i c) = refl
   entry-same (Refused i) = refl
-  entry-same (Learnt i) = refl
+  entry-same (RefusalLearnt i) = refl
   entry-same (NoChange i) = refl
 
   pub befalls-same : (event : Event) (e : List ℕ) → befalls (ofSlices 0 probes links needs lows highs costs) p event e ≡ befalls table p event e

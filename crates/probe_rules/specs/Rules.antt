@@ -12,7 +12,7 @@ use Rattle.wake_log.specs.declared.What.the-variants as what
 use Rattle.probe_rules.specs.declared.Event.{Event}
 use Rattle.probe_rules.specs.declared.Event.the-variants.{Opening, Offer, Refusal}
 use Rattle.probe_rules.specs.declared.Outcome.{Outcome}
-use Rattle.probe_rules.specs.declared.Outcome.the-variants.{Opened, NothingToOpen, Taken, Displacing, Refused, Learnt, NoChange}
+use Rattle.probe_rules.specs.declared.Outcome.the-variants.{Opened, NothingToOpen, Taken, TakenDisplacing, Refused, RefusalLearnt, NoChange}
 
 -- "Opening: with fewer standing than spare, the dearest untried own link becomes standing. Otherwise nothing to open."
 abbrev pub opening : Table → ℕ → List ℕ → Outcome
@@ -24,22 +24,22 @@ opening t p e =
 abbrev pub offer : Table → ℕ → List ℕ → ℕ → Outcome
 offer t p e i =
     let c = cheapestHeld t p e in
-    cond (ltb (held t p e) (spare t p)) (Taken i) (cond (ltb c (t .links) && dearer t i c) (Displacing i c) (Refused i))
+    cond (ltb (held t p e) (spare t p)) (Taken i) (cond (ltb c (t .links) && dearer t i c) (TakenDisplacing i c) (Refused i))
 
 -- "Offer heard: if inbound is 0, it is taken .. or refused .. as above .. Otherwise nothing changes." "Refusal heard: outbound becomes 2."
 abbrev pub befalls : Table → ℕ → Event → List ℕ → Outcome
 befalls t p Opening e = opening t p e
 befalls t p (Offer i) e = cond (eqb (inbound e i) 0) (offer t p e i) (NoChange i)
-befalls t p (Refusal i) e = cond (eqb (outbound e i) 2) (NoChange i) (Learnt i)
+befalls t p (Refusal i) e = cond (eqb (outbound e i) 2) (NoChange i) (RefusalLearnt i)
 
 -- the bytes that an outcome alters, by the places of outbound and inbound in the record
 abbrev pub alterAt : (ℕ → ℕ) → (ℕ → ℕ) → Outcome → List ℕ → List ℕ
 alterAt outAt inAt (Opened i) e = set e (outAt i) 1
 alterAt outAt inAt NothingToOpen e = e
 alterAt outAt inAt (Taken i) e = set e (inAt i) 1
-alterAt outAt inAt (Displacing i c) e = set (set e (inAt i) 1) (inAt c) 2
+alterAt outAt inAt (TakenDisplacing i c) e = set (set e (inAt i) 1) (inAt c) 2
 alterAt outAt inAt (Refused i) e = set e (inAt i) 2
-alterAt outAt inAt (Learnt i) e = set e (outAt i) 2
+alterAt outAt inAt (RefusalLearnt i) e = set e (outAt i) 2
 alterAt outAt inAt (NoChange i) e = e
 
 -- in an end's own record
@@ -61,9 +61,9 @@ abbrev pub whatOf : Table → ℕ → Outcome → What
 whatOf t p (Opened i) = what.Opened i
 whatOf t p NothingToOpen = what.NothingToOpen
 whatOf t p (Taken i) = what.Taken i
-whatOf t p (Displacing i c) = what.TakenDisplacing i (other t p c)
+whatOf t p (TakenDisplacing i c) = what.TakenDisplacing i (other t p c)
 whatOf t p (Refused i) = what.Refused i
-whatOf t p (Learnt i) = what.RefusalLearnt i
+whatOf t p (RefusalLearnt i) = what.RefusalLearnt i
 whatOf t p (NoChange i) = what.NoChange i
 
 abbrev pub entryOf : Table → ℕ → Outcome → Entry

@@ -11,7 +11,7 @@ use Rattle.probe_record.specs.Record.{byteFault}
 use Rattle.probe_rules.specs.declared.Event.{Event}
 use Rattle.probe_rules.specs.declared.Event.the-variants.{Opening, Offer, Refusal}
 use Rattle.probe_rules.specs.declared.Outcome.{Outcome}
-use Rattle.probe_rules.specs.declared.Outcome.the-variants.{Opened, NothingToOpen, Taken, Displacing, Refused, Learnt, NoChange}
+use Rattle.probe_rules.specs.declared.Outcome.the-variants.{Opened, NothingToOpen, Taken, TakenDisplacing, Refused, RefusalLearnt, NoChange}
 
 -- the links are below a number
 abbrev pub EventWithin : ℕ → Event → Type 0
@@ -23,9 +23,9 @@ abbrev pub Within : ℕ → Outcome → Type 0
 Within n (Opened i) = i < n
 Within n NothingToOpen = Unit
 Within n (Taken i) = i < n
-Within n (Displacing i c) = (i < n) × (c < n)
+Within n (TakenDisplacing i c) = (i < n) × (c < n)
 Within n (Refused i) = i < n
-Within n (Learnt i) = i < n
+Within n (RefusalLearnt i) = i < n
 Within n (NoChange i) = i < n
 
 -- the link is the probe's own
@@ -41,13 +41,13 @@ abbrev pub OwnOutcome : Table → ℕ → Outcome → Type 0
 OwnOutcome t p (Opened i) = OwnLink t p i
 OwnOutcome t p NothingToOpen = Unit
 OwnOutcome t p (Taken i) = OwnLink t p i
-OwnOutcome t p (Displacing i c) = OwnLink t p i × OwnLink t p c
+OwnOutcome t p (TakenDisplacing i c) = OwnLink t p i × OwnLink t p c
 OwnOutcome t p (Refused i) = OwnLink t p i
-OwnOutcome t p (Learnt i) = OwnLink t p i
+OwnOutcome t p (RefusalLearnt i) = OwnLink t p i
 OwnOutcome t p (NoChange i) = Unit
 
 -- a legal table in slices of these lengths, and a record that 21 lets pass
-pub record Ready (t : Table) (p : ℕ) (e : List ℕ) (lows highs costs : ℕ) : Type 0 where
+pub record EndReady (t : Table) (p : ℕ) (e : List ℕ) (lows highs costs : ℕ) : Type 0 where
   pub legal : Legal t
   pub in-lows : t .links ≤ lows
   pub in-highs : t .links ≤ highs

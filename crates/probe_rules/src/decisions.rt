@@ -5,7 +5,7 @@ ghost use Prim.Native.Nat.{_<_};
 ghost use lib.ListN.{length};
 ghost use Rattle.table.specs.Table.{ofSlices};
 ghost use Rattle.probe_rules.specs.Rules.{opening, offer, befalls};
-ghost use Rattle.probe_rules.specs.Within.{EventWithin, Ready};
+ghost use Rattle.probe_rules.specs.Within.{EventWithin, EndReady};
 use super::Event;
 use super::Outcome;
 
@@ -19,7 +19,7 @@ fn decide_opening(
     costs: &[u16],
     probe: usize,
 ) -> Outcome
-    requires { ⌜ Ready (ofSlices 0 probes links (now needs) (now lows) (now highs) (now costs)) probe (now rec) (length (now lows)) (length (now highs)) (length (now costs)) ⌝ }
+    requires { ⌜ EndReady (ofSlices 0 probes links (now needs) (now lows) (now highs) (now costs)) probe (now rec) (length (now lows)) (length (now highs)) (length (now costs)) ⌝ }
     ensures { λ r. ⌜ r ≡ opening (ofSlices 0 probes links (now (needs .entry)) (now (lows .entry)) (now (highs .entry)) (now (costs .entry))) probe (now (rec .entry)) ⌝ }
 {
     let spare = table_links::spares::spare(links, needs, lows, highs, probe);
@@ -53,7 +53,7 @@ fn decide_offer(
     probe: usize,
     i: usize,
 ) -> Outcome
-    requires { ⌜ Ready (ofSlices 0 probes links (now needs) (now lows) (now highs) (now costs)) probe (now rec) (length (now lows)) (length (now highs)) (length (now costs)) × (i < links) ⌝ }
+    requires { ⌜ EndReady (ofSlices 0 probes links (now needs) (now lows) (now highs) (now costs)) probe (now rec) (length (now lows)) (length (now highs)) (length (now costs)) × (i < links) ⌝ }
     ensures { λ r. ⌜ r ≡ offer (ofSlices 0 probes links (now (needs .entry)) (now (lows .entry)) (now (highs .entry)) (now (costs .entry))) probe (now (rec .entry)) i ⌝ }
 {
     let spare = table_links::spares::spare(links, needs, lows, highs, probe);
@@ -74,7 +74,7 @@ fn decide_offer(
         return Outcome::Refused(i);
     }
     if dearer(costs, i, displaced) {
-        return Outcome::Displacing { link: i, displaced };
+        return Outcome::TakenDisplacing { link: i, displaced };
     }
     Outcome::Refused(i)
 }
@@ -91,7 +91,7 @@ pub fn decide(
     costs: &[u16],
     probe: usize,
 ) -> Outcome
-    requires { ⌜ Ready (ofSlices 0 probes links (now needs) (now lows) (now highs) (now costs)) probe (now rec) (length (now lows)) (length (now highs)) (length (now costs)) × EventWithin links event ⌝ }
+    requires { ⌜ EndReady (ofSlices 0 probes links (now needs) (now lows) (now highs) (now costs)) probe (now rec) (length (now lows)) (length (now highs)) (length (now costs)) × EventWithin links event ⌝ }
     ensures { λ r. ⌜ r ≡ befalls (ofSlices 0 probes links (now (needs .entry)) (now (lows .entry)) (now (highs .entry)) (now (costs .entry))) probe event (now (rec .entry)) ⌝ }
 {
     match event {
@@ -106,7 +106,7 @@ pub fn decide(
             if rec[2 * i] == 2 {
                 return Outcome::NoChange(i);
             }
-            Outcome::Learnt(i)
+            Outcome::RefusalLearnt(i)
         }
     }
 }

@@ -16,8 +16,8 @@ pub enum Outcome {
     Opened(usize),
     NothingToOpen,
     Taken(usize),
-    Displacing { link: usize, displaced: usize },
+    TakenDisplacing { link: usize, displaced: usize },
     Refused(usize),
-    Learnt(usize),
+    RefusalLearnt(usize),
     NoChange(usize),
 }

@@ -22,14 +22,14 @@ pub fn alter(rec: &mut [u8], outcome: Outcome)
         Outcome::Taken(i) => {
             rec[2 * i + 1] = 1;
         }
-        Outcome::Displacing { link, displaced } => {
+        Outcome::TakenDisplacing { link, displaced } => {
             rec[2 * link + 1] = 1;
             rec[2 * displaced + 1] = 2;
         }
         Outcome::Refused(i) => {
             rec[2 * i + 1] = 2;
         }
-        Outcome::Learnt(i) => {
+        Outcome::RefusalLearnt(i) => {
             rec[2 * i] = 2;
         }
         Outcome::NoChange(_) => {}
@@ -45,12 +45,12 @@ fn what_of(outcome: Outcome, lows: &[u16], highs: &[u16], probe: u16) -> wake_lo
         Outcome::Opened(i) => wake_log::What::Opened(i as u16),
         Outcome::NothingToOpen => wake_log::What::NothingToOpen,
         Outcome::Taken(i) => wake_log::What::Taken(i as u16),
-        Outcome::Displacing { link, displaced } => wake_log::What::TakenDisplacing {
+        Outcome::TakenDisplacing { link, displaced } => wake_log::What::TakenDisplacing {
             link: link as u16,
             displaced: other(lows, highs, probe, displaced),
         },
         Outcome::Refused(i) => wake_log::What::Refused(i as u16),
-        Outcome::Learnt(i) => wake_log::What::RefusalLearnt(i as u16),
+        Outcome::RefusalLearnt(i) => wake_log::What::RefusalLearnt(i as u16),
         Outcome::NoChange(i) => wake_log::What::NoChange(i as u16),
     }
 }

@@ -24,7 +24,7 @@ use Rattle.probe_rules.proofs.Frames.{other-across, between-is, ends-below, wri
 use Rattle.probe.specs.declared.Kind.{Kind}
 use Rattle.probe.specs.declared.Kind.the-variants as kind
 use Rattle.probe.specs.declared.Asked.{Asked}
-use Rattle.probe_checks.specs.Checks.{kindFault, toFault, heardFault}
+use Rattle.probe_checks.specs.Checks.{frameKindFault, toFault, heardFault}
 use Rattle.probe.specs.Answers.{Asks, kindOf, askedEvent, askedFrame, askedLine, lentFault}
 use Rattle.probe.proofs.Calls.{asked-event}
 
@@ -101,7 +101,7 @@ module _ (t : Table) (legal : Legal t) (digits : t .number < 65536) (p i : ℕ) 
 
   -- the checks after 1 and 2 are those of the frame
   abbrev checks : Frame → ℕ
-  checks f = orElse (kindFault f) (orElse (numberFault t f) (toFault t w f))
+  checks f = orElse (frameKindFault f) (orElse (numberFault t f) (toFault t w f))
 
   checks-none : (k : Kind) → checks (askedFrame t p k i) ≡ 0
   checks-none kind.Offer = rw (eq-eqb (t .number) (t .number) refl, eq-eqb w w refl, between-ends, lt-ltb i (t .links) (a .0))

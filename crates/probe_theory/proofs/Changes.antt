@@ -17,10 +17,10 @@ use Rattle.range.proofs.Counts.{count-except}
 use Rattle.table.specs.Table.{Table, item}
 use Rattle.probe_record.specs.Record.{outbound, inbound}
 use Rattle.probe_rules.specs.declared.Outcome.{Outcome}
-use Rattle.probe_rules.specs.declared.Outcome.the-variants.{Opened, NothingToOpen, Taken, Displacing, Refused, Learnt, NoChange}
+use Rattle.probe_rules.specs.declared.Outcome.the-variants.{Opened, NothingToOpen, Taken, TakenDisplacing, Refused, RefusalLearnt, NoChange}
 use Rattle.probe_rules.specs.Rules.{alter}
 use Rattle.probe_rules.specs.Within.{OwnLink, OwnOutcome}
-use Rattle.probe_theory.specs.EndLaws.{changed, FewChanges}
+use Rattle.probe_theory.specs.EndLaws.{byteChanged, FewChanges}
 use Rattle.probe_theory.proofs.Stores.{out-else, out-kept, in-else, in-kept}
 
 -- at most one member, and at most two
@@ -41,11 +41,11 @@ count-two n p a b la lb h =
     go i k d e (no s) = absurd (true≢false (sym e ∙ h i k d s))
 
 module _ (n : ℕ) (e e′ : List ℕ) where
-  same : (byte : List ℕ → ℕ → ℕ) (j : ℕ) → byte e′ j ≡ byte e j → changed byte e e′ j ≡ false
+  same : (byte : List ℕ → ℕ → ℕ) (j : ℕ) → byte e′ j ≡ byte e j → byteChanged byte e e′ j ≡ false
   same byte j s = rw (s, eq-eqb (byte e j) (byte e j) refl)
 
-  none : (byte : List ℕ → ℕ → ℕ) → ((j : ℕ) → byte e′ j ≡ byte e j) → count n (changed byte e e′) ≡ 0
-  none byte h = none-count n (changed byte e e′) (λ j k c. true≢false (sym c ∙ same byte j (h j)))
+  none : (byte : List ℕ → ℕ → ℕ) → ((j : ℕ) → byte e′ j ≡ byte e j) → count n (byteChanged byte e e′) ≡ 0
+  none byte h = none-count n (byteChanged byte e e′) (λ j k c. true≢false (sym c ∙ same byte j (h j)))
 
   few-none : ((j : ℕ) → outbound e′ j ≡ outbound e j) → ((j : ℕ) → inbound e′ j ≡ inbound e j) → FewChanges n e e′
   few-none outs ins =
@@ -57,7 +57,7 @@ module _ (n : ℕ) (e e′ : List ℕ) where
   few-out i l outs ins =
       let b = none inbound ins in
       record {
-        out-one = count-one n (changed outbound e e′) i l (λ j k d. same outbound j (outs j d));
+        out-one = count-one n (byteChanged outbound e e′) i l (λ j k d. same outbound j (outs j d));
         in-two = omega arith;
         one-side = inr b;
       }
@@ -68,7 +68,7 @@ module _ (n : ℕ) (e e′ : List ℕ) where
       let a = none outbound outs in
       record {
         out-one = omega arith;
-        in-two = count-two n (changed inbound e e′) i c li lc (λ j k d f. same inbound j (ins j d f));
+        in-two = count-two n (byteChanged inbound e e′) i c li lc (λ j k d f. same inbound j (ins j d f));
         one-side = inl a;
       }
 
@@ -77,11 +77,11 @@ module _ (t : Table) (p : ℕ) (e : List ℕ) where
   outcome-few (Opened i) a = few-out (t .links) e (set e (2 * i) 1) i (a .0) (out-else e i 1) (in-kept e i 1)
   outcome-few NothingToOpen a = few-none (t .links) e e (λ j. refl) (λ j. refl)
   outcome-few (Taken i) a = few-in (t .links) e (set e (2 * i + 1) 1) i i (a .0) (a .0) (out-kept e i 1) (λ j d f. in-else e i 1 j d)
-  outcome-few (Displacing i c) a =
+  outcome-few (TakenDisplacing i c) a =
       let m = set e (2 * i + 1) 1 in
       few-in (t .links) e (set m (2 * c + 1) 2) i c (a .0 .0) (a .1 .0) (λ j. out-kept m c 2 j ∙ out-kept e i 1 j) (λ j d f. in-else m c 2 j f ∙ in-else e i 1 j d)
   outcome-few (Refused i) a = few-in (t .links) e (set e (2 * i + 1) 2) i i (a .0) (a .0) (out-kept e i 2) (λ j d f. in-else e i 2 j d)
-  outcome-few (Learnt i) a = few-out (t .links) e (set e (2 * i) 2) i (a .0) (out-else e i 2) (in-kept e i 2)
+  outcome-few (RefusalLearnt i) a = few-out (t .links) e (set e (2 * i) 2) i (a .0) (out-else e i 2) (in-kept e i 2)
   outcome-few (NoChange i) a = few-none (t .links) e e (λ j. refl) (λ j. refl)
 
   -- a byte that differs is the one stored
@@ -102,7 +102,7 @@ module _ (t : Table) (p : ℕ) (e : List ℕ) where
   outcome-own (Opened i) a j d = stored-own e i (2 * i) 1 j a (half i) d
   outcome-own NothingToOpen a j d = absurd (d refl)
   outcome-own (Taken i) a j d = stored-own e i (2 * i + 1) 1 j a (half-odd i) d
-  outcome-own (Displacing i c) a j d = go (ℕ-discrete j (2 * c + 1))
+  outcome-own (TakenDisplacing i c) a j d = go (ℕ-discrete j (2 * c + 1))
     where
       m : List ℕ
       m = set e (2 * i + 1) 1
@@ -111,5 +111,5 @@ module _ (t : Table) (p : ℕ) (e : List ℕ) where
       go (yes s) = rw (s, half-odd c) (a .1)
       go (no s) = stored-own e i (2 * i + 1) 1 j (a .0) (half-odd i) (λ f. d (getD-set-other m (2 * c + 1) j 2 0 s ∙ f))
   outcome-own (Refused i) a j d = stored-own e i (2 * i + 1) 2 j a (half-odd i) d
-  outcome-own (Learnt i) a j d = stored-own e i (2 * i) 2 j a (half i) d
+  outcome-own (RefusalLearnt i) a j d = stored-own e i (2 * i) 2 j a (half i) d
   outcome-own (NoChange i) a j d = absurd (d refl)

@@ -21,14 +21,14 @@ use Rattle.probe_checks.specs.Checks.{heardFault, linkCallFault}
 use Rattle.probe.specs.Answers.{Asks, askedEvent, askedFrame, askedLine, lentFault}
 
 -- "A change is one byte altered": how many of the first n links have an outbound, and an inbound, byte that differs
-abbrev pub changed : (List ℕ → ℕ → ℕ) → List ℕ → List ℕ → ℕ → Bool
-changed byte e e′ i = not (eqb (byte e i) (byte e′ i))
+abbrev pub byteChanged : (List ℕ → ℕ → ℕ) → List ℕ → List ℕ → ℕ → Bool
+byteChanged byte e e′ i = not (eqb (byte e i) (byte e′ i))
 
 abbrev pub outChanges : ℕ → List ℕ → List ℕ → ℕ
-outChanges n e e′ = count n (changed outbound e e′)
+outChanges n e e′ = count n (byteChanged outbound e e′)
 
 abbrev pub inChanges : ℕ → List ℕ → List ℕ → ℕ
-inChanges n e e′ = count n (changed inbound e e′)
+inChanges n e e′ = count n (byteChanged inbound e e′)
 
 -- at most one outbound byte differs and no inbound one, or at most two inbound bytes and no outbound one
 pub record FewChanges (n : ℕ) (e e′ : List ℕ) : Type 0 where

@@ -21,7 +21,7 @@ use Rattle.wake_log.specs.declared.Answer.{Answer}
 use Rattle.wake_log.specs.declared.Answer.the-variants.{Logged, Refused}
 use Rattle.wake_log.specs.Entry.{answerOf}
 use Rattle.probe_rules.specs.Rules.{entryOf}
-use Rattle.fleet_theory.specs.Fleet.{fleetFault, lineFault, eventFault, outcomeOf, linkChanges}
+use Rattle.fleet_theory.specs.Fleet.{fleetFault, eventLineFault, eventFault, outcomeOf, linkChanges}
 use Rattle.table.specs.Slices.{Slices, tableOf, slicesFault}
 use Rattle.fleet_theory.proofs.Events.{unsentOf}
 use Rattle.fleet.specs.Answers.{Handled, changesBy}
@@ -65,8 +65,8 @@ module _ (x : Slices) (used room : ℕ) (l r : List ℕ) where
 
       go : Dec (eventFault x r used room l ≡ 0) → used + acceptedBy (answerOf (eventFault x r used room l) entry) ≤ 4294967295
       go (yes e) =
-          let a = or-right (fleetFault t r) (orElse (lineFault t l) last) (or-right (slicesFault x) (orElse (fleetFault t r) (orElse (lineFault t l) last)) e) in
-          let none = or-right (unsentOf t r (frameOf l)) full (or-right (lineFault t l) last a) in
+          let a = or-right (fleetFault t r) (orElse (eventLineFault t l) last) (or-right (slicesFault x) (orElse (fleetFault t r) (orElse (eventLineFault t l) last)) e) in
+          let none = or-right (unsentOf t r (frameOf l)) full (or-right (eventLineFault t l) last a) in
           let free = ltb-true used room (unless-none (ltb used room) 25 none) in
           rw e (omega arith)
       go (no d) = rw (ne-eqb (eventFault x r used room l) 0 d) (omega arith)

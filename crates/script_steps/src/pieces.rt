@@ -9,7 +9,7 @@ ghost use lib.ListN.{length, take};
 ghost use lib.Seq.{sets};
 ghost use Rattle.fleet_theory.specs.Fleet.{fleetFault};
 ghost use Rattle.table.specs.Slices.{slicesFault, tableOf, slicesOf};
-ghost use Rattle.fleet_state.specs.Within.{Fits};
+ghost use Rattle.fleet_state.specs.Within.{LegalWithoutCosts};
 ghost use Rattle.fleet.specs.Answers.{changesBy};
 ghost use Rattle.script_theory.specs.Script.{endText, scriptText, afterLine, afterByte, afterPiece};
 ghost use Rattle.script_steps.specs.Within.{acceptedBy, underWay, Buffered};
@@ -205,7 +205,7 @@ pub fn put_end(
     out: &mut [u8],
     at: usize,
 ) -> usize
-    requires { ⌜ Fits probes links (now needs) (now lows) (now highs) × (4 * links ≤ length (now rec)) × (at + 16 ≤ length (now out)) ⌝ }
+    requires { ⌜ LegalWithoutCosts probes links (now needs) (now lows) (now highs) × (4 * links ≤ length (now rec)) × (at + 16 ≤ length (now out)) ⌝ }
     ensures { λ r. ⌜ ((number : ℕ) (costs : List ℕ) → (now (out .exit) ≡ sets (now (out .entry)) at
         (endText (slicesOf number probes links (now (needs .entry)) (now (lows .entry)) (now (highs .entry)) costs) (now (rec .entry)) held changed)))
         × (r ≡ at + cond (eqb held 0) 11 16) ⌝ }

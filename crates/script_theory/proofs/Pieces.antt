@@ -18,7 +18,7 @@ use Rattle.probe_rules.specs.Rules.{entryOf}
 use Rattle.fleet_theory.specs.Fleet.{fleetFault, outcomeOf, faultOf, State, start, accepted, answerTo, next, run, linkChanges, changes, allChanges, finished}
 use Rattle.table.specs.Slices.{Slices, tableOf, slicesFault}
 use Rattle.fleet_theory.proofs.Changes.{no-changes}
-use Rattle.fleet_theory.proofs.Run.{Holds, start-holds, fault-is, next-holds}
+use Rattle.fleet_theory.proofs.Run.{HoldsAfter, start-holds, fault-is, next-holds}
 use Rattle.script_theory.specs.Script.{answerLine, linesFrom, printed, lastLine, scriptText, Script, afterLine, afterByte, afterPiece, begun, endText, together, carried, printedBy}
 use Rattle.script_theory.proofs.Lines.{same-digits, Unclosed, unclosed-none, unclosed-next, unclosed-refused, take-again, short-or-refused}
 
@@ -111,7 +111,7 @@ module _ (x : Slices) (room : ℕ) where
         let ls = linesFrom h text in
         q .out ++ endText x (q .bytes) (length (q .held)) (q .changed) ≡ o ++ (printed x room s ls ++ lastLine (finished (tableOf x) (run x room s ls .bytes)) (c + allChanges x room s ls))
 
-    ends : (s : State) → Holds (tableOf x) s → (c : ℕ) (h o : List ℕ) → Unclosed h → Prints s c h o []
+    ends : (s : State) → HoldsAfter (tableOf x) s → (c : ℕ) (h o : List ℕ) → Unclosed h → Prints s c h o []
     unfolding afterPiece linesFrom printed run next
     ends s hs c [] o u = let z : c + allChanges x room s [] ≡ c = (let n = changes-none s in omega arith) in rw z
     ends s hs c (a ∷ h) o u =
@@ -126,7 +126,7 @@ module _ (x : Slices) (room : ℕ) where
         omega arith) in
         rw (ne-eqb (length (a ∷ h)) 0 (λ e. omega arith), ne-eqb (length (a ∷ take 15 h)) 0 (λ e. omega arith), z, f)
 
-    by-text : (s : State) → Holds (tableOf x) s → (c : ℕ) (h o text : List ℕ) → Unclosed h → Prints s c h o text
+    by-text : (s : State) → HoldsAfter (tableOf x) s → (c : ℕ) (h o text : List ℕ) → Unclosed h → Prints s c h o text
     unfolding afterPiece linesFrom printed run
     by-text s hs c h o [] u = ends s hs c h o u
     by-text s hs c h o (b ∷ bs) u = go (decided (eqb b 10)) (λ s′ hs′ c′ h′ o′ u′. by-text s′ hs′ c′ h′ o′ bs u′)
@@ -135,7 +135,7 @@ module _ (x : Slices) (room : ℕ) where
         l = h ++ (b ∷ [])
 
         go : (eqb b 10 ≡ true) ⊎ (eqb b 10 ≡ false)
-            → ((s′ : State) → Holds (tableOf x) s′ → (c′ : ℕ) (h′ o′ : List ℕ) → Unclosed h′ → Prints s′ c′ h′ o′ bs)
+            → ((s′ : State) → HoldsAfter (tableOf x) s′ → (c′ : ℕ) (h′ o′ : List ℕ) → Unclosed h′ → Prints s′ c′ h′ o′ bs)
             → (let q = afterPiece x room (afterByte x room (beside s c (take 16 h) o) b) bs in
             let ls = cond (eqb b 10) (l ∷ linesFrom [] bs) (linesFrom l bs) in
             q .out ++ endText x (q .bytes) (length (q .held)) (q .changed) ≡ o ++ (printed x room s ls ++ lastLine (finished (tableOf x) (run x room s ls .bytes)) (c + allChanges x room s ls)))

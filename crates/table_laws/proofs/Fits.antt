@@ -7,17 +7,17 @@ use native.Mathlib.Omega.{arith}
 use Rattle.lines.proofs.Lines.{GoodLine}
 use Rattle.table.specs.Text.{ofText, needStart, linkStart, textFault}
 use Rattle.table.proofs.Accepted.{text-good}
-use Rattle.table_laws.specs.Same.{Fits}
-use Rattle.lines.proofs.Numbers.{Small, Reads, reads-small}
+use Rattle.table_laws.specs.Same.{FourDigits}
+use Rattle.lines.proofs.Numbers.{Small, ReadsNumbers, reads-small}
 use Rattle.table_laws.proofs.Tables.{headRow, needRow, linkRow}
 
 -- a link's numbers stand one after the other
-pub link-reads : (s : List ℕ) (i : ℕ) → Reads s (linkStart (ofText s .probes) i) (linkRow (ofText s) i)
+pub link-reads : (s : List ℕ) (i : ℕ) → ReadsNumbers s (linkStart (ofText s .probes) i) (linkRow (ofText s) i)
 link-reads s i =
     let k : linkStart (ofText s .probes) i + 4 + 4 ≡ linkStart (ofText s .probes) i + 8 = omega arith in
     (refl, (refl, (rw k, tt)))
 
-pub text-fits : (pmax lmax : ℕ) (more : Bool) (s : List ℕ) → textFault pmax lmax more s ≡ 0 → Fits (ofText s)
+pub text-fits : (pmax lmax : ℕ) (more : Bool) (s : List ℕ) → textFault pmax lmax more s ≡ 0 → FourDigits (ofText s)
 text-fits pmax lmax more s e =
     let t = ofText s in
     let g = text-good pmax lmax more s e in

@@ -18,8 +18,8 @@ use Rattle.table_read.specs.declared.Reading.{Reading}
 use Rattle.table_read.specs.declared.Reading.the-variants.{Table as Read}
 use Rattle.table_write.specs.declared.Writing.{Writing}
 use Rattle.table_write.specs.declared.Writing.the-variants.{Length, Refused as Unwritten}
-use Rattle.table_laws.specs.Same.{Fits, Same}
-use Rattle.table_laws.specs.Functions.{Slices, tableOf, Holds, readingFault, ReadTable, writingFault, WriteTable}
+use Rattle.table_laws.specs.Same.{FourDigits, Same}
+use Rattle.table_laws.specs.Functions.{Slices, tableOf, HoldsTable, readingFault, ReadTable, writingFault, WriteTable}
 use Rattle.table_laws.proofs.Tables.{same-text, same-fault}
 use Rattle.table_laws.proofs.Reading.{room-none, accepted, entries, holds, read-none, read-numbers}
 use Rattle.table_laws.proofs.Round.{text-whole, table-whole}
@@ -34,7 +34,7 @@ module _ (probes links : ℕ) (a : Slices) (number out : ℕ) where
   abbrev slices : Table
   slices = tableOf number probes links a
 
-  writing-none : textEnd slices ≤ out → Holds probes links a → tableFault 256 2048 slices ≡ 0 → writingFault number probes links a out ≡ 0
+  writing-none : textEnd slices ≤ out → HoldsTable probes links a → tableFault 256 2048 slices ≡ 0 → writingFault number probes links a out ≡ 0
   writing-none l g legal = rw (le-ltb out (textEnd slices) l, room-none probes links a g) legal
 
   writing-legal : writingFault number probes links a out ≡ 0 → tableFault 256 2048 slices ≡ 0
@@ -64,7 +64,7 @@ read-then-write s out out′ a b number probes links rest w read enough write =
 
 -- A text without a fault that has the entries of the table t, read into slices that hold them.
 module _ (s : List ℕ) (t : Table) (r : Reading) (b b′ : Slices) (none : textFault 256 2048 false s ≡ 0) (same : Same (ofText s) t)
-    (enough : Holds (t .probes) (t .links) b) (read : ReadTable s r b b′) where
+    (enough : HoldsTable (t .probes) (t .links) b) (read : ReadTable s r b b′) where
   fault-none : readingFault s b ≡ 0
   unfolding readFault
   fault-none = or-none (textFault 256 2048 false s) _ none ∙ rw (same .probes, same .links) (room-none (t .probes) (t .links) b enough)
@@ -89,9 +89,9 @@ module _ (s : List ℕ) (t : Table) (r : Reading) (b b′ : Slices) (none : text
 
 -- every legal table, written, reads back as itself
 pub write-then-read : (number probes links n : ℕ) (a b b′ : Slices) (out out′ : List ℕ) (r : Reading)
-    → Fits (tableOf number probes links a)
+    → FourDigits (tableOf number probes links a)
     → WriteTable number probes links a (Length n) out out′
-    → Holds probes links b
+    → HoldsTable probes links b
     → ReadTable (take n out′) r b b′
     → (r ≡ Read number probes links n) × Same (tableOf number probes links b′) (tableOf number probes links a)
 write-then-read number probes links n a b b′ out out′ r fits write enough read =

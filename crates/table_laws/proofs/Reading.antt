@@ -21,7 +21,7 @@ use Rattle.table_read.specs.declared.Reading.{Reading}
 use Rattle.table_read.specs.declared.Reading.the-variants.{Table as Read, Refused as Unread}
 use Rattle.table_read.proofs.Answers.{read-text, read-room}
 use Rattle.table_laws.specs.Same.{Same}
-use Rattle.table_laws.specs.Functions.{Slices, tableOf, Holds}
+use Rattle.table_laws.specs.Functions.{Slices, tableOf, HoldsTable}
 use Rattle.table_laws.proofs.Tables.{same-fault}
 
 -- what the answer says
@@ -38,7 +38,7 @@ answer-unread true fault refusal t e = let z : _≡_ {A = ℕ} 0 1 = cc in absur
 answer-unread false fault refusal t e = (refl, (cc))
 
 -- slices that hold the table are not refused
-pub room-none : (probes links : ℕ) (a : Slices) → Holds probes links a → roomFault probes links (length (a .needs)) (length (a .lows)) (length (a .highs)) (length (a .costs)) ≡ 0
+pub room-none : (probes links : ℕ) (a : Slices) → HoldsTable probes links a → roomFault probes links (length (a .needs)) (length (a .lows)) (length (a .highs)) (length (a .costs)) ≡ 0
 room-none probes links a g = rw (le-ltb _ _ (g .needed), eq-eqb _ _ (g .equal), eq-eqb _ _ (g .equal₂), le-ltb _ _ (g .linked))
 
 -- the fault found in reading the text s into the slices a, with `more` behind its closing line or nothing
@@ -58,7 +58,7 @@ module _ (more : Bool) (s : List ℕ) (r : Reading) (a b : Slices)
     pub accepted : textFault 256 2048 more s ≡ 0
     accepted = read-text 256 2048 more s (length (a .needs)) (length (a .lows)) (length (a .highs)) (length (a .costs)) none
 
-    room : Holds (t .probes) (t .links) a
+    room : HoldsTable (t .probes) (t .links) a
     room = room-good _ _ _ _ _ _ (read-room 256 2048 more s (length (a .needs)) (length (a .lows)) (length (a .highs)) (length (a .costs)) none)
 
     entry : (f : ℕ → ℕ) (n : ℕ) (d e : List ℕ) → e ≡ filledOf fault f n d → n ≤ length d → (i : ℕ) → i < n → item e i ≡ f i
@@ -79,7 +79,7 @@ module _ (more : Bool) (s : List ℕ) (r : Reading) (a b : Slices)
         }
 
     -- and the lengths that they had
-    pub holds : Holds (t .probes) (t .links) b
+    pub holds : HoldsTable (t .probes) (t .links) b
     holds =
         let g = room in
         let needs = same-length (t .need) (t .probes) (a .needs) (b .needs) (rw none at (read .need)) in

@@ -13,10 +13,10 @@ use Rattle.hex.specs.Digits.{numberAt}
 use Rattle.table.specs.Table.{Table}
 use Rattle.table.specs.Legal.{tableFault}
 use Rattle.table.specs.Text.{closingLine, textOf, needStart, linkStart, ofText, begins, textFault, textEnd}
-use Rattle.table_laws.specs.Same.{Fits, Same}
+use Rattle.table_laws.specs.Same.{FourDigits, Same}
 use Rattle.lines.proofs.Lines.{GoodLine}
 use Rattle.lines.proofs.Parts.{part, part-append, part-split, part-joined, joined-split}
-use Rattle.lines.proofs.Numbers.{lineOf, Reads, length-line, reads-line, line-reads}
+use Rattle.lines.proofs.Numbers.{lineOf, ReadsNumbers, length-line, reads-line, line-reads}
 use Rattle.table_laws.proofs.Tables.{headRow, needRow, linkRow, needLines, linkLines, text-is, same-fault}
 use Rattle.table.proofs.Accepted.{Accepted, text-good, good-text}
 use Rattle.table.proofs.Lengths.{length-needs, length-links, length-text}
@@ -86,7 +86,7 @@ text-within pmax lmax more s e =
     omega arith
 
 -- A text that starts with that of a table.
-module _ (s : List ℕ) (t : Table) (fits : Fits t) (within : textEnd t ≤ length s) (e : take (textEnd t) s ≡ textOf t) where
+module _ (s : List ℕ) (t : Table) (fits : FourDigits t) (within : textEnd t ≤ length s) (e : take (textEnd t) s ≡ textOf t) where
   parts : (part s 0 13 ≡ lineOf (headRow t)) × (part s 13 (5 * t .probes) ≡ needLines t)
       × (part s (13 + 5 * t .probes) (13 * t .links) ≡ linkLines t) × (part s (linkStart (t .probes) (t .links)) 5 ≡ closingLine)
   parts =
@@ -95,15 +95,15 @@ module _ (s : List ℕ) (t : Table) (fits : Fits t) (within : textEnd t ≤ leng
       let c = part-split s (linkLines t) closingLine (13 + 5 * t .probes) (13 * t .links) 5 (length-links t) (b .1) in
       (a .0, b .0, c .0, c .1)
 
-  head : GoodLine s 0 12 × Reads s 0 (headRow t)
+  head : GoodLine s 0 12 × ReadsNumbers s 0 (headRow t)
   head = line-reads s 0 (headRow t) (fits .number, (fits .probes, (fits .links, tt))) (omega arith) (parts .0)
 
-  need : (v : ℕ) → v < t .probes → GoodLine s (needStart v) 4 × Reads s (needStart v) (needRow t v)
+  need : (v : ℕ) → v < t .probes → GoodLine s (needStart v) 4 × ReadsNumbers s (needStart v) (needRow t v)
   need v l =
       line-reads s (needStart v) (needRow t v) (fits .need v l, tt) (omega arith)
       (joined-split (λ v. lineOf (needRow t v)) 5 s 13 (t .probes) v (λ v. length-line (needRow t v)) (parts .1) l)
 
-  link : (i : ℕ) → i < t .links → GoodLine s (linkStart (t .probes) i) 12 × Reads s (linkStart (t .probes) i) (linkRow t i)
+  link : (i : ℕ) → i < t .links → GoodLine s (linkStart (t .probes) i) 12 × ReadsNumbers s (linkStart (t .probes) i) (linkRow t i)
   link i l =
       line-reads s (linkStart (t .probes) i) (linkRow t i) (fits .low i l, (fits .high i l, (fits .cost i l, tt))) (omega arith)
       (joined-split (λ i. lineOf (linkRow t i)) 13 s (13 + 5 * t .probes) (t .links) i (λ i. length-line (linkRow t i)) (parts .2) l)
@@ -145,14 +145,14 @@ module _ (s : List ℕ) (t : Table) (fits : Fits t) (within : textEnd t ≤ leng
           }
 
 -- every legal table, written, reads back as itself
-pub table-back : (pmax lmax : ℕ) (t : Table) (rest : List ℕ) → Fits t → tableFault pmax lmax t ≡ 0
+pub table-back : (pmax lmax : ℕ) (t : Table) (rest : List ℕ) → FourDigits t → tableFault pmax lmax t ≡ 0
     → (textFault pmax lmax true (textOf t ++ rest) ≡ 0) × Same (ofText (textOf t ++ rest)) t
 table-back pmax lmax t rest fits legal =
     let l = length-text t in
     let within : textEnd t ≤ length (textOf t ++ rest) = simp length-append (omega arith) in
     read-back (textOf t ++ rest) t fits within (take-at (textOf t) rest (textEnd t) l) pmax lmax true legal refl
 
-pub table-whole : (pmax lmax : ℕ) (t : Table) → Fits t → tableFault pmax lmax t ≡ 0 → (textFault pmax lmax false (textOf t) ≡ 0) × Same (ofText (textOf t)) t
+pub table-whole : (pmax lmax : ℕ) (t : Table) → FourDigits t → tableFault pmax lmax t ≡ 0 → (textFault pmax lmax false (textOf t) ≡ 0) × Same (ofText (textOf t)) t
 table-whole pmax lmax t fits legal =
     let l = length-text t in
     read-back (textOf t) t fits (omega arith) (take-all (textEnd t) (textOf t) (omega arith)) pmax lmax false legal (eq-eqb (length (textOf t)) (textEnd t) l)

@@ -12,7 +12,7 @@ use Rattle.lines.specs.Line.{untilFeed, lineAt}
 use Rattle.lines.specs.Digits.{lineFault}
 use Rattle.table.specs.Legal.{linkFault}
 use Rattle.table.specs.Text.{textOf, begins, textFault, readFault}
-use Rattle.table_laws.specs.Samples.{M2, Calls, Refusals}
+use Rattle.table_laws.specs.Samples.{M2, Calls, TextRefusals}
 use Rattle.lines.proofs.Numbers.{Small}
 
 small-at : (xs : List ℕ) (i : ℕ) → Small xs → getD xs i 0 < 65536
@@ -52,7 +52,7 @@ calls-are =
       again = record { answer = refl; need = refl; low = refl; high = refl; cost = refl };
     }
 
-pub refusals-are : Refusals
+pub refusals-are : TextRefusals
 unfolding textFault lineFault lineAt untilFeed first numberAt valueOf linkFault begins sum
 refusals-are =
     record {

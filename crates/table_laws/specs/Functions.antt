@@ -22,8 +22,8 @@ abbrev pub tableOf : ℕ → ℕ → ℕ → Slices → Table
 tableOf number probes links a = ofSlices number probes links (a .needs) (a .lows) (a .highs) (a .costs)
 
 -- the slices have room for the table: refusal 8 does not apply
-abbrev pub Holds : ℕ → ℕ → Slices → Type 0
-Holds probes links a = Room probes links (length (a .needs)) (length (a .lows)) (length (a .highs)) (length (a .costs))
+abbrev pub HoldsTable : ℕ → ℕ → Slices → Type 0
+HoldsTable probes links a = Room probes links (length (a .needs)) (length (a .lows)) (length (a .highs)) (length (a .costs))
 
 -- the fault found by `read_table`, called with the text s and the slices a
 abbrev pub readingFault : List ℕ → Slices → ℕ

@@ -4,7 +4,7 @@ use mathlib.Core.Path.{_≡_}
 use Rattle.table.specs.Table.{Table}
 
 -- every number of the table can be written in four digits
-pub record Fits (t : Table) : Type 0 where
+pub record FourDigits (t : Table) : Type 0 where
   pub number : t .number < 65536
   pub probes : t .probes < 65536
   pub links : t .links < 65536

@@ -11,8 +11,8 @@ use Rattle.table.specs.Legal.{Legal}
 use Rattle.table.specs.Text.{textOf, ofText, textFault}
 use Rattle.table_read.specs.declared.Reading.the-variants.{Table as Read}
 use Rattle.table_write.specs.declared.Writing.the-variants.{Length}
-use Rattle.table_laws.specs.Same.{Fits}
-use Rattle.table_laws.specs.Functions.{Slices, tableOf, Holds, ReadTable, WriteTable}
+use Rattle.table_laws.specs.Same.{FourDigits}
+use Rattle.table_laws.specs.Functions.{Slices, tableOf, HoldsTable, ReadTable, WriteTable}
 
 -- the bytes of a text of ASCII characters
 abbrev pub bytes : String → List ℕ
@@ -34,7 +34,7 @@ pub record M2 : Type 0 where
   pub accepted : textFault 256 2048 false m2Text ≡ 0
   pub back : textOf (ofText m2Text) ≡ m2Text
   pub legal : Legal m2
-  pub fits : Fits m2
+  pub fits : FourDigits m2
   pub written : textOf m2 ≡ m2Text
 
 -- slices of M2's size, and a text that is longer by 3
@@ -50,14 +50,14 @@ pub record Calls : Type 0 where
   pub read : ReadTable m2Text (Read 1 4 3 77) blank m2Slices
   pub enough : length m2Text ≤ length lent
   pub write : WriteTable 1 4 3 m2Slices (Length 77) lent (m2Text ++ drop 77 lent)
-  pub holds : Holds 4 3 blank
+  pub holds : HoldsTable 4 3 blank
   pub again : ReadTable (take 77 (m2Text ++ drop 77 lent)) (Read 1 4 3 77) blank m2Slices
 
 abbrev refusal : Bool → String → ℕ
 refusal more s = textFault 256 2048 more (bytes s)
 
 -- document 01's refusal of each text, or 0
-pub record Refusals : Type 0 where
+pub record TextRefusals : Type 0 where
   pub none : refusal false "000100020001\n0001\n0000\n000000010007\nffff\n" ≡ 0
   -- a capital digit
   pub capital : refusal false "000100020001\n0001\n0000\n00000001000A\nffff\n" ≡ 2

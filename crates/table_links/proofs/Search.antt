@@ -15,7 +15,7 @@ use Rattle.table.specs.Table.{item, ofSlices, joins, between}
 use Rattle.table.specs.Slices.{sliceFault, slicesOf}
 use Rattle.table.proofs.Slices.{legal-slices}
 use Rattle.table.proofs.LegalLaws.{legal-table}
-use Rattle.table_links.specs.Ordered.{Ordered, earlier}
+use Rattle.table_links.specs.RisingSlices.{RisingSlices, earlier}
 
 -- the order of ends, by numbers
 abbrev Earlier : ℕ → ℕ → ℕ → ℕ → Type 0
@@ -52,7 +52,7 @@ before-earlier a b c d low high (inl x) (inr y) = inl (omega arith)
 before-earlier a b c d low high (inr x) (inl y) = inl (omega arith)
 before-earlier a b c d low high (inr x) (inr y) = inr (omega arith)
 
-module _ (links : ℕ) (lows highs : List ℕ) (o : Ordered links lows highs) where
+module _ (links : ℕ) (lows highs : List ℕ) (o : RisingSlices links lows highs) where
   -- earlier links stand before later ones
   pub earlier-before : (low high i j : ℕ) → i < j → j < links → earlier lows highs low high j ≡ true → earlier lows highs low high i ≡ true
   earlier-before low high i j s t e =
@@ -77,7 +77,7 @@ pub split-start : (links : ℕ) (lows highs : List ℕ) (low high : ℕ) → Spl
 split-start links lows highs low high =
     record { ordered = omega arith; within = omega arith; below = λ j s. absurd (omega arith); above = λ j s t. absurd (omega arith) }
 
-module _ (links : ℕ) (lows highs : List ℕ) (o : Ordered links lows highs) (low high start end : ℕ) (s : Split links lows highs low high start end) where
+module _ (links : ℕ) (lows highs : List ℕ) (o : RisingSlices links lows highs) (low high start end : ℕ) (s : Split links lows highs low high start end) where
   -- one in the middle is earlier, or is not
   pub split-up : (m : ℕ) → m < end → earlier lows highs low high m ≡ true → Split links lows highs low high (m + 1) end
   split-up m l e = record { ordered = omega arith; within = s .within; below = go; above = s .above }
@@ -107,13 +107,13 @@ module _ (links : ℕ) (lows highs : List ℕ) (o : Ordered links lows highs) (l
       (record { within = omega arith; inside = λ l. ap not (s .above start (omega arith) l); before = λ j l. ap not (s .below j l) })
 
 -- the slices of a legal table
-pub ordered : (pmax lmax number probes links : ℕ) (needs lows highs costs : List ℕ) → sliceFault pmax lmax (slicesOf number probes links needs lows highs costs) ≡ 0 → Ordered links lows highs
+pub ordered : (pmax lmax number probes links : ℕ) (needs lows highs costs : List ℕ) → sliceFault pmax lmax (slicesOf number probes links needs lows highs costs) ≡ 0 → RisingSlices links lows highs
 ordered pmax lmax number probes links needs lows highs costs e =
     let g = legal-slices pmax lmax (slicesOf number probes links needs lows highs costs) e in
     let s = legal-table pmax lmax (ofSlices number probes links needs lows highs costs) (g .legal) in
     record { in-lows = g .in-lows; in-highs = g .in-highs; ends = λ i l. s .ends i l .rises; rising = s .order .rising }
 
-module _ (links : ℕ) (lows highs : List ℕ) (o : Ordered links lows highs) (low high : ℕ) (k : low ≤ high) where
+module _ (links : ℕ) (lows highs : List ℕ) (o : RisingSlices links lows highs) (low high : ℕ) (k : low ≤ high) where
   abbrev joining : ℕ → Bool
   joining = joins (ofSlices 0 0 0 [] lows highs []) low high
 

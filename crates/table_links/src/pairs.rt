@@ -7,7 +7,7 @@ ghost use lib.Dec.{eqb};
 ghost use lib.ListN.{length};
 ghost use Rattle.range.specs.Choice.{lowest};
 ghost use Rattle.table.specs.Table.{ofSlices, joins, between};
-ghost use Rattle.table_links.specs.Ordered.{Ordered, earlier};
+ghost use Rattle.table_links.specs.RisingSlices.{RisingSlices, earlier};
 
 // Whether a and b are the low and the high end.
 fn are_ends(low: usize, high: usize, a: usize, b: usize) -> bool
@@ -49,7 +49,7 @@ fn is_earlier(lows: &[u16], highs: &[u16], low: usize, high: usize, i: usize) ->
 
 // The first link that does not come before the given ends, or `links`, by halving.
 fn first_from(links: usize, lows: &[u16], highs: &[u16], low: usize, high: usize) -> usize
-    requires { ⌜ Ordered links (now lows) (now highs) ⌝ }
+    requires { ⌜ RisingSlices links (now lows) (now highs) ⌝ }
     ensures { λ r. ⌜ r ≡ lowest (λ i. not (earlier (now (lows .entry)) (now (highs .entry)) low high i)) links ⌝ }
 {
     let mut start = 0;
@@ -67,7 +67,7 @@ fn first_from(links: usize, lows: &[u16], highs: &[u16], low: usize, high: usize
 
 // The link between a lower probe and a higher one, or `links`.
 fn link_of(links: usize, lows: &[u16], highs: &[u16], low: usize, high: usize) -> usize
-    requires { ⌜ Ordered links (now lows) (now highs) × (low ≤ high) ⌝ }
+    requires { ⌜ RisingSlices links (now lows) (now highs) × (low ≤ high) ⌝ }
     ensures { λ r. ⌜ r ≡ between (ofSlices 0 0 links [] (now (lows .entry)) (now (highs .entry)) []) low high ⌝ }
 {
     let i = first_from(links, lows, highs, low, high);
@@ -82,7 +82,7 @@ fn link_of(links: usize, lows: &[u16], highs: &[u16], low: usize, high: usize) -
 
 // The link between two probes, or `links`.
 pub fn between(links: usize, lows: &[u16], highs: &[u16], a: usize, b: usize) -> usize
-    requires { ⌜ Ordered links (now lows) (now highs) ⌝ }
+    requires { ⌜ RisingSlices links (now lows) (now highs) ⌝ }
     ensures { λ r. ⌜ r ≡ between (ofSlices 0 0 links [] (now (lows .entry)) (now (highs .entry)) []) a b ⌝ }
 {
     if a <= b {

@@ -17,13 +17,13 @@ use Rattle.table.proofs.LegalLaws.{legal-table}
 use Rattle.fleet_state.proofs.Legal.{fits-ends}
 use Rattle.fleet_state.proofs.Finished.{open-counted, not-finished, finished-counted}
 
-none-stirs-requires : tie.Need-none-stirs-requires
-none-stirs-requires c κs = search needs
+none-alters-requires : tie.Need-none-alters-requires
+none-alters-requires c κs = search needs
 
 returns : tie.Need-returns
 returns c =
     let a = c .before .before .before .before .before .before .args in
-    λ number costs. not-finished (ofSlices number (a .probes) (a .links) (a .needs .now) (a .lows .now) (a .highs .now) costs) (a .rec .now) (c .before .before .before .before .before .before .pre .0 .legal) _ (c .before .none-stirs .ensures) (not-true _ (c .if1 .taken))
+    λ number costs. not-finished (ofSlices number (a .probes) (a .links) (a .needs .now) (a .lows .now) (a .highs .now) costs) (a .rec .now) (c .before .before .before .before .before .before .pre .0 .legal) _ (c .before .none-alters .ensures) (not-true _ (c .if1 .taken))
 
 slice-aggregate-count-degrees : tie.Need-slice-aggregate-count-degrees
 slice-aggregate-count-degrees c = search needs
@@ -82,13 +82,13 @@ returns-2 c =
     let a = c .before .before .before .before .before .before .before .before .before .before .before .before .before .before .before .before .before .before .before .args in
     λ number costs.
     let t : Table = ofSlices number (a .probes) (a .links) (a .needs .now) (a .lows .now) (a .highs .now) costs in
-    finished-counted t (a .rec .now) (c .before .before .before .before .before .before .before .before .before .before .before .before .before .before .before .before .before .before .before .pre .0 .legal) _ _ (c .before .before .before .before .before .before .before .before .before .before .before .before .before .before .none-stirs .ensures) (not-false _ (c .before .before .before .before .before .before .before .before .before .before .before .before .before .if1 .left)) (c .none-opens .ensures ∙ ap (λ (k : ℕ). eqb k 0) (weigh-same (a .probes) _ (opens t (a .rec .now)) (λ i. 1) (λ v l. open-counted t (a .rec .now) v _ _ _ (c .before .before .before .before .before .before .before .before .before .before .before .count-degrees .ensures v) (c .before .before .before .before .before .before .before .before .count-bytes .ensures v) (c .before .before .before .before .before .count-bytes2 .ensures v))))
+    finished-counted t (a .rec .now) (c .before .before .before .before .before .before .before .before .before .before .before .before .before .before .before .before .before .before .before .pre .0 .legal) _ _ (c .before .before .before .before .before .before .before .before .before .before .before .before .before .before .none-alters .ensures) (not-false _ (c .before .before .before .before .before .before .before .before .before .before .before .before .before .if1 .left)) (c .none-opens .ensures ∙ ap (λ (k : ℕ). eqb k 0) (weigh-same (a .probes) _ (opens t (a .rec .now)) (λ i. 1) (λ v l. open-counted t (a .rec .now) v _ _ _ (c .before .before .before .before .before .before .before .before .before .before .before .count-degrees .ensures v) (c .before .before .before .before .before .before .before .before .count-bytes .ensures v) (c .before .before .before .before .before .count-bytes2 .ensures v))))
 
 pub is-finished-spec : {M : Type 1} → statement M
 is-finished-spec =
     tie.close
     (tie.spec
-    none-stirs-requires
+    none-alters-requires
     returns
     slice-aggregate-count-degrees
     count-degrees-requires

@@ -8,7 +8,7 @@ use native.Mathlib.Omega.{arith}
 use lib.ListN.{length, getD, length-set}
 use lib.Seq.{getD-set-other}
 use borrow.Author.Tests.{not-true, not-false}
-use Rattle.table.proofs.DegreeLaws.{changed}
+use Rattle.table.proofs.DegreeLaws.{changedAt}
 
 either-short-requires : tie.Need-either-short-requires
 either-short-requires c κs = search needs
@@ -44,7 +44,7 @@ same-length-3 c = search needs
 returns-2 : tie.Need-returns-2
 returns-2 c =
     let e = sym (c .before .before .before .before .before .before .before .before .before .either-short .ensures) ∙ not-false _ (c .before .before .before .before .before .before .before .before .if1 .left) in
-    let q = c .before .before .add-one2 .ensures ∙ ap (λ x. changed (λ n. n + 1) x (c .before .before .before .before .before .before .before .before .before .before .before .before .before .before .args .high)) (c .before .before .before .before .before .before .add-one .ensures) in
+    let q = c .before .before .add-one2 .ensures ∙ ap (λ x. changedAt (λ n. n + 1) x (c .before .before .before .before .before .before .before .before .before .before .before .before .before .before .args .high)) (c .before .before .before .before .before .before .add-one .ensures) in
     (rw e, rw e q)
 
 pub add-link-spec : {M : Type 1} → statement M

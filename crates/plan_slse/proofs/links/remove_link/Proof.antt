@@ -11,7 +11,7 @@ use lib.Seq.{getD-set-other}
 use borrow.Author.Tests.{not-true, not-false, eq-eqb, ne-eqb, ltb-true}
 use Rattle.range.proofs.Bools.{and-left, and-right}
 use Rattle.table.specs.Table.{item}
-use Rattle.table.proofs.DegreeLaws.{changed}
+use Rattle.table.proofs.DegreeLaws.{changedAt}
 
 slice-read-if1 : tie.Need-slice-read-if1
 slice-read-if1 c = search needs
@@ -67,7 +67,7 @@ returns-3 : tie.Need-returns-3
 returns-3 c =
     let e = eq-eqb _ _ (c .before .before .before .before .before .before .before .before .before .before .before .if1 .left) in
     let o = sym (c .before .before .before .before .before .before .before .before .before .both-over .ensures) ∙ not-false _ (c .before .before .before .before .before .before .before .before .if2 .left) in
-    let q = c .before .before .take-one2 .ensures ∙ ap (λ x. changed (λ n. n - 1) x (c .before .before .before .before .before .before .before .before .before .before .before .before .before .before .before .before .args .high)) (c .before .before .before .before .before .before .take-one .ensures) in
+    let q = c .before .before .take-one2 .ensures ∙ ap (λ x. changedAt (λ n. n - 1) x (c .before .before .before .before .before .before .before .before .before .before .before .before .before .before .before .before .args .high)) (c .before .before .before .before .before .before .take-one .ensures) in
     (rw (e, o), rw (e, o) q)
 
 pub remove-link-spec : {M : Type 1} → statement M

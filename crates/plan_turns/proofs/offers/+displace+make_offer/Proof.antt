@@ -25,11 +25,11 @@ use mathlib.Core.List.{List}
 use lib.ListN.{length}
 use native.Mathlib.Omega.{arith}
 use Rattle.table.specs.Table.{item}
-use Rattle.plan_turns_search.specs.Record.{atSource, endOf, siteOf, put, untriedCount, Kept}
+use Rattle.plan_turns_search.specs.Record.{atSource, endOf, siteOf, put, untriedCount, MarksAgree}
 use Rattle.plan_turns_search.specs.Offers.{stands, Cheapest}
 use Rattle.plan_turns_search.proofs.Record.{target-below, source-below}
 use Rattle.plan_turns_search.proofs.Chain.{opposite-below, opposite-end}
-use Rattle.plan_turns_search.proofs.Kept.{mark-other, less-at, cursor-moved, floor-moved}
+use Rattle.plan_turns_search.proofs.Kept.{mark-other, less-at, cursor-moved, held-moved}
 use Rattle.plan_turns_search.proofs.Steps.{offered-none, offered-take, taken-kept, displaces, offered-displacing, some-held, displaced-ready, displaced-room, displaced-fewer, displaced-offered, held-stands, displaced-kept}
 
 abbrev μ-displace : Measures 8 displace-kinds.ps ℕ
@@ -92,7 +92,7 @@ make-offer-calls t = (
   displace.Post,
 )
 
--- places of displace: with u and v, with w, the floor stored, the bytes stored
+-- places of displace: with u and v, with w, the cursor stored, the bytes stored
 abbrev DisplaceStart : ℕ → Type 0
 DisplaceStart t = displace-lts.Start (displace-calls t) (displace-at t) displace.Post
 
@@ -139,11 +139,11 @@ displace-maker t c =
     let f = c .before .cheapest in
     rw (← c .end-of3 .ensures) at (target-below (a .links) (a .lows .now) (a .highs .now) (a .costs .now) (a .spares .now) (displace-start t (c .before .before .before .before) .pre .1 .0 .ready .fits) (f .result) (f .ensures .1 .below))
 
-displace-kept : (t : ℕ) (c : DisplaceStored t) → let a = displace-start t (displace-ends t c) .args in Kept (a .links) (a .lows .now) (a .highs .now) (a .costs .now) (a .spares .now) (a .rec .now) (c .store .last .0)
+displace-kept : (t : ℕ) (c : DisplaceStored t) → let a = displace-start t (displace-ends t c) .args in MarksAgree (a .links) (a .lows .now) (a .highs .now) (a .costs .now) (a .spares .now) (a .rec .now) (c .store .last .0)
 displace-kept t c =
     let s = displace-start t (displace-ends t c) in
     let a = s .args in
-    floor-moved (a .links) (a .lows .now) (a .highs .now) (a .costs .now) (a .spares .now) (a .rec .now) (a .marks .now) (s .pre .1 .1) (displace-ends t c .end-of2 .result) (c .before .before .before .cheapest .result) (displace-target t (displace-ends t c)) (c .before .before .before .cheapest .ensures .1) (c .store .last .0) (c .store .ensures)
+    held-moved (a .links) (a .lows .now) (a .highs .now) (a .costs .now) (a .spares .now) (a .rec .now) (a .marks .now) (s .pre .1 .1) (displace-ends t c .end-of2 .result) (c .before .before .before .cheapest .result) (displace-target t (displace-ends t c)) (c .before .before .before .cheapest .ensures .1) (c .store .last .0) (c .store .ensures)
 
 -- the cheapest that v holds, and its maker w
 displace-cheapest : (t : ℕ) (c : DisplaceOpposite t) → let e = displace-ends t (c .before .before .before .before) in let a = displace-start t e .args in Cheapest (siteOf (a .links) (a .lows .now) (a .highs .now) (a .costs .now) (a .spares .now)) (atSource (a .rec .now)) (e .end-of2 .result) (c .opposite .result)
@@ -327,7 +327,7 @@ make-offer-stored t c = c .before .before .before .before
 make-offer-room : (t : ℕ) (s : OfferStart t) → let a = s .args in stands (siteOf (a .links) (a .lows .now) (a .highs .now) (a .costs .now) (a .spares .now)) (atSource (a .rec .now)) (a .u) < item (a .spares .now) (a .u)
 make-offer-room t s = omega (arith, s .pre .1 .1 .standing (s .args .u) (s .pre .1 .4), s .pre .1 .5)
 
-make-offer-kept : (t : ℕ) (c : OfferStored t) → let a = make-offer-start t c .args in Kept (a .links) (a .lows .now) (a .highs .now) (a .costs .now) (a .spares .now) (a .rec .now) (c .store .last .0)
+make-offer-kept : (t : ℕ) (c : OfferStored t) → let a = make-offer-start t c .args in MarksAgree (a .links) (a .lows .now) (a .highs .now) (a .costs .now) (a .spares .now) (a .rec .now) (c .store .last .0)
 make-offer-kept t c =
     let a = make-offer-start t c .args in
     let p = make-offer-start t c .pre .1 in

@@ -6,11 +6,11 @@ use Prim.Native.Nat.{_-_, _≤_}
 use mathlib.Core.Path.{_≡_, refl, _∙_}
 use native.Mathlib.Omega.{arith}
 use lib.ListN.{length}
-use Rattle.plan_turns_search.specs.Record.{Kept, Over}
+use Rattle.plan_turns_search.specs.Record.{MarksAgree, Over}
 use Rattle.plan_turns_search.proofs.Turns.{over-start, over-next}
 
 abbrev Inv-loop : tie.InvT-loop
-Inv-loop rec₀ marks₀ probes links lows highs costs spares nexts ups p₀ rec marks p = (p ≤ probes) × Over links lows highs costs spares rec p × Kept links lows highs costs spares rec marks × (length rec ≡ length rec₀) × (length marks ≡ length marks₀)
+Inv-loop rec₀ marks₀ probes links lows highs costs spares nexts ups p₀ rec marks p = (p ≤ probes) × Over links lows highs costs spares rec p × MarksAgree links lows highs costs spares rec marks × (length rec ≡ length rec₀) × (length marks ≡ length marks₀)
 
 abbrev μ-loop : tie.MeasureT-loop
 μ-loop rec₀ marks₀ probes links lows highs costs spares nexts ups p₀ rec marks p = probes - p

@@ -84,7 +84,7 @@ returns c =
     let y : length (m .last .0) ≡ 256 = m .kept .0 in
     let down = chains-down (a .links) (a .lows .now) (a .highs .now) (a .costs .now) (p .0) (λ i. c .before .before .before .before .before .before .before .before .before .before .before .before .before .before .before .before .before .before .before .before .before .before .before .before .before .before .before .shared-slice-known3 .given i .fits) (o .last .0) (o .ensures) (k .last .0) (k .last .1 .0) (k .ensures) (omega (arith, p .7)) in
     let up = chains-up (a .links) (a .lows .now) (a .highs .now) (a .costs .now) (p .0) (λ i. c .before .before .before .before .before .before .before .before .before .before .before .before .before .before .before .before .before .before .before .before .before .before .before .before .before .before .before .shared-slice-known3 .given i .fits) (o .last .0) (o .ensures) (replicate 2048 0) (t .last .0) (p .0) (t .ensures) (m .last .0) (m .last .1 .0) (m .ensures) (omega (arith, p .8)) in
-    (record { standing = λ v l. s .none v .0; held = λ v l. s .none v .1; cursors = λ v l. rw (s .starts v l .0) (down .0 v (omega arith)); floors = λ v l. rw (s .starts v l .1) (up .0 v (omega arith)) }, down .1, up .1)
+    (record { standing = λ v l. s .none v .0; held = λ v l. s .none v .1; cursors = λ v l. rw (s .starts v l .0) (down .0 v (omega arith)); lasts = λ v l. rw (s .starts v l .1) (up .0 v (omega arith)) }, down .1, up .1)
 
 pub link-up-spec : {M : Type 1} → statement M
 link-up-spec =

@@ -10,10 +10,10 @@ use Rattle.plan_turns_search.specs.Record.{FirstMarks}
 use Rattle.plan_turns_search.proofs.Kept.{first-next}
 
 abbrev Inv-loop : tie.InvT-loop
-Inv-loop marks₀ cursors floors v₀ marks v = (v ≤ 256) × FirstMarks cursors floors marks v × (length marks ≡ 1024)
+Inv-loop marks₀ cursors lasts v₀ marks v = (v ≤ 256) × FirstMarks cursors lasts marks v × (length marks ≡ 1024)
 
 abbrev μ-loop : tie.MeasureT-loop
-μ-loop marks₀ cursors floors v₀ marks v = 256 - v
+μ-loop marks₀ cursors lasts v₀ marks v = 256 - v
 
 loop-holds : tie.Need-loop-holds Inv-loop μ-loop
 loop-holds c =
@@ -68,7 +68,7 @@ loop-again c =
     let a = c .before .before .before .before .before .before .before .before .before .before .before .before .before .before .before .args in
     let i = c .before .before .before .before .before .before .before .before .before .before .before .loop .inv in
     let k = i .2 in
-    (omega (arith, c .before .before .before .before .before .before .before .before .before .before .loop-test .taken), first-next (a .cursors .now) (a .floors .now) (c .before .before .before .before .before .before .before .before .before .before .before .loop .marks) (c .before .before .before .before .before .before .before .store .last .0) _ (c .before .before .before .before .before .before .before .before .before .before .before .loop .v) (c .before .before .before .before .before .before .before .before .entry .result) (c .before .before .before .entry2 .result) (omega arith) (c .before .before .before .before .before .before .before .before .entry .ensures) (c .before .before .before .entry2 .ensures) (c .before .before .before .before .before .before .before .store .ensures) (c .before .before .store2 .ensures) (i .1), c .before .before .store2 .kept .0 ∙ c .before .before .before .before .before .before .before .store .kept .0 ∙ k)
+    (omega (arith, c .before .before .before .before .before .before .before .before .before .before .loop-test .taken), first-next (a .cursors .now) (a .lasts .now) (c .before .before .before .before .before .before .before .before .before .before .before .loop .marks) (c .before .before .before .before .before .before .before .store .last .0) _ (c .before .before .before .before .before .before .before .before .before .before .before .loop .v) (c .before .before .before .before .before .before .before .before .entry .result) (c .before .before .before .entry2 .result) (omega arith) (c .before .before .before .before .before .before .before .before .entry .ensures) (c .before .before .before .entry2 .ensures) (c .before .before .before .before .before .before .before .store .ensures) (c .before .before .store2 .ensures) (i .1), c .before .before .store2 .kept .0 ∙ c .before .before .before .before .before .before .before .store .kept .0 ∙ k)
 
 same-length : tie.Need-same-length Inv-loop μ-loop
 same-length c = c .before .loop .inv .2 ∙ sym (c .before .before .before .before .before .pre .0)

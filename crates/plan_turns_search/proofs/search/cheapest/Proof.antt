@@ -5,12 +5,12 @@ use Prim.Native.Nat.{_*_}
 use mathlib.Core.Path.{sym, _∙_, ap}
 use native.Mathlib.Omega.{arith}
 use Rattle.plan_turns_search.specs.Record.{atSource, atTarget, endOf, siteOf}
-use Rattle.plan_turns_search.specs.Offers.{Floor}
+use Rattle.plan_turns_search.specs.Offers.{HeldSearch}
 use Rattle.plan_turns_search.specs.Chain.{opposite, turnedKey}
-use Rattle.plan_turns_search.proofs.Chain.{height, falls, opposite-below, floor-at, floor-cheapest, floor-step}
+use Rattle.plan_turns_search.proofs.Chain.{height, falls, opposite-below, held-at, held-cheapest, held-step}
 
 abbrev Inv-loop : tie.InvT-loop
-Inv-loop rec marks links lows highs costs spares ups v f₀ f = Floor (siteOf links lows highs costs spares) (atSource rec) v f
+Inv-loop rec marks links lows highs costs spares ups v f₀ f = HeldSearch (siteOf links lows highs costs spares) (atSource rec) v f
 
 abbrev μ-loop : tie.MeasureT-loop
 μ-loop rec marks links lows highs costs spares ups v f₀ f = height (2 * links) (turnedKey costs) f
@@ -43,7 +43,7 @@ loop-holds : tie.Need-loop-holds Inv-loop μ-loop
 loop-holds c =
     let a = c .before .before .before .before .before .before .before .before .args in
     let p = c .before .before .before .before .before .before .before .before .pre in
-    floor-at (a .links) (a .lows .now) (a .highs .now) (a .costs .now) (a .spares .now) (p .0 .fits) (atSource (a .rec .now)) (p .0 .inv) (a .v) (p .4) (c .entry .result) (rw (c .entry .ensures) (p .1 .floors (a .v) (p .3)))
+    held-at (a .links) (a .lows .now) (a .highs .now) (a .costs .now) (a .spares .now) (p .0 .fits) (atSource (a .rec .now)) (p .0 .inv) (a .v) (p .4) (c .entry .result) (rw (c .entry .ensures) (p .1 .lasts (a .v) (p .3)))
 
 opposite-requires : tie.Need-opposite-requires Inv-loop μ-loop
 opposite-requires c κs =
@@ -87,13 +87,13 @@ loop-again : tie.Need-loop-again Inv-loop μ-loop
 loop-again c =
     let a = c .before .before .before .before .before .before .before .before .before .before .before .before .before .args in
     let p = c .before .before .before .before .before .before .before .before .before .before .before .before .before .pre in
-    floor-step (a .links) (a .lows .now) (a .highs .now) (a .costs .now) (a .spares .now) (p .0 .fits) (atSource (a .rec .now)) (p .0 .inv) (a .v) (c .before .before .before .before .loop .f) (c .before .before .before .before .loop .inv) (p .5) (a .ups .now) (p .2) (λ z. c .before .if1 .taken (ap (atTarget (a .rec .now)) (c .before .before .before .opposite .ensures) ∙ p .0 .paired .twin (opposite (c .before .before .before .before .loop .f)) ∙ z)) (p .4) (c .entry2 .result) (c .entry2 .ensures)
+    held-step (a .links) (a .lows .now) (a .highs .now) (a .costs .now) (a .spares .now) (p .0 .fits) (atSource (a .rec .now)) (p .0 .inv) (a .v) (c .before .before .before .before .loop .f) (c .before .before .before .before .loop .inv) (p .5) (a .ups .now) (p .2) (λ z. c .before .if1 .taken (ap (atTarget (a .rec .now)) (c .before .before .before .opposite .ensures) ∙ p .0 .paired .twin (opposite (c .before .before .before .before .loop .f)) ∙ z)) (p .4) (c .entry2 .result) (c .entry2 .ensures)
 
 returns : tie.Need-returns Inv-loop μ-loop
 returns c =
     let a = c .before .before .before .before .before .before .before .before .before .before .before .before .args in
     let p = c .before .before .before .before .before .before .before .before .before .before .before .before .pre in
-    (floor-cheapest (a .links) (a .lows .now) (a .highs .now) (a .costs .now) (a .spares .now) (p .0 .fits) (atSource (a .rec .now)) (p .0 .inv) (a .v) (c .before .before .before .loop .f) (c .before .before .before .loop .inv) (sym (ap (atTarget (a .rec .now)) (c .before .before .opposite .ensures) ∙ p .0 .paired .twin (opposite (c .before .before .before .loop .f))) ∙ c .if1 .left), c .before .before .before .loop .inv)
+    (held-cheapest (a .links) (a .lows .now) (a .highs .now) (a .costs .now) (a .spares .now) (p .0 .fits) (atSource (a .rec .now)) (p .0 .inv) (a .v) (c .before .before .before .loop .f) (c .before .before .before .loop .inv) (sym (ap (atTarget (a .rec .now)) (c .before .before .opposite .ensures) ∙ p .0 .paired .twin (opposite (c .before .before .before .loop .f))) ∙ c .if1 .left), c .before .before .before .loop .inv)
 
 pub cheapest-spec : {M : Type 1} → statement M
 cheapest-spec =

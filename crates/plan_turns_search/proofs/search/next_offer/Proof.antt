@@ -8,19 +8,19 @@ use native.Mathlib.Omega.{arith}
 use borrow.Author.Tests.{ltb-true, ltb-false}
 use Rattle.table.specs.Table.{item}
 use Rattle.plan_turns_search.specs.Record.{atSource, atTarget, endOf, keyOf, siteOf, mark}
-use Rattle.plan_turns_search.specs.Offers.{Floor, Walk, holds}
+use Rattle.plan_turns_search.specs.Offers.{HeldSearch, OfferSearch, holds}
 use Rattle.plan_turns_search.specs.Chain.{opposite, turnedKey}
 use Rattle.plan_turns_search.proofs.Record.{target-below}
-use Rattle.plan_turns_search.proofs.Chain.{height, falls, opposite-below, walk-next, walk-found, walk-end, taken-free, floor-wanted, floor-shut, floor-next}
+use Rattle.plan_turns_search.proofs.Chain.{height, falls, opposite-below, walk-next, walk-found, walk-end, taken-free, held-wanted, held-refuses, held-next}
 
 abbrev Inv-loop : tie.InvT-loop
-Inv-loop rec marks links lows highs costs spares nexts ups u dirs found₀ e d v f₀ found f = (found ≡ 2 * links) × Floor (siteOf links lows highs costs spares) (atSource rec) v f
+Inv-loop rec marks links lows highs costs spares nexts ups u dirs found₀ e d v f₀ found f = (found ≡ 2 * links) × HeldSearch (siteOf links lows highs costs spares) (atSource rec) v f
 
 abbrev μ-loop : tie.MeasureT-loop
 μ-loop rec marks links lows highs costs spares nexts ups u dirs found₀ e d v f₀ found f = height (2 * links) (turnedKey costs) f
 
 abbrev Inv-search : tie.InvT-search
-Inv-search rec marks links lows highs costs spares nexts ups u dirs found₀ e₀ found e = (found ≡ 2 * links) × Walk (siteOf links lows highs costs spares) (atSource rec) u e
+Inv-search rec marks links lows highs costs spares nexts ups u dirs found₀ e₀ found e = (found ≡ 2 * links) × OfferSearch (siteOf links lows highs costs spares) (atSource rec) u e
 
 abbrev μ-search : tie.MeasureT-search
 μ-search rec marks links lows highs costs spares nexts ups u dirs found₀ e₀ found e = height (2 * links) (keyOf costs) e
@@ -156,7 +156,7 @@ loop-holds c =
     let p = c .before .before .before .before .before .before .before .before .before .before .before .before .before .before .before .before .before .before .before .pre in
     let v = c .before .before .before .before .end-of in
     let lv = rw (← v .ensures) at (target-below (a .links) (a .lows .now) (a .highs .now) (a .costs .now) (a .spares .now) (p .0 .fits) (c .before .before .before .before .before .before .before .before .before .search .e) (c .before .before .before .before .before .before .before .before .search-test .taken)) in
-    (c .before .before .before .before .before .before .before .before .before .search .inv .0, rw (c .entry5 .ensures) (p .1 .floors (v .result) lv (c .before .before .before .before .before .before .before .before .before .search .e) (c .before .before .before .before .before .before .before .before .search-test .taken) (sym (v .ensures))))
+    (c .before .before .before .before .before .before .before .before .before .search .inv .0, rw (c .entry5 .ensures) (p .1 .lasts (v .result) lv (c .before .before .before .before .before .before .before .before .before .search .e) (c .before .before .before .before .before .before .before .before .search-test .taken) (sym (v .ensures))))
 
 cheaper-requires : tie.Need-cheaper-requires Inv-loop μ-loop Inv-search μ-search
 cheaper-requires c κs =
@@ -186,7 +186,7 @@ search-again-2 c =
     let full : item (a .spares .now) (v .result) ≤ holds (siteOf (a .links) (a .lows .now) (a .highs .now) (a .costs .now) (a .spares .now)) (atSource (a .rec .now)) (v .result) = omega (arith, c .before .before .before .before .if2 .left) in (
       c .before .before .loop .inv .0,
       walk-next (a .links) (a .lows .now) (a .highs .now) (a .costs .now) (a .spares .now) (p .0 .fits) (atSource (a .rec .now)) (a .u) (a .nexts .now) (p .2) (c .before .before .before .before .before .before .before .before .before .before .before .before .search .e) (c .before .before .before .before .before .before .before .before .before .before .entry2 .result) (c .before .before .before .before .before .before .before .before .before .before .before .search-test .taken) (c .before .before .before .before .before .before .before .before .before .before .before .before .search .inv .1)
-          (λ z. floor-shut (a .links) (a .lows .now) (a .highs .now) (a .costs .now) (a .spares .now) (p .0 .fits) (atSource (a .rec .now)) (p .0 .inv) (v .result) (c .before .before .loop .f) (c .before .before .loop .inv .1) full (c .before .before .before .before .before .before .before .before .before .before .before .before .search .e) (c .before .before .before .before .before .before .before .before .before .before .before .search-test .taken) (sym (v .ensures)) (λ y. omega arith) (ltb-false (keyOf (a .costs .now) (c .before .before .loop .f)) (keyOf (a .costs .now) (c .before .before .before .before .before .before .before .before .before .before .before .before .search .e)) (sym (c .before .cheaper .ensures) ∙ c .if3 .left))) (c .before .before .before .before .before .before .before .before .before .before .entry2 .ensures),
+          (λ z. held-refuses (a .links) (a .lows .now) (a .highs .now) (a .costs .now) (a .spares .now) (p .0 .fits) (atSource (a .rec .now)) (p .0 .inv) (v .result) (c .before .before .loop .f) (c .before .before .loop .inv .1) full (c .before .before .before .before .before .before .before .before .before .before .before .before .search .e) (c .before .before .before .before .before .before .before .before .before .before .before .search-test .taken) (sym (v .ensures)) (λ y. omega arith) (ltb-false (keyOf (a .costs .now) (c .before .before .loop .f)) (keyOf (a .costs .now) (c .before .before .before .before .before .before .before .before .before .before .before .before .search .e)) (sym (c .before .cheaper .ensures) ∙ c .if3 .left))) (c .before .before .before .before .before .before .before .before .before .before .entry2 .ensures),
     )
 
 opposite-requires : tie.Need-opposite-requires Inv-loop μ-loop Inv-search μ-search
@@ -239,7 +239,7 @@ loop-again c =
     let s = c .before .before .before .before .before .before .before .before .before .entry4 .ensures in
     let full : item (a .spares .now) (v .result) ≤ holds (siteOf (a .links) (a .lows .now) (a .highs .now) (a .costs .now) (a .spares .now)) (atSource (a .rec .now)) (v .result) = omega (arith, c .before .before .before .before .before .before .before .before .if2 .left) in (
       c .before .before .before .before .before .before .loop .inv .0,
-      floor-next (a .links) (a .lows .now) (a .highs .now) (a .costs .now) (a .spares .now) (p .0 .fits) (atSource (a .rec .now)) (p .0 .inv) (v .result) (c .before .before .before .before .before .before .loop .f) (c .before .before .before .before .before .before .loop .inv .1) full (a .ups .now) (p .3)
+      held-next (a .links) (a .lows .now) (a .highs .now) (a .costs .now) (a .spares .now) (p .0 .fits) (atSource (a .rec .now)) (p .0 .inv) (v .result) (c .before .before .before .before .before .before .loop .f) (c .before .before .before .before .before .before .loop .inv .1) full (a .ups .now) (p .3)
           (λ z. c .before .if4 .left (ap (atTarget (a .rec .now)) (c .before .before .before .opposite .ensures) ∙ p .0 .paired .twin (opposite (c .before .before .before .before .before .before .loop .f)) ∙ z)) (c .before .before .before .before .before .before .before .before .before .before .before .before .before .before .before .before .search .e) (c .before .before .before .before .before .before .before .before .before .before .before .before .before .before .before .search-test .taken) (sym (v .ensures)) (ltb-true (keyOf (a .costs .now) (c .before .before .before .before .before .before .loop .f)) (keyOf (a .costs .now) (c .before .before .before .before .before .before .before .before .before .before .before .before .before .before .before .before .search .e)) (sym (c .before .before .before .before .before .cheaper .ensures) ∙ c .before .before .before .before .if3 .taken)) (c .entry6 .result) (c .entry6 .ensures),
     )
 
@@ -266,7 +266,7 @@ returns-3 c =
     let a = c .before .before .before .before .before .before .before .before .before .before .before .before .before .before .before .before .before .before .before .before .before .before .before .before .before .args in
     let p = c .before .before .before .before .before .before .before .before .before .before .before .before .before .before .before .before .before .before .before .before .before .before .before .before .before .pre in
     let v = c .before .before .before .before .before .before .before .before .before .before .end-of in
-    (walk-found (a .links) (a .lows .now) (a .highs .now) (a .costs .now) (a .spares .now) (p .0 .fits) (atSource (a .rec .now)) (a .u) (c .before .before .before .before .before .before .before .before .before .before .before .before .before .before .before .search .e) (c .before .before .before .before .before .before .before .before .before .before .before .before .before .before .search-test .taken) (c .before .before .before .before .before .before .before .before .before .before .before .before .before .before .before .search .inv .1) (c .before .before .before .before .before .before .before .before .before .before .before .if1 .left) (floor-wanted (a .links) (a .lows .now) (a .highs .now) (a .costs .now) (a .spares .now) (p .0 .fits) (atSource (a .rec .now)) (p .0 .inv) (v .result) (c .before .before .before .before .before .loop .f) (c .before .before .before .before .before .loop .inv .1) (c .before .before .before .before .before .before .before .before .before .before .before .before .before .before .before .search .e) (sym (v .ensures)) (ltb-true (keyOf (a .costs .now) (c .before .before .before .before .before .loop .f)) (keyOf (a .costs .now) (c .before .before .before .before .before .before .before .before .before .before .before .before .before .before .before .search .e)) (sym (c .before .before .before .before .cheaper .ensures) ∙ c .before .before .before .if3 .taken)) (sym (ap (atTarget (a .rec .now)) (c .before .before .opposite .ensures) ∙ p .0 .paired .twin (opposite (c .before .before .before .before .before .loop .f))) ∙ c .if4 .taken)), omega arith)
+    (walk-found (a .links) (a .lows .now) (a .highs .now) (a .costs .now) (a .spares .now) (p .0 .fits) (atSource (a .rec .now)) (a .u) (c .before .before .before .before .before .before .before .before .before .before .before .before .before .before .before .search .e) (c .before .before .before .before .before .before .before .before .before .before .before .before .before .before .search-test .taken) (c .before .before .before .before .before .before .before .before .before .before .before .before .before .before .before .search .inv .1) (c .before .before .before .before .before .before .before .before .before .before .before .if1 .left) (held-wanted (a .links) (a .lows .now) (a .highs .now) (a .costs .now) (a .spares .now) (p .0 .fits) (atSource (a .rec .now)) (p .0 .inv) (v .result) (c .before .before .before .before .before .loop .f) (c .before .before .before .before .before .loop .inv .1) (c .before .before .before .before .before .before .before .before .before .before .before .before .before .before .before .search .e) (sym (v .ensures)) (ltb-true (keyOf (a .costs .now) (c .before .before .before .before .before .loop .f)) (keyOf (a .costs .now) (c .before .before .before .before .before .before .before .before .before .before .before .before .before .before .before .search .e)) (sym (c .before .before .before .before .cheaper .ensures) ∙ c .before .before .before .if3 .taken)) (sym (ap (atTarget (a .rec .now)) (c .before .before .opposite .ensures) ∙ p .0 .paired .twin (opposite (c .before .before .before .before .before .loop .f))) ∙ c .if4 .taken)), omega arith)
 
 pub next-offer-spec : {M : Type 1} → statement M
 next-offer-spec =

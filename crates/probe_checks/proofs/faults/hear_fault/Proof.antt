@@ -27,8 +27,8 @@ returns c =
     let s : ℕ = sliceFault 256 2048 (slicesOf 0 (a .probes) (a .links) (a .needs .now) (a .lows .now) (a .highs .now) (a .costs .now)) in
     hear-early s t (a .probe) (a .rec .now) _ (a .frame .now) (a .free) (c .before .state-fault .ensures) (c .if1 .taken)
 
-frame-fault-requires : tie.Need-frame-fault-requires
-frame-fault-requires c κs =
+heard-fault-requires : tie.Need-heard-fault-requires
+heard-fault-requires c κs =
     let a = c .before .before .before .before .before .before .before .before .args in
     let z = sym (c .before .state-fault .ensures) ∙ c .if1 .left in
     ordered 256 2048 0 (a .probes) (a .links) (a .needs .now) (a .lows .now) (a .highs .now) (a .costs .now) (or-left _ _ z)
@@ -40,7 +40,7 @@ returns-2 c =
     let t : Table = ofSlices (a .number) (a .probes) (a .links) (a .needs .now) (a .lows .now) (a .highs .now) (a .costs .now) in
     let s : ℕ = sliceFault 256 2048 (slicesOf 0 (a .probes) (a .links) (a .needs .now) (a .lows .now) (a .highs .now) (a .costs .now)) in
     let z : orElse s (recordFault t (a .probe) (a .rec .now)) ≡ 0 = sym (c .before .before .before .state-fault .ensures) ∙ c .before .before .if1 .left in
-    hear-late s t (a .probe) (a .rec .now) _ (a .frame .now) (a .free) z (or-here _ _ _ (c .before .frame-fault .ensures) (c .if2 .taken))
+    hear-late s t (a .probe) (a .rec .now) _ (a .frame .now) (a .free) z (or-here _ _ _ (c .before .heard-fault .ensures) (c .if2 .taken))
 
 event-of-requires : tie.Need-event-of-requires
 unfolding heardFault
@@ -49,7 +49,7 @@ event-of-requires c κs =
     let z = sym (c .before .before .before .state-fault .ensures) ∙ c .before .before .if1 .left in
     let o = ordered 256 2048 0 (a .probes) (a .links) (a .needs .now) (a .lows .now) (a .highs .now) (a .costs .now) (or-left _ _ z) in
     let t : Table = ofSlices (a .number) (a .probes) (a .links) (a .needs .now) (a .lows .now) (a .highs .now) (a .costs .now) in
-    (o, heard-frame t (a .probe) (a .frame .now) (sym (c .before .frame-fault .ensures) ∙ c .if2 .left))
+    (o, heard-frame t (a .probe) (a .frame .now) (sym (c .before .heard-fault .ensures) ∙ c .if2 .left))
 
 untried-fault-requires : tie.Need-untried-fault-requires
 unfolding heardFault
@@ -57,7 +57,7 @@ untried-fault-requires c κs =
     let a = c .before .before .before .before .before .before .before .before .before .before .before .args in
     let z : orElse (sliceFault 256 2048 (slicesOf 0 (a .probes) (a .links) (a .needs .now) (a .lows .now) (a .highs .now) (a .costs .now))) (recordFault (ofSlices (a .number) (a .probes) (a .links) (a .needs .now) (a .lows .now) (a .highs .now) (a .costs .now)) (a .probe) (a .rec .now)) ≡ 0 = sym (c .before .before .before .before .state-fault .ensures) ∙ c .before .before .before .if1 .left in
     let t : Table = ofSlices (a .number) (a .probes) (a .links) (a .needs .now) (a .lows .now) (a .highs .now) (a .costs .now) in
-    (rw (c .event-of .ensures) (heard-within t (a .probe) (a .frame .now) (sym (c .before .before .frame-fault .ensures) ∙ c .before .if2 .left)), (let r = record-good t (a .probe) (a .rec .now) (or-right (sliceFault 256 2048 (slicesOf 0 (a .probes) (a .links) (a .needs .now) (a .lows .now) (a .highs .now) (a .costs .now))) (recordFault t (a .probe) (a .rec .now)) z) in omega (arith, r .0)))
+    (rw (c .event-of .ensures) (heard-within t (a .probe) (a .frame .now) (sym (c .before .before .heard-fault .ensures) ∙ c .before .if2 .left)), (let r = record-good t (a .probe) (a .rec .now) (or-right (sliceFault 256 2048 (slicesOf 0 (a .probes) (a .links) (a .needs .now) (a .lows .now) (a .highs .now) (a .costs .now))) (recordFault t (a .probe) (a .rec .now)) z) in omega (arith, r .0)))
 
 returns-3 : tie.Need-returns-3
 unfolding heardFault
@@ -66,7 +66,7 @@ returns-3 c =
     let t : Table = ofSlices (a .number) (a .probes) (a .links) (a .needs .now) (a .lows .now) (a .highs .now) (a .costs .now) in
     let s : ℕ = sliceFault 256 2048 (slicesOf 0 (a .probes) (a .links) (a .needs .now) (a .lows .now) (a .highs .now) (a .costs .now)) in
     let z : orElse s (recordFault t (a .probe) (a .rec .now)) ≡ 0 = sym (c .before .before .before .before .before .before .state-fault .ensures) ∙ c .before .before .before .before .before .if1 .left in
-    let h : heardFault t (a .probe) (a .frame .now) ≡ 0 = sym (c .before .before .before .before .frame-fault .ensures) ∙ c .before .before .before .if2 .left in
+    let h : heardFault t (a .probe) (a .frame .now) ≡ 0 = sym (c .before .before .before .before .heard-fault .ensures) ∙ c .before .before .before .if2 .left in
     hear-late s t (a .probe) (a .rec .now) _ (a .frame .now) (a .free) z (rw (h, ← c .before .before .event-of .ensures) (or-here _ _ _ (c .before .untried-fault .ensures) (c .if3 .taken)))
 
 returns-4 : tie.Need-returns-4
@@ -76,7 +76,7 @@ returns-4 c =
     let t : Table = ofSlices (a .number) (a .probes) (a .links) (a .needs .now) (a .lows .now) (a .highs .now) (a .costs .now) in
     let s : ℕ = sliceFault 256 2048 (slicesOf 0 (a .probes) (a .links) (a .needs .now) (a .lows .now) (a .highs .now) (a .costs .now)) in
     let z : orElse s (recordFault t (a .probe) (a .rec .now)) ≡ 0 = sym (c .before .before .before .before .before .before .before .state-fault .ensures) ∙ c .before .before .before .before .before .before .if1 .left in
-    let h : heardFault t (a .probe) (a .frame .now) ≡ 0 = sym (c .before .before .before .before .before .frame-fault .ensures) ∙ c .before .before .before .before .if2 .left in
+    let h : heardFault t (a .probe) (a .frame .now) ≡ 0 = sym (c .before .before .before .before .before .heard-fault .ensures) ∙ c .before .before .before .before .if2 .left in
     hear-late s t (a .probe) (a .rec .now) _ (a .frame .now) (a .free) z (rw (h, ← c .before .before .before .event-of .ensures, sym (c .before .before .untried-fault .ensures) ∙ c .before .if3 .left, eq-eqb _ _ (c .if4 .taken)))
 
 returns-5 : tie.Need-returns-5
@@ -86,7 +86,7 @@ returns-5 c =
     let t : Table = ofSlices (a .number) (a .probes) (a .links) (a .needs .now) (a .lows .now) (a .highs .now) (a .costs .now) in
     let s : ℕ = sliceFault 256 2048 (slicesOf 0 (a .probes) (a .links) (a .needs .now) (a .lows .now) (a .highs .now) (a .costs .now)) in
     let z : orElse s (recordFault t (a .probe) (a .rec .now)) ≡ 0 = sym (c .before .before .before .before .before .before .before .state-fault .ensures) ∙ c .before .before .before .before .before .before .if1 .left in
-    let h : heardFault t (a .probe) (a .frame .now) ≡ 0 = sym (c .before .before .before .before .before .frame-fault .ensures) ∙ c .before .before .before .before .if2 .left in
+    let h : heardFault t (a .probe) (a .frame .now) ≡ 0 = sym (c .before .before .before .before .before .heard-fault .ensures) ∙ c .before .before .before .before .if2 .left in
     hear-late s t (a .probe) (a .rec .now) _ (a .frame .now) (a .free) z (rw (h, ← c .before .before .before .event-of .ensures, sym (c .before .before .untried-fault .ensures) ∙ c .before .if3 .left, ne-eqb _ _ (c .if4 .left)))
 
 pub hear-fault-spec : {M : Type 1} → statement M
@@ -95,7 +95,7 @@ hear-fault-spec =
     (tie.spec
     state-fault-requires
     returns
-    frame-fault-requires
+    heard-fault-requires
     returns-2
     event-of-requires
     untried-fault-requires

@@ -8,5 +8,5 @@ abbrev pub mayOpen : ℕ → ℕ → ℕ → Bool
 mayOpen standing spare untried = ltb standing spare && ltb 0 untried
 
 -- by an outbound byte and the other end's inbound byte: a frame that may be sent would alter a byte
-abbrev pub mayStir : ℕ → ℕ → Bool
-mayStir out into = (eqb out 1 && eqb into 0) || (eqb into 2 && not (eqb out 2))
+abbrev pub mayAlter : ℕ → ℕ → Bool
+mayAlter out into = (eqb out 1 && eqb into 0) || (eqb into 2 && not (eqb out 2))

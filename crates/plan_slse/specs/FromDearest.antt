@@ -7,8 +7,8 @@ use Rattle.table.specs.Table.{Table, item, dearer}
 use Rattle.plan_theory.specs.Pass.{place}
 
 -- the entry at each place k is the link with k dearer ones
-abbrev pub Ordered : Table → List ℕ → Type 0
-Ordered t order = (k : ℕ) → k < t .links → (item order k < t .links) × (place (t .links) (dearer t) (item order k) ≡ k)
+abbrev pub FromDearest : Table → List ℕ → Type 0
+FromDearest t order = (k : ℕ) → k < t .links → (item order k < t .links) × (place (t .links) (dearer t) (item order k) ≡ k)
 
 -- a plan buffer's byte: "1 kept and 0 rested"
 abbrev pub planByte : Bool → ℕ

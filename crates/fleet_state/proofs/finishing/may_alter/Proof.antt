@@ -1,6 +1,6 @@
--- `fleet_state::finishing::may_stir` meets its contract.
-use Rattle.fleet_state.proofs.finishing.may_stir.Statement.{statement}
-use Rattle.fleet_state.proofs.finishing.may_stir.Tie as tie
+-- `fleet_state::finishing::may_alter` meets its contract.
+use Rattle.fleet_state.proofs.finishing.may_alter.Statement.{statement}
+use Rattle.fleet_state.proofs.finishing.may_alter.Tie as tie
 use mathlib.Core.Bool.{and-false, or-false}
 use lib.Dec.{eqb}
 use borrow.Author.Tests.{eq-eqb, ne-eqb}
@@ -18,5 +18,5 @@ returns-3 c =
     let a = c .before .before .args in
     rw (ne-eqb _ _ (c .before .if1 .left), eq-eqb _ _ (c .if2 .left), or-false (eqb (a .into) 0))
 
-pub may-stir-spec : {M : Type 1} → statement M
-may-stir-spec = tie.close (tie.spec returns returns-2 returns-3)
+pub may-alter-spec : {M : Type 1} → statement M
+may-alter-spec = tie.close (tie.spec returns returns-2 returns-3)

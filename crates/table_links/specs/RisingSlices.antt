@@ -12,7 +12,7 @@ use Rattle.table.specs.Table.{item}
 abbrev pub Rises : List ℕ → List ℕ → ℕ → ℕ → Type 0
 Rises lows highs i j = (item lows i < item lows j) ⊎ ((item lows i ≡ item lows j) × (item highs i < item highs j))
 
-pub record Ordered (links : ℕ) (lows highs : List ℕ) : Type 0 where
+pub record RisingSlices (links : ℕ) (lows highs : List ℕ) : Type 0 where
   pub in-lows : links ≤ length lows
   pub in-highs : links ≤ length highs
   pub ends : (i : ℕ) → i < links → item lows i < item highs i

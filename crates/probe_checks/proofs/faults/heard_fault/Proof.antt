@@ -1,7 +1,7 @@
--- `probe_checks::faults::frame_fault` meets its contract.
+-- `probe_checks::faults::heard_fault` meets its contract.
 use borrow.Author.Needs.{needs}
-use Rattle.probe_checks.proofs.faults.frame_fault.Statement.{statement}
-use Rattle.probe_checks.proofs.faults.frame_fault.Tie as tie
+use Rattle.probe_checks.proofs.faults.heard_fault.Statement.{statement}
+use Rattle.probe_checks.proofs.faults.heard_fault.Tie as tie
 use mathlib.Core.Path.{sym, _∙_}
 use borrow.Author.Tests.{lt-ltb, le-ltb, eq-eqb, ne-eqb}
 use Rattle.range.proofs.Faults.{or-here}
@@ -69,8 +69,8 @@ returns-7 c =
     let z = sym (c .before .before .before .before .before .before .before .before .before .before .before .before .frame-fault .ensures) ∙ c .before .before .before .before .before .before .before .before .before .before .before .if1 .left in
     rw (z, ← c .before .before .before .before .before .before .before .before .before .before .field .ensures, known-kind _ (c .before .before .before .before .before .before .before .before .before .if2 .left) (c .before .before .before .before .before .before .before .before .if3 .left), ← c .before .before .before .before .before .before .before .field2 .ensures, eq-eqb _ _ (c .before .before .before .before .before .if4 .left ∙ c .before .before .before .before .before .before .wide .ensures), ← c .before .before .before .before .field3 .ensures, eq-eqb _ _ (c .before .before .before .if5 .left), ← c .before .before .field4 .ensures, ← c .before .between .ensures, lt-ltb _ _ (c .if6 .left))
 
-pub frame-fault-spec : {M : Type 1} → statement M
-frame-fault-spec =
+pub heard-fault-spec : {M : Type 1} → statement M
+heard-fault-spec =
     tie.close
     (tie.spec
     frame-fault-requires
