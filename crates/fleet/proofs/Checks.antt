@@ -10,7 +10,7 @@ use Rattle.table.specs.Table.{Table, ofSlices}
 use Rattle.table.specs.Legal.{Legal}
 use Rattle.table.specs.Slices.{LegalSlices, slicesOf}
 use Rattle.table.proofs.LegalLaws.{legal-table}
-use Rattle.plan_theory.proofs.Settled.{Across, up, down}
+use Rattle.plan_theory.specs.Criterion.{Across, up, down}
 use Rattle.probe_frame.specs.Frame.{Frame, frameOf, frameFault}
 use Rattle.probe_rules.specs.Frames.{numberFault}
 use Rattle.probe_rules.specs.Within.{EventWithin}

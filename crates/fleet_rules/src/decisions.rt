@@ -5,7 +5,7 @@ use probe_rules::Outcome;
 ghost use mathlib.Core.Path.{_≡_};
 ghost use mathlib.Core.Bool.{cond, _&&_, _||_};
 ghost use mathlib.Core.List.{[]};
-ghost use Prim.Native.Nat.{_*_, _-_, _<_, _≤_};
+ghost use Prim.Native.Nat.{_*_, _<_, _≤_};
 ghost use lib.Dec.{ltb, leb, eqb};
 ghost use lib.ListN.{length};
 ghost use Rattle.table.specs.Table.{item, ofSlices};
@@ -104,20 +104,6 @@ fn survey(
     s
 }
 
-// An end's spare, by its number of links.
-fn spare_of(degree: usize, needs: &[u16], probe: usize) -> usize
-    ensures { λ r. ⌜ r ≡ degree - item (now (needs .entry)) probe ⌝ }
-{
-    if needs.len() <= probe {
-        return degree;
-    }
-    let need = table::numbers::wide(needs[probe]);
-    if degree < need {
-        return 0;
-    }
-    degree - need
-}
-
 fn decide_opening(
     rec: &[u8],
     probes: usize,
@@ -132,7 +118,7 @@ fn decide_opening(
     ensures { λ r. ⌜ r ≡ opening (ofSlices 0 probes links (now (needs .entry)) (now (lows .entry)) (now (highs .entry)) (now (costs .entry))) probe (own (ofSlices 0 probes links (now (needs .entry)) (now (lows .entry)) (now (highs .entry)) (now (costs .entry))) probe (now (rec .entry))) ⌝ }
 {
     let s = survey(0, rec, probes, links, needs, lows, highs, costs, probe);
-    if spare_of(s.degree, needs, probe) <= s.count {
+    if table_links::spares::spare_of(s.degree, needs, probe) <= s.count {
         return Outcome::NothingToOpen;
     }
     if links <= s.best {
@@ -156,7 +142,7 @@ fn decide_offer(
     ensures { λ r. ⌜ r ≡ offer (ofSlices 0 probes links (now (needs .entry)) (now (lows .entry)) (now (highs .entry)) (now (costs .entry))) probe (own (ofSlices 0 probes links (now (needs .entry)) (now (lows .entry)) (now (highs .entry)) (now (costs .entry))) probe (now (rec .entry))) i ⌝ }
 {
     let s = survey(1, rec, probes, links, needs, lows, highs, costs, probe);
-    if s.count < spare_of(s.degree, needs, probe) {
+    if s.count < table_links::spares::spare_of(s.degree, needs, probe) {
         return Outcome::Taken(i);
     }
     let displaced = s.best;

@@ -5,7 +5,8 @@ use mathlib.Core.List.{List}
 use lib.ListN.{length}
 use Rattle.table.specs.Table.{Table}
 use Rattle.table.specs.Legal.{Legal}
-use Rattle.plan_theory.proofs.Settled.{Across, near, back}
+use Rattle.plan_theory.proofs.Settled.{near, back}
+use Rattle.plan_theory.specs.Criterion.{Across}
 use Rattle.probe_rules.specs.declared.Event.{Event}
 use Rattle.probe_rules.specs.declared.Event.the-variants.{Opening, Offer, Refusal}
 use Rattle.probe_rules.specs.declared.Outcome.{Outcome}

@@ -12,7 +12,7 @@ use Rattle.range.proofs.Sums.{weigh-le}
 use Rattle.range.proofs.Counts.{count-except, count-swap}
 use Rattle.table.specs.Table.{Table, touches, spare}
 use Rattle.table.specs.Legal.{LegalTable}
-use Rattle.plan_theory.proofs.Settled.{Across, up, down}
+use Rattle.plan_theory.specs.Criterion.{Across, up, down}
 use Rattle.fleet_theory.proofs.EndState.{onesAt, store, Same}
 
 -- the byte of q on j, where the byte of p on i is stored

@@ -15,8 +15,9 @@ use Rattle.plan_theory.specs.Pass.{place}
 use Rattle.plan_theory.specs.Plan.{rested}
 use Rattle.plan_theory.proofs.Places.{Order, place-lt}
 use Rattle.plan_theory.proofs.Order.{dearer-order}
-use Rattle.plan_theory.proofs.Plan.{dearerAt, UnderSpare, plan-criterion, rested-at}
-use Rattle.plan_theory.proofs.Settled.{Across, up, down, near, back, both}
+use Rattle.plan_theory.proofs.Plan.{plan-criterion, rested-at}
+use Rattle.plan_theory.specs.Criterion.{dearerAt, UnderSpare, Across, up, down}
+use Rattle.plan_theory.proofs.Settled.{near, back, both}
 use Rattle.fleet_theory.proofs.EndState.{Inv, Sent, Denied, Good, Quiet, four}
 use Rattle.table.proofs.LegalLaws.{legal-table}
 use Rattle.fleet_theory.proofs.EndBytes.{far}

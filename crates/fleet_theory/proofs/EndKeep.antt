@@ -13,8 +13,9 @@ use Rattle.table.specs.Legal.{Legal, LegalTable}
 use Rattle.plan_theory.specs.Plan.{rested}
 use Rattle.plan_theory.proofs.Places.{Order}
 use Rattle.plan_theory.proofs.Order.{dearer-order}
-use Rattle.plan_theory.proofs.Plan.{UnderSpare, plan-criterion, rested-at}
-use Rattle.plan_theory.proofs.Settled.{Across, near, back, both}
+use Rattle.plan_theory.proofs.Plan.{plan-criterion, rested-at}
+use Rattle.plan_theory.specs.Criterion.{UnderSpare, Across}
+use Rattle.plan_theory.proofs.Settled.{near, back, both}
 use Rattle.fleet_theory.proofs.EndState.{onesAt, store, Same, Step, idle, opens, takes, displaces, refuses, learns, Inv, Offered, Refused}
 use Rattle.table.proofs.LegalLaws.{legal-table}
 use Rattle.fleet_theory.proofs.EndBytes.{Cell, here, there, cell, before-store, Swap, gone, new, old, swap, far, far-one, WithinSpares, fits-fewer, fits-same, fits-more, fits-swap, swap-many}

@@ -6,7 +6,8 @@ use native.Mathlib.Omega.{arith}
 use native.Mathlib.Decide.{decLt, ℕ-discrete}
 use Rattle.range.proofs.Counts.{or-each}
 use Rattle.table.specs.Table.{Table, spare}
-use Rattle.plan_theory.proofs.Settled.{Across, up, down, near, back}
+use Rattle.plan_theory.proofs.Settled.{near, back}
+use Rattle.plan_theory.specs.Criterion.{Across, up, down}
 use Rattle.fleet_theory.proofs.EndState.{onesAt, Quiet, Live, may-open, may-hear, may-learn}
 use Rattle.fleet_theory.proofs.EndBytes.{far}
 

@@ -6,8 +6,7 @@ use mathlib.Core.Bool.{true, false}
 use native.Mathlib.Omega.{arith}
 use Rattle.table.specs.Table.{Table, touches, dearer}
 use Rattle.plan_theory.specs.Plan.{rested}
-use Rattle.plan_theory.proofs.Plan.{UnderSpare}
-use Rattle.plan_theory.proofs.Settled.{Across}
+use Rattle.plan_theory.specs.Criterion.{UnderSpare, Across}
 use Rattle.fleet_theory.proofs.EndState.{Inv, Offered, Refused}
 use Rattle.fleet_theory.proofs.EndBytes.{WithinSpares}
 

@@ -8,8 +8,7 @@ use lib.Dec.{eqb}
 use Rattle.range.specs.Sum.{sum, count}
 use Rattle.table.specs.Table.{Table, touches, spare, dearer}
 use Rattle.plan_theory.specs.Plan.{rested}
-use Rattle.plan_theory.proofs.Plan.{UnderSpare}
-use Rattle.plan_theory.proofs.Settled.{Across}
+use Rattle.plan_theory.specs.Criterion.{UnderSpare, Across}
 
 -- how many links of p have the byte 1
 abbrev pub onesAt : Table → (ℕ → ℕ → ℕ) → ℕ → ℕ

@@ -15,7 +15,7 @@ use Rattle.range.proofs.Bools.{decided, unless-none}
 use Rattle.range.proofs.Faults.{or-left, or-right, or-none}
 use Rattle.range.proofs.Lists.{zeros-at}
 use Rattle.table.specs.Table.{Table, touches, between}
-use Rattle.table.specs.Legal.{Legal}
+use Rattle.table.specs.Legal.{Legal, lentFault}
 use Rattle.plan_theory.proofs.Settled.{back}
 use Rattle.probe_frame.specs.Frame.{Frame, frameOf, frameFault}
 use Rattle.probe_record.specs.Record.{fresh, recordFault}
@@ -31,7 +31,7 @@ use Rattle.probe.specs.declared.Asked.{Asked}
 use Rattle.probe.specs.declared.Asked.the-variants as asked
 use Rattle.probe_checks.specs.Checks as end
 use Rattle.probe_checks.specs.Checks.{toFault, probeFault, ownLinkFault, untriedFault, fullFault, heardFault, hearFault, openFault, linkCallFault}
-use Rattle.probe.specs.Answers.{Asks, askedEvent, askedFrame, askedLine, lentFault}
+use Rattle.probe.specs.Answers.{Asks, askedEvent, askedFrame, askedLine}
 use Rattle.probe.proofs.Calls.{asked-event}
 use Rattle.fleet_theory.specs.Fleet.{own, eventKindFault, eventEndsFault, eventOf, outcomeOf, State, start, run}
 use Rattle.table.specs.Slices.{Slices, tableOf, slicesFault}
@@ -190,10 +190,10 @@ module _ (x : Slices) (fine : slicesFault x ≡ 0) (s : State) (h : HoldsAfter (
 
       module _ (out : List ℕ) (long : 15 ≤ length out) (answer : Asked) (out′ : List ℕ) where
         abbrev fault : ℕ
-        fault = orElse (lentFault (length out)) (linkCallFault (slicesFault x) t p (own t p r) i)
+        fault = orElse (lentFault (length out) 15) (linkCallFault (slicesFault x) t p (own t p r) i)
 
         none : fault ≡ 0
-        none = or-none (lentFault (length out)) (linkCallFault (slicesFault x) t p (own t p r) i) (rw (le-ltb (length out) 15 long)) ∙ ask-passes
+        none = or-none (lentFault (length out) 15) (linkCallFault (slicesFault x) t p (own t p r) i) (rw (le-ltb (length out) 15 long)) ∙ ask-passes
 
         pub ask-writes : Asks fault t p k i (own t p r) answer out out′
             → ((answer ≡ asked.Written) × (out′ ≡ sets out 0 (askedLine t p k i))) ↔ MaySend t r (askedFrame t p k i)

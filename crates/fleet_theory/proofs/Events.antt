@@ -14,7 +14,7 @@ use Rattle.range.proofs.Bools.{and-right, unless-none, when-none}
 use Rattle.range.proofs.Faults.{or-left, or-right}
 use Rattle.table.specs.Table.{Table, between}
 use Rattle.table.specs.Legal.{Legal}
-use Rattle.plan_theory.proofs.Settled.{Across}
+use Rattle.plan_theory.specs.Criterion.{Across}
 use Rattle.probe_frame.specs.Frame.{Frame, frameOf, frameFault}
 use Rattle.probe_rules.specs.declared.Event.the-variants.{Opening, Offer, Refusal}
 use Rattle.probe_rules.specs.Frames.{numberFault, heardOf}

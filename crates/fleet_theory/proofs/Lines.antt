@@ -8,7 +8,7 @@ use Rattle.range.specs.First.{orElse}
 use Rattle.range.proofs.Faults.{or-none}
 use Rattle.table.specs.Table.{Table, between}
 use Rattle.table.specs.Legal.{Legal}
-use Rattle.plan_theory.proofs.Settled.{Across}
+use Rattle.plan_theory.specs.Criterion.{Across}
 use Rattle.probe_frame.specs.Frame.{Frame, frameLine, frameOf, frameFault}
 use Rattle.probe_frame.proofs.Laws.{Writable, line-passes, line-says}
 use Rattle.probe_rules.specs.Frames.{numberFault}

@@ -13,7 +13,8 @@ use Rattle.range.proofs.Choice.{Best, nobody, chosen}
 use Rattle.table.specs.Table.{Table, touches, spare, dearer}
 use Rattle.table.specs.Legal.{Legal}
 use Rattle.plan_theory.proofs.Plan.{at-end}
-use Rattle.plan_theory.proofs.Settled.{Across, near, back}
+use Rattle.plan_theory.proofs.Settled.{near, back}
+use Rattle.plan_theory.specs.Criterion.{Across}
 use Rattle.probe_record.specs.Record.{outbound, ownWith, standing, held, dearestUntried, cheapestHeld}
 use Rattle.probe_record.proofs.SearchLaws.{dearest}
 use Rattle.probe_frame.specs.Frame.{Frame, frameOf, frameLine}

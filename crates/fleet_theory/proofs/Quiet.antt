@@ -15,7 +15,8 @@ use Rattle.range.proofs.Sums.{count-none, none-count}
 use Rattle.table.specs.Table.{Table, touches, spare, dearer}
 use Rattle.table.specs.Legal.{Legal}
 use Rattle.plan_theory.proofs.Plan.{at-end}
-use Rattle.plan_theory.proofs.Settled.{Across, up, down, back}
+use Rattle.plan_theory.proofs.Settled.{back}
+use Rattle.plan_theory.specs.Criterion.{Across, up, down}
 use Rattle.probe_record.specs.Record.{outbound, ownWith, standing, dearestUntried}
 use Rattle.probe_record.proofs.SearchLaws.{dearest}
 use Rattle.probe_frame.specs.Frame.{Frame, frameOf}

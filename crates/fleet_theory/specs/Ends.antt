@@ -19,7 +19,8 @@ use Rattle.probe.specs.declared.Kind.{Kind}
 use Rattle.probe.specs.declared.Asked.{Asked}
 use Rattle.probe.specs.declared.Asked.the-variants.{Written}
 use Rattle.probe_checks.specs.Checks.{hearFault, openFault, linkCallFault}
-use Rattle.probe.specs.Answers.{Befallen, Asks, askedEvent, askedFrame, askedLine, lentFault}
+use Rattle.probe.specs.Answers.{Befallen, Asks, askedEvent, askedFrame, askedLine}
+use Rattle.table.specs.Legal.{lentFault}
 use Rattle.fleet_theory.specs.Fleet.{State, start, own, faultOf, answerTo, next, run}
 use Rattle.table.specs.Slices.{Slices, tableOf, slicesFault}
 use Rattle.fleet_theory.specs.Demand3.{IsFrame, MaySend}
@@ -73,5 +74,5 @@ module _ (x : Slices) (room : ℕ) (ls : List (List ℕ)) where
         → (sendable (askedEvent k i) (ownBytes p xs) ≡ true) ↔ MaySend t (stateAfter xs .bytes) (askedFrame t p k i)
     pub asked-writes : (xs ys : List (List ℕ)) → ls ≡ xs ++ ys → (k : Kind) (p i : ℕ) → OwnLink t p i
         → (out : List ℕ) → 15 ≤ length out → (r : Asked) (out′ : List ℕ)
-        → Asks (orElse (lentFault (length out)) (linkCallFault (slicesFault x) t p (ownBytes p xs) i)) t p k i (ownBytes p xs) r out out′
+        → Asks (orElse (lentFault (length out) 15) (linkCallFault (slicesFault x) t p (ownBytes p xs) i)) t p k i (ownBytes p xs) r out out′
         → ((r ≡ Written) × (out′ ≡ sets out 0 (askedLine t p k i))) ↔ MaySend t (stateAfter xs .bytes) (askedFrame t p k i)

@@ -28,7 +28,7 @@ m4 = slices (0 ∷ 0 ∷ []) (0 ∷ []) (1 ∷ []) (7 ∷ [])
 abbrev pub line : ℕ → ℕ → ℕ → List ℕ
 line kind from to = frameLine record { kind = kind; number = 1; from = from; to = to }
 
--- "Kind 01 is an offerLine, 02 a refusalFrame; .. 00, an openingLine, with from and to the same probe"
+-- "Kind 01 is an offer, 02 a refusal; .. 00, an opening, with from and to the same probe"
 abbrev pub openingLine : ℕ → List ℕ
 openingLine p = line 0 p p
 
@@ -76,7 +76,7 @@ m4-lines = openingLine 0 ∷ offerLine 0 1 ∷ openingLine 1 ∷ offerLine 1 0 �
 abbrev pub m4-entries : List Entry
 m4-entries = entry 0 (what.Opened 0) ∷ entry 1 (what.Taken 0) ∷ entry 1 (what.Opened 0) ∷ entry 0 (what.Taken 0) ∷ []
 
--- lines turned down by their refusalFrame alone, on M2: fresh, or after M11
+-- lines turned down by their refusal alone, on M2: fresh, or after M11
 pub record LineRefusals : Type 0 where
   pub cut-line : answerTo m2 1024 (start m2) (take 14 (openingLine 0)) ≡ Refused 1
   pub capital-digit : answerTo m2 1024 (start m2) (take 13 (openingLine 0) ++ (65 ∷ 10 ∷ [])) ≡ Refused 2

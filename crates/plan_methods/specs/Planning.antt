@@ -3,7 +3,7 @@ use Prim.Native.Nat.{ℕ, _*_}
 use mathlib.Core.Path.{_≡_}
 use mathlib.Core.Bool.{cond}
 use mathlib.Core.List.{List}
-use lib.Dec.{ltb, eqb}
+use lib.Dec.{eqb}
 use lib.ListN.{length, replicate}
 use Rattle.range.specs.First.{orElse}
 use Rattle.range.specs.Lists.{stored}
@@ -13,10 +13,7 @@ use Rattle.plan_theory.specs.Plan.{kept, keptCount, costOf}
 use Rattle.plan_slse.specs.FromDearest.{planByte}
 use Rattle.plan_methods.specs.declared.Planning.{Planning}
 use Rattle.plan_methods.specs.declared.Planning.the-variants.{Plan, Refused}
-
--- 8 for a lent slice shorter than it must be
-abbrev pub lentFault : ℕ → ℕ → ℕ
-lentFault lent needed = cond (ltb lent needed) 8 0
+use Rattle.table.specs.Legal.{lentFault}
 
 -- 8 for the plan, then the faults of the table's slices; `plan` is the length of the lent plan
 abbrev pub planFault : ℕ → ℕ → ℕ → ℕ → ℕ → List ℕ → List ℕ → List ℕ → List ℕ → ℕ → ℕ

@@ -4,7 +4,7 @@ use mathlib.Core.Bool.{Bool, _&&_, _||_}
 use mathlib.Core.List.{List}
 use lib.Dec.{ltb}
 use Rattle.table.specs.Table.{item}
-use Rattle.table.proofs.DegreeLaws.{changedAt}
+use Rattle.range.specs.Lists.{changedAt}
 
 -- an end has fewer links than it needs
 abbrev pub eitherShort : List ℕ → List ℕ → ℕ → ℕ → Bool

@@ -15,7 +15,8 @@ use Rattle.plan_theory.specs.Plan.{linksAt, rested, kept, costOf, Meets}
 use Rattle.plan_theory.proofs.Places.{Order, opposite, Last, last, all-before}
 use Rattle.plan_theory.proofs.Order.{dearer-order, Dear, dear, on-dear}
 use Rattle.table.specs.Legal.{LegalTable}
-use Rattle.plan_theory.proofs.Plan.{dearerAt, UnderSpare, at-split, at-both, touches-low, touches-high, plan-criterion, rested-fits}
+use Rattle.plan_theory.proofs.Plan.{at-split, at-both, touches-low, touches-high, plan-criterion, rested-fits}
+use Rattle.plan_theory.specs.Criterion.{dearerAt, UnderSpare}
 
 -- outside the choice, no probe has more links than its spare
 abbrev pub WithinSpare : Table → (ℕ → Bool) → Type 0

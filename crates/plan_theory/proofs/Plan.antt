@@ -16,17 +16,7 @@ use Rattle.plan_theory.proofs.Places.{bounded}
 use Rattle.plan_theory.proofs.Pass.{OnlyBelow, Solves, criterion, only-pass}
 use Rattle.plan_theory.proofs.Order.{dearer-order}
 use Rattle.table.proofs.LegalLaws.{legal-table}
-
--- how many links of r at v are dearer than i
-abbrev pub dearerAt : Table → (ℕ → Bool) → ℕ → ℕ → ℕ
-dearerAt t r i v = linksAt t (λ g. dearer t g i && r g) v
-
--- fewer than the spare of v
-abbrev pub UnderSpare : Table → (ℕ → Bool) → ℕ → ℕ → Type 0
-UnderSpare t r i v = dearerAt t r i v < spare t v
-
-abbrev pub Criterion : Table → (ℕ → Bool) → Type 0
-Criterion t r = (i : ℕ) → i < t .links → (r i ≡ true) ↔ (UnderSpare t r i (t .low i) × UnderSpare t r i (t .high i))
+use Rattle.plan_theory.specs.Criterion.{UnderSpare, Criterion}
 
 module _ (t : Table) where
   -- sets with the same links have as many at v

@@ -12,21 +12,8 @@ use Rattle.plan_theory.specs.Plan.{linksAt, rested}
 use Rattle.plan_theory.proofs.Places.{Order, place-lt}
 use Rattle.plan_theory.proofs.Order.{dearer-order}
 use Rattle.table.specs.Legal.{RisingLinks}
-use Rattle.plan_theory.proofs.Plan.{dearerAt, UnderSpare, at-end, touches-low, touches-high, plan-criterion, rested-at}
-
--- a link from one of its ends to the other
-pub data Across (t : Table) (i : ℕ) : ℕ → ℕ → Type 0 where
-  up : Across t i (t .low i) (t .high i)
-  down : Across t i (t .high i) (t .low i)
-
--- `stand u i`: the offer of u on the link i stands. `held w i`: w holds the other end's offer on i.
-pub record Settled (t : Table) (stand held : ℕ → ℕ → Bool) : Type 0 where
-  pub same : (i u w : ℕ) → i < t .links → Across t i u w → stand u i ≡ held w i
-  pub standing : (v : ℕ) → linksAt t (stand v) v ≤ spare t v
-  pub holding : (v : ℕ) → linksAt t (held v) v ≤ spare t v
-  -- an offer that does not stand: its maker has its spare of dearer ones standing, or the other end holds its spare of dearer ones
-  pub explained : (i u w : ℕ) → i < t .links → Across t i u w → stand u i ≡ false
-      → (spare t u ≤ dearerAt t (stand u) i u) ⊎ (spare t w ≤ dearerAt t (held w) i w)
+use Rattle.plan_theory.proofs.Plan.{at-end, touches-low, touches-high, plan-criterion, rested-at}
+use Rattle.plan_theory.specs.Criterion.{dearerAt, UnderSpare, Settled, Across, up, down}
 
 pub near : {t : Table} {i u w : ℕ} → Across t i u w → touches t u i ≡ true
 near {t} {i} up = touches-low t i

@@ -1,3 +1,4 @@
 pub mod Pass
 pub mod Plan
+pub mod Criterion
 pub mod Sites

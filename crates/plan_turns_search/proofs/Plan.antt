@@ -21,8 +21,8 @@ use Rattle.range.specs.First.{first}
 use Rattle.plan_theory.specs.Plan.{linksAt, rested, kept}
 use Rattle.plan_theory.proofs.Order.{dear, on-dear, Dear}
 use Rattle.table.proofs.LegalLaws.{legal-table}
-use Rattle.plan_theory.proofs.Plan.{dearerAt}
-use Rattle.plan_theory.proofs.Settled.{Across, up, down, Settled, settled-is-plan}
+use Rattle.plan_theory.specs.Criterion.{dearerAt, Across, up, down, Settled}
+use Rattle.plan_theory.proofs.Settled.{settled-is-plan}
 use Rattle.plan_turns_search.specs.Record.{atSource, atTarget, endOf, keyOf, siteOf, keptByte, SiteInSlices, Over}
 use Rattle.plan_turns_search.specs.Offers.{Site, on, WouldRefuse}
 use Rattle.plan_turns_search.proofs.Offers.{explained}

@@ -3,7 +3,7 @@ use Prim.Native.Nat.{ℕ}
 use mathlib.Core.Path.{_≡_}
 use mathlib.Core.Bool.{Bool, cond, _&&_}
 use mathlib.Core.List.{List}
-use lib.Dec.{ltb, eqb}
+use lib.Dec.{eqb}
 use lib.Seq.{sets}
 use Rattle.table.specs.Table.{Table, other}
 use Rattle.probe_frame.specs.Frame.{Frame, frameLine}
@@ -32,10 +32,6 @@ kindOf kind.Refusal = 2
 abbrev pub askedEvent : Kind → ℕ → Event
 askedEvent kind.Offer i = Offer i
 askedEvent kind.Refusal i = Refusal i
-
--- 8 for a lent slice shorter than a frame's line
-abbrev pub lentFault : ℕ → ℕ
-lentFault lent = cond (ltb lent 15) 8 0
 
 -- the frame from the probe p on the link i, and its line
 abbrev pub askedFrame : Table → ℕ → Kind → ℕ → Frame

@@ -9,7 +9,8 @@ ghost use Rattle.probe_rules.specs.declared.Event.the-variants.{Opening};
 ghost use Rattle.probe_rules.specs.Rules.{rests};
 ghost use Rattle.probe_rules.specs.Frames.{heardOf};
 ghost use Rattle.probe_checks.specs.Checks.{hearFault, openFault, linkCallFault};
-ghost use Rattle.probe.specs.Answers.{Befallen, Asks, lentFault, restingOf};
+ghost use Rattle.probe.specs.Answers.{Befallen, Asks, restingOf};
+ghost use Rattle.table.specs.Legal.{lentFault};
 
 pub mod steps;
 
@@ -147,7 +148,7 @@ pub fn ask(
     out: &mut [u8],
 ) -> Asked
     ensures { λ r. ⌜ Asks
-        (orElse (lentFault (length (now (out .entry)))) (linkCallFault (sliceFault 256 2048 (slicesOf number probes links (now (needs .entry)) (now (lows .entry)) (now (highs .entry)) (now (costs .entry))))
+        (orElse (lentFault (length (now (out .entry))) 15) (linkCallFault (sliceFault 256 2048 (slicesOf number probes links (now (needs .entry)) (now (lows .entry)) (now (highs .entry)) (now (costs .entry))))
         (ofSlices number probes links (now (needs .entry)) (now (lows .entry)) (now (highs .entry)) (now (costs .entry))) probe (now (rec .entry)) link))
         (ofSlices number probes links (now (needs .entry)) (now (lows .entry)) (now (highs .entry)) (now (costs .entry))) probe kind link (now (rec .entry))
         r (now (out .entry)) (now (out .exit)) ⌝ }

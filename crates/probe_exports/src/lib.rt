@@ -10,7 +10,8 @@ ghost use Rattle.probe_rules.specs.Rules.{rests};
 ghost use Rattle.probe_rules.specs.Frames.{heardOf};
 ghost use Rattle.probe.specs.declared.Kind.the-variants.{Offer, Refusal};
 ghost use Rattle.probe_checks.specs.Checks.{hearFault, openFault, linkCallFault};
-ghost use Rattle.probe.specs.Answers.{lentFault, restingOf};
+ghost use Rattle.probe.specs.Answers.{restingOf};
+ghost use Rattle.table.specs.Legal.{lentFault};
 ghost use Rattle.probe_exports.specs.Packed.{packedResting, BefallenPacked, AsksPacked, packedAsked};
 use packed_answers::packed_answer;
 use probe::Asked;
@@ -128,7 +129,7 @@ pub extern "C" fn planner_probe_ask_offer(
     out: &mut [u8],
 ) -> u64
     ensures { λ r. ⌜ AsksPacked
-        (orElse (lentFault (length (now (out .entry)))) (linkCallFault (sliceFault 256 2048 (slicesOf number probes links (now (needs .entry)) (now (lows .entry)) (now (highs .entry)) (now (costs .entry))))
+        (orElse (lentFault (length (now (out .entry))) 15) (linkCallFault (sliceFault 256 2048 (slicesOf number probes links (now (needs .entry)) (now (lows .entry)) (now (highs .entry)) (now (costs .entry))))
         (ofSlices number probes links (now (needs .entry)) (now (lows .entry)) (now (highs .entry)) (now (costs .entry))) probe (now (rec .entry)) link))
         (ofSlices number probes links (now (needs .entry)) (now (lows .entry)) (now (highs .entry)) (now (costs .entry))) probe Offer link (now (rec .entry))
         r (now (out .entry)) (now (out .exit)) ⌝ }
@@ -165,7 +166,7 @@ pub extern "C" fn planner_probe_ask_refusal(
     out: &mut [u8],
 ) -> u64
     ensures { λ r. ⌜ AsksPacked
-        (orElse (lentFault (length (now (out .entry)))) (linkCallFault (sliceFault 256 2048 (slicesOf number probes links (now (needs .entry)) (now (lows .entry)) (now (highs .entry)) (now (costs .entry))))
+        (orElse (lentFault (length (now (out .entry))) 15) (linkCallFault (sliceFault 256 2048 (slicesOf number probes links (now (needs .entry)) (now (lows .entry)) (now (highs .entry)) (now (costs .entry))))
         (ofSlices number probes links (now (needs .entry)) (now (lows .entry)) (now (highs .entry)) (now (costs .entry))) probe (now (rec .entry)) link))
         (ofSlices number probes links (now (needs .entry)) (now (lows .entry)) (now (highs .entry)) (now (costs .entry))) probe Refusal link (now (rec .entry))
         r (now (out .entry)) (now (out .exit)) ⌝ }

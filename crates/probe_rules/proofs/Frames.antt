@@ -12,7 +12,7 @@ use Rattle.range.proofs.Choice.{lowest-is, is-lowest}
 use Rattle.table.specs.Table.{Table, touches, other, joins, between}
 use Rattle.table.specs.Legal.{Legal, After, LegalTable}
 use Rattle.table.proofs.LegalLaws.{legal-table}
-use Rattle.plan_theory.proofs.Settled.{Across, up, down}
+use Rattle.plan_theory.specs.Criterion.{Across, up, down}
 use Rattle.probe_frame.proofs.Laws.{Writable}
 
 pub joins-across : (t : Table) (a b i : ℕ) → joins t a b i ≡ true → Across t i a b

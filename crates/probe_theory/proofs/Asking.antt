@@ -14,7 +14,7 @@ use Rattle.range.proofs.Bools.{and-left, when-none, decided}
 use Rattle.range.proofs.Faults.{or-left, or-none}
 use Rattle.range.proofs.Sets.{sets-start}
 use Rattle.table.specs.Table.{Table, other, between}
-use Rattle.table.specs.Legal.{Legal}
+use Rattle.table.specs.Legal.{Legal, lentFault}
 use Rattle.probe_frame.specs.Frame.{Frame, frameOf, frameFault}
 use Rattle.probe_frame.proofs.Laws.{Writable, length-frame, line-passes, line-says}
 use Rattle.probe_rules.specs.Rules.{sendable}
@@ -25,7 +25,7 @@ use Rattle.probe.specs.declared.Kind.{Kind}
 use Rattle.probe.specs.declared.Kind.the-variants as kind
 use Rattle.probe.specs.declared.Asked.{Asked}
 use Rattle.probe_checks.specs.Checks.{frameKindFault, toFault, heardFault}
-use Rattle.probe.specs.Answers.{Asks, kindOf, askedEvent, askedFrame, askedLine, lentFault}
+use Rattle.probe.specs.Answers.{Asks, kindOf, askedEvent, askedFrame, askedLine}
 use Rattle.probe.proofs.Calls.{asked-event}
 
 -- a list stored twice at the start
@@ -39,7 +39,7 @@ sets-again l xs fits =
 
 module _ (t : Table) (p : ℕ) (k : Kind) (i : ℕ) (e : List ℕ) (rest : ℕ) where
   abbrev fault : List ℕ → ℕ
-  fault out = orElse (lentFault (length out)) rest
+  fault out = orElse (lentFault (length out) 15) rest
 
   abbrev may : Bool
   may = sendable (askedEvent k i) e
@@ -59,13 +59,13 @@ module _ (t : Table) (p : ℕ) (k : Kind) (i : ℕ) (e : List ℕ) (rest : ℕ) 
       go false = refl
 
   lent-again : (out : List ℕ) → lent (lent out) ≡ lent out
-  lent-again out = ap (λ n. cond (eqb (orElse (lentFault n) rest) 0 && may) (sets (lent out) 0 line) (lent out)) (same-length out) ∙ go (decided (eqb (fault out) 0 && may))
+  lent-again out = ap (λ n. cond (eqb (orElse (lentFault n 15) rest) 0 && may) (sets (lent out) 0 line) (lent out)) (same-length out) ∙ go (decided (eqb (fault out) 0 && may))
     where
       go : ((eqb (fault out) 0 && may) ≡ true) ⊎ ((eqb (fault out) 0 && may) ≡ false)
           → cond (eqb (fault out) 0 && may) (sets (lent out) 0 line) (lent out) ≡ lent out
       go (inl a) =
           let none = eqb-true (fault out) 0 (and-left (eqb (fault out) 0) may a) in
-          let room = ltb-false (length out) 15 (when-none (ltb (length out) 15) 7 (or-left (lentFault (length out)) rest none)) in
+          let room = ltb-false (length out) 15 (when-none (ltb (length out) 15) 7 (or-left (lentFault (length out) 15) rest none)) in
           let n = length-frame (askedFrame t p k i) in
           rw a (sets-again out line (omega arith))
       go (inr a) = rw a refl

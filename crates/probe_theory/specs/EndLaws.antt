@@ -18,7 +18,8 @@ use Rattle.probe_rules.specs.Within.{OwnLink, OwnEvent}
 use Rattle.probe.specs.declared.Kind.{Kind}
 use Rattle.probe.specs.declared.Asked.{Asked}
 use Rattle.probe_checks.specs.Checks.{heardFault, linkCallFault}
-use Rattle.probe.specs.Answers.{Asks, askedEvent, askedFrame, askedLine, lentFault}
+use Rattle.probe.specs.Answers.{Asks, askedEvent, askedFrame, askedLine}
+use Rattle.table.specs.Legal.{lentFault}
 
 -- "A change is one byte altered": how many of the first n links have an outbound, and an inbound, byte that differs
 abbrev pub byteChanged : (List ℕ → ℕ → ℕ) → List ℕ → List ℕ → ℕ → Bool
@@ -53,8 +54,8 @@ module _ (t : Table) (p : ℕ) where
     pub stays-usable : (event : Event) (e : List ℕ) → recordFault t p e ≡ 0 → OwnEvent t p event → recordFault t p (after event e) ≡ 0
     -- "as often as wished": asked again, an end answers and writes the same
     pub asked-again : (k : Kind) (i slices : ℕ) (e : List ℕ) (r r′ : Asked) (out out′ out″ : List ℕ)
-        → Asks (orElse (lentFault (length out)) (linkCallFault slices t p e i)) t p k i e r out out′
-        → Asks (orElse (lentFault (length out′)) (linkCallFault slices t p e i)) t p k i e r′ out′ out″ → (r′ ≡ r) × (out″ ≡ out′)
+        → Asks (orElse (lentFault (length out) 15) (linkCallFault slices t p e i)) t p k i e r out out′
+        → Asks (orElse (lentFault (length out′) 15) (linkCallFault slices t p e i)) t p k i e r′ out′ out″ → (r′ ≡ r) × (out″ ≡ out′)
     -- the line says the frame; the other end does not turn it down, and hears what was asked for
     pub line-says : t .number < 65536 → (k : Kind) (i : ℕ) → OwnLink t p i → frameOf (askedLine t p k i) ≡ askedFrame t p k i
     pub line-passes : t .number < 65536 → (k : Kind) (i : ℕ) → OwnLink t p i → heardFault t (other t p i) (askedLine t p k i) ≡ 0

@@ -7,16 +7,13 @@ use native.Mathlib.Omega.{arith}
 use native.Mathlib.Numerals.{add-one}
 use native.Mathlib.Decide.{ℕ-discrete}
 use lib.Dec.{eqb}
-use lib.ListN.{length, getD, set, length-set}
+use lib.ListN.{length, getD, length-set}
 use lib.Seq.{getD-set-same, getD-set-other}
 use borrow.Author.Tests.{eq-eqb, ne-eqb}
 use Rattle.range.specs.Sum.{sum, count}
+use Rattle.range.specs.Lists.{changedAt}
 
--- d with the entry at v changedAt by f
-abbrev pub changedAt : (ℕ → ℕ) → List ℕ → ℕ → List ℕ
-changedAt f d v = set d v (f (getD d v 0))
-
--- d with the entries at the two ends of a link changedAt
+-- d with the entries at the two ends of a link changed
 pub ends-changed : (f : ℕ → ℕ) (d : List ℕ) (l h : ℕ) → l < length d → h < length d → l < h → (v : ℕ)
     → getD (changedAt f (changedAt f d l) h) v 0 ≡ cond (eqb v l || eqb v h) (f (getD d v 0)) (getD d v 0)
 ends-changed f d l h inl inh rises v = go (ℕ-discrete v l) (ℕ-discrete v h)

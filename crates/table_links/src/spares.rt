@@ -1,8 +1,8 @@
-// An end's record: its links and its bytes counted. The ends and the fleet call these, within the bounds that they ask.
+// A probe's number of links and its spare. The plan, the ends and the fleet call these, within the bounds that they ask.
 use super::ends::touches;
 ghost use mathlib.Core.Path.{_≡_};
 ghost use mathlib.Core.List.{[]};
-ghost use Prim.Native.Nat.{_<_, _≤_};
+ghost use Prim.Native.Nat.{_-_, _≤_};
 ghost use lib.ListN.{length};
 ghost use Rattle.table.specs.Table.{item, ofSlices, degree, spare};
 
@@ -24,24 +24,24 @@ fn degree(links: usize, lows: &[u16], highs: &[u16], probe: usize) -> usize
     n
 }
 
-// The probe's need; a probe past the needs has none.
-fn need(needs: &[u16], probe: usize) -> usize
-    ensures { λ r. ⌜ r ≡ item (now (needs .entry)) probe ⌝ }
+// A probe's spare, by its number of links; a probe past the needs needs none.
+pub fn spare_of(degree: usize, needs: &[u16], probe: usize) -> usize
+    ensures { λ r. ⌜ r ≡ degree - item (now (needs .entry)) probe ⌝ }
 {
     if needs.len() <= probe {
+        return degree;
+    }
+    let need = table::numbers::wide(needs[probe]);
+    if degree < need {
         return 0;
     }
-    table::numbers::wide(needs[probe])
+    degree - need
 }
 
+// A probe's spare.
 pub fn spare(links: usize, needs: &[u16], lows: &[u16], highs: &[u16], probe: usize) -> usize
     requires { ⌜ (links ≤ length (now lows)) × (links ≤ length (now highs)) ⌝ }
     ensures { λ r. ⌜ r ≡ spare (ofSlices 0 0 links (now (needs .entry)) (now (lows .entry)) (now (highs .entry)) []) probe ⌝ }
 {
-    let links_of = degree(links, lows, highs, probe);
-    let needed = need(needs, probe);
-    if links_of < needed {
-        return 0;
-    }
-    links_of - needed
+    spare_of(degree(links, lows, highs, probe), needs, probe)
 }

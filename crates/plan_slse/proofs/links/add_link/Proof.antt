@@ -8,7 +8,7 @@ use native.Mathlib.Omega.{arith}
 use lib.ListN.{length, getD, length-set}
 use lib.Seq.{getD-set-other}
 use borrow.Author.Tests.{not-true, not-false}
-use Rattle.table.proofs.DegreeLaws.{changedAt}
+use Rattle.range.specs.Lists.{changedAt}
 
 either-short-requires : tie.Need-either-short-requires
 either-short-requires c κs = search needs

@@ -11,7 +11,7 @@ use lib.Seq.{getD-set-other}
 use borrow.Author.Tests.{not-true, not-false, eq-eqb, ne-eqb, ltb-true}
 use Rattle.range.proofs.Bools.{and-left, and-right}
 use Rattle.table.specs.Table.{item}
-use Rattle.table.proofs.DegreeLaws.{changedAt}
+use Rattle.range.specs.Lists.{changedAt}
 
 slice-read-if1 : tie.Need-slice-read-if1
 slice-read-if1 c = search needs

@@ -1,7 +1,7 @@
--- `fleet_rules::decisions::spare_of` meets its contract.
+-- `table_links::spares::spare_of` meets its contract.
 use borrow.Author.Needs.{needs}
-use Rattle.fleet_rules.proofs.decisions.spare_of.Statement.{statement}
-use Rattle.fleet_rules.proofs.decisions.spare_of.Tie as tie
+use Rattle.table_links.proofs.spares.spare_of.Statement.{statement}
+use Rattle.table_links.proofs.spares.spare_of.Tie as tie
 use native.Mathlib.Omega.{arith}
 use lib.ListN.{List·getD-eq-default}
 
