@@ -1,7 +1,7 @@
 //! Public functions ask nothing of their caller, and each states its result.
 
-use std::fs::{read_dir, read_to_string};
-use std::path::Path;
+use planner_tests::repository::{text, top};
+use std::fs::read_dir;
 
 /// The functions with a `pub` at the root of a crate, each up to its body.
 fn public_functions(root: &str) -> Vec<&str> {
@@ -19,14 +19,13 @@ fn public_functions(root: &str) -> Vec<&str> {
 
 #[test]
 fn public_functions_ask_nothing_and_state_their_result() {
-    let crates = Path::new(env!("CARGO_MANIFEST_DIR")).join("../crates");
     let (mut seen, mut bad) = (0, Vec::new());
-    for folder in read_dir(crates).expect("the crates") {
+    for folder in read_dir(top().join("crates")).expect("the crates") {
         let path = folder.expect("a crate").path().join("src/lib.rt");
         if !path.exists() {
             continue; // a program
         }
-        let root = read_to_string(path).expect("a crate's root");
+        let root = text(&path);
         for head in public_functions(&root) {
             let clause = |word: &str| head.contains(&format!("\n    {word} {{"));
             if clause("requires") || !clause("ensures") {

@@ -1,58 +1,8 @@
 //! The documents say what stands in the repository: imports, layers, claims, must-fail edits.
 
+use planner_tests::repository::{document, files, quoted, rows, text, top};
 use std::collections::{BTreeMap, BTreeSet};
-use std::fs::{read_dir, read_to_string};
-use std::path::{Path, PathBuf};
-
-fn top() -> PathBuf {
-    Path::new(env!("CARGO_MANIFEST_DIR")).join("..")
-}
-
-fn text(path: &Path) -> String {
-    read_to_string(path).unwrap_or_else(|e| panic!("{}: {e}", path.display()))
-}
-
-fn document(path: &str) -> String {
-    text(&top().join(path))
-}
-
-/// The files at or below a path that end in one of the suffixes.
-fn files(path: &Path, suffixes: &[&str]) -> Vec<PathBuf> {
-    if path.is_dir() {
-        let entries = read_dir(path).expect("a folder that can be read");
-        let paths = entries.map(|entry| entry.expect("an entry").path());
-        return paths.flat_map(|path| files(&path, suffixes)).collect();
-    }
-    let name = path.to_string_lossy();
-    let wanted = suffixes.iter().any(|suffix| name.ends_with(suffix));
-    Vec::from_iter(wanted.then(|| path.to_owned()))
-}
-
-/// What stands between backticks.
-fn quoted(text: &str) -> impl Iterator<Item = &str> {
-    text.split('`').skip(1).step_by(2)
-}
-
-/// The cells of each row of the tables below a heading, without the tables' own headings.
-fn rows<'a>(text: &'a str, heading: &str) -> Vec<Vec<&'a str>> {
-    let start = text.find(heading).expect("the heading") + heading.len();
-    let part = text[start..].split("\n## ").next().expect("a part");
-    let lines: Vec<&str> = part.lines().collect();
-    let below = |i: &usize| {
-        !lines
-            .get(i + 1)
-            .is_some_and(|next| next.starts_with("|---"))
-    };
-    let row = |i: &usize| lines[*i].starts_with("| ") && below(i);
-    let cells = |i: usize| {
-        lines[i]
-            .trim_matches('|')
-            .split(" | ")
-            .map(str::trim)
-            .collect()
-    };
-    (0..lines.len()).filter(row).map(cells).collect()
-}
+use std::path::Path;
 
 /// Each crate with the crates of the repository that its line in crates.txt has.
 fn listed() -> BTreeMap<String, BTreeSet<String>> {

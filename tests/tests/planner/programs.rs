@@ -4,28 +4,18 @@ use planner_tests::channel::{any_mix, any_script, opening};
 use planner_tests::events::any_table;
 use planner_tests::random::Random;
 use planner_tests::reference::{plan_output, table_of_text, Behind, Table};
+use planner_tests::repository::{program, top};
 use planner_tests::samples::{self, input, M11, M11_PRINTED, M4, M4_PRINTED};
 use planner_tests::script;
 use planner_tests::sites::{damage_text, legal_of_size, marked, M2};
-use std::env;
 use std::fs;
 use std::io::{stderr, ErrorKind, Read, Write};
-use std::path::{Path, PathBuf};
 use std::process::{Child, ChildStdin, Command, Stdio};
 use std::thread::{self, JoinHandle};
 use std::time::Duration;
 
 /// What a program may use of memory at the most, in KiB, whatever the length of its input.
 const MOST_MEMORY: usize = 8 * 1024;
-
-fn path_of(name: &str) -> PathBuf {
-    match env::var_os("PLANNER_BIN_DIR") {
-        Some(folder) => Path::new(&folder).join(name),
-        None => Path::new(env!("CARGO_MANIFEST_DIR"))
-            .join("../target/bin")
-            .join(name),
-    }
-}
 
 /// A program under way; a thread reads what it prints.
 struct Program {
@@ -36,7 +26,7 @@ struct Program {
 
 impl Program {
     fn start(name: &str) -> Program {
-        Program::of(Command::new(path_of(name)))
+        Program::of(Command::new(program(name)))
     }
 
     fn of(mut command: Command) -> Program {
@@ -113,7 +103,7 @@ fn compare_plan(input: &[u8], sizes: &[usize]) {
 
 /// A file of the repository.
 fn file(path: &str) -> Vec<u8> {
-    let path = Path::new(env!("CARGO_MANIFEST_DIR")).join("..").join(path);
+    let path = top().join(path);
     fs::read(&path).unwrap_or_else(|error| panic!("{}: {error}", path.display()))
 }
 
@@ -136,7 +126,7 @@ fn samples() {
 /// Every example, through both programs.
 #[test]
 fn examples() {
-    let folder = Path::new(env!("CARGO_MANIFEST_DIR")).join("../examples");
+    let folder = top().join("examples");
     let (mut tables, mut scripts) = (0, 0);
     for entry in fs::read_dir(folder).expect("the examples") {
         let path = entry.expect("an example").path();
@@ -313,7 +303,7 @@ fn run_checked(name: &str, input: &[u8]) -> Vec<u8> {
     let mut command = Command::new("valgrind");
     command.args(["-q", "--error-exitcode=9", "--leak-check=full"]);
     command.args(["--errors-for-leak-kinds=all", "--"]);
-    command.arg(path_of(name));
+    command.arg(program(name));
     let mut program = Program::of(command);
     program.feed(input);
     program.finish()
