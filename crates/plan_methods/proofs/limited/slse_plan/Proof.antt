@@ -34,13 +34,12 @@ plan-in-order-requires c κs =
     let r = room-good (a .probes) (a .links) (length (a .needs .now)) (length (a .lows .now)) (length (a .highs .now)) (length (a .costs .now)) (s .pre .2) in
     let o = c .before .before .before .order-links .ensures in
     let long = c .before .before .before .order-links .kept .0 in (
-      s .pre .0,
+      (s .pre .0, λ k l. (o .below k l, place-later t (legal-table 256 2048 t (s .pre .0) .order) _ (o .below k l) ∙ o .placed k l)),
       s .pre .1,
       omega arith,
       r .needed,
       r .linked,
       omega arith,
-      λ k l. (o .below k l, place-later t (legal-table 256 2048 t (s .pre .0) .order) _ (o .below k l) ∙ o .placed k l),
     )
 
 same-length : tie.Need-same-length
