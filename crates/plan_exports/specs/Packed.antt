@@ -1,5 +1,5 @@
 -- What the planners for C and Rust promise: the answer as one number, and the lent slices as the functions that are called leave them.
--- A refusal is its number; any other answer is 2 ^ 48 or more.
+-- A refusal is its number; any other answer is `answerBase` or more.
 use Prim.Native.Nat.{ℕ, _+_, _*_, _^_}
 use mathlib.Core.Path.{_≡_}
 use mathlib.Core.List.{List}
@@ -8,10 +8,11 @@ use Rattle.table.specs.Slices.{Slices, tableOf}
 use Rattle.plan_methods.specs.Planning.{planFault, turnsFault, planningOf, PlansBySlse, PlansByTurns}
 use Rattle.plan_methods.specs.declared.Planning.{Planning}
 use Rattle.plan_methods.specs.declared.Planning.the-variants.{Plan, Refused as Unplanned}
+use Rattle.packed_answers.specs.Packed.{answerBase}
 
 -- the kept count, 16 bits, above the cost, 32 bits
 abbrev pub packedPlanning : Planning → ℕ
-packedPlanning (Plan kept cost) = 2 ^ 48 + kept * 2 ^ 32 + cost
+packedPlanning (Plan kept cost) = answerBase + kept * 2 ^ 32 + cost
 packedPlanning (Unplanned refusal) = refusal
 
 -- the answers of `plan_by_slse` and `plan_by_turns`

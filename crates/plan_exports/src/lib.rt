@@ -6,6 +6,7 @@ ghost use Rattle.plan_exports.specs.Packed.{SlsePacked, TurnsPacked, pac
 ghost use Rattle.output.specs.Output.{shortFault};
 ghost use Rattle.plan_output.specs.Output.{outputOf};
 ghost use Rattle.packed_answers.specs.Packed.{PrintsPacked};
+use packed_answers::ANSWER_BASE;
 use packed_answers::printed::packed_output;
 use plan_methods::Planning;
 use plan_methods::plan_by_slse;
@@ -15,9 +16,7 @@ fn packed_planning(r: Planning) -> u64
     ensures { λ n. ⌜ n ≡ packedPlanning r ⌝ }
 {
     match r {
-        Planning::Plan { kept, cost } => 281474976710656
-            + (kept as u64) * 4294967296
-            + (cost as u64),
+        Planning::Plan { kept, cost } => ANSWER_BASE + (kept as u64) * 4294967296 + (cost as u64),
         Planning::Refused(refusal) => refusal as u64,
     }
 }

@@ -1,5 +1,5 @@
 -- What the functions of the table for C and Rust promise: the answer as one number, and the lent slices as the functions that are called leave them.
--- A refusal is its number; any other answer is 2 ^ 48 or more.
+-- A refusal is its number; any other answer is `answerBase` or more.
 use Prim.Native.Nat.{ℕ, _+_, _*_, _^_}
 use mathlib.Core.Path.{_≡_}
 use mathlib.Core.Bool.{Bool}
@@ -13,14 +13,15 @@ use Rattle.table_read.specs.declared.Reading.{Reading}
 use Rattle.table_read.specs.declared.Reading.the-variants.{Table, Refused as Unread}
 use Rattle.table_write.specs.declared.Writing.{Writing}
 use Rattle.table_write.specs.declared.Writing.the-variants.{Length, Refused as Unwritten}
+use Rattle.packed_answers.specs.Packed.{answerBase}
 
 -- the table's number, probe count and link count, 16 bits each, the link count lowest
 abbrev pub packedReading : Reading → ℕ
-packedReading (Table number probes links rest) = 2 ^ 48 + number * 2 ^ 32 + probes * 2 ^ 16 + links
+packedReading (Table number probes links rest) = answerBase + number * 2 ^ 32 + probes * 2 ^ 16 + links
 packedReading (Unread refusal) = refusal
 
 abbrev pub packedWriting : Writing → ℕ
-packedWriting (Length length) = 2 ^ 48 + length
+packedWriting (Length length) = answerBase + length
 packedWriting (Unwritten refusal) = refusal
 
 -- the answers of `read_table` (with `more`: `read_table_prefix`) and `write_table`

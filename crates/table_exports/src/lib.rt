@@ -1,13 +1,15 @@
 // The library of tables for C and Rust: check, read, write.
 ghost use mathlib.Core.Path.{_≡_};
 ghost use mathlib.Core.Bool.{true, false};
-ghost use Prim.Native.Nat.{_+_, _*_, ℕ, _^_, _<_};
+ghost use Prim.Native.Nat.{_+_, _*_, ℕ, _<_};
 ghost use lib.ListN.{length};
 ghost use Rattle.table.specs.Slices.{slicesFault, slicesOf};
 ghost use Rattle.table.specs.Checking.{checkingOf, refusalOf};
 ghost use Rattle.table_read.specs.Reading.{lentOf};
+ghost use Rattle.packed_answers.specs.Packed.{answerBase};
 ghost use Rattle.table_exports.specs.Packed.{ReadsPacked, WritesPacked, packedReading, packedWriting};
 ghost use Rattle.table_write.specs.declared.Writing.the-variants.{Length};
+use packed_answers::ANSWER_BASE;
 use table::Checking;
 use table_read::Reading;
 use table_write::Writing;
@@ -31,20 +33,17 @@ fn packed_reading(r: Reading) -> u64
             probes,
             links,
             rest: _,
-        } => 281474976710656
-            + (number as u64) * 4294967296
-            + (probes as u64) * 65536
-            + (links as u64),
+        } => ANSWER_BASE + (number as u64) * 4294967296 + (probes as u64) * 65536 + (links as u64),
         Reading::Refused(refusal) => refusal as u64,
     }
 }
 
 fn packed_writing(r: Writing) -> u64
-    requires { ⌜ ((length : ℕ) → r ≡ Length length → length < 2 ^ 48) ⌝ }
+    requires { ⌜ ((length : ℕ) → r ≡ Length length → length < answerBase) ⌝ }
     ensures { λ n. ⌜ n ≡ packedWriting r ⌝ }
 {
     match r {
-        Writing::Length(length) => length as u64 + 281474976710656,
+        Writing::Length(length) => length as u64 + ANSWER_BASE,
         Writing::Refused(refusal) => refusal as u64,
     }
 }
