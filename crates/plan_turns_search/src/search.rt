@@ -72,11 +72,12 @@ pub fn cheapest(
     v: usize,
 ) -> usize
     requires { let x = siteSlicesOf links (now lows) (now highs) (now costs) (now spares) in
+        let held = holds (siteOf x) (atSource (now rec)) v in
         ⌜ OffersReady x (now rec) × MarksAgree x (now rec) (now marks) × UpChains x (now ups) × (v < length (now spares))
-        × (0 < holds (siteOf x) (atSource (now rec)) v) × (item (now spares) v ≤ holds (siteOf x) (atSource (now rec)) v) ⌝ }
+        × (0 < held) × (item (now spares) v ≤ held) ⌝ }
     ensures { λ r. let x = siteSlicesOf links (now (lows .entry)) (now (highs .entry)) (now (costs .entry)) (now (spares .entry)) in
-        ⌜ (Cheapest (siteOf x) (atSource (now (rec .entry))) v (opposite r))
-        × (HeldSearch (siteOf x) (atSource (now (rec .entry))) v r) ⌝ }
+        let offers = atSource (now (rec .entry)) in
+        ⌜ Cheapest (siteOf x) offers v (opposite r) × HeldSearch (siteOf x) offers v r ⌝ }
 {
     let mut f = entry(marks, 4 * v + HELD_CURSOR);
     while rec[2 * opposite(f) + 1] != 1 {
