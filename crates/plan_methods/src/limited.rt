@@ -45,7 +45,7 @@ pub fn slse_plan(
 {
     let mut order = [0u16; 2048];
     plan_order::sorting::order_links(&mut order, links, costs);
-    plan_slse::passes::plan_in_order(plan, probes, links, &order, needs, lows, highs, costs);
+    plan_slse::passes::plan_in_order(plan, links, &order, needs, lows, highs);
 }
 
 // The plan by S-LSE within the limits pmax and lmax, for a table of any number.

@@ -85,22 +85,18 @@ fn clear(plan: &mut [u8], links: usize)
     }
 }
 
-// The plan of a legal table, its links given in order.
+// The plan of every legal table of these links, whatever its probe count and costs, if this is their order.
 pub fn plan_in_order(
     plan: &mut [u8],
-    probes: usize,
     links: usize,
     order: &[u16],
     needs: &[u16],
     lows: &[u16],
     highs: &[u16],
-    costs: &[u16],
 )
-    requires { let t = ofSlices 0 probes links (now needs) (now lows) (now highs) (now costs) in
-        ⌜ InOrder t (now order) × (links ≤ length (now plan)) × (links ≤ length (now order))
-        × (probes ≤ length (now needs)) × (links ≤ length (now lows)) × (links ≤ length (now highs)) ⌝ }
-    ensures { λ _. let t = ofSlices 0 probes links (now (needs .entry)) (now (lows .entry)) (now (highs .entry)) (now (costs .entry)) in
-        ⌜ now (plan .exit) ≡ stored (λ j. planByte (kept t j)) links (now (plan .entry)) ⌝ }
+    requires { ⌜ OrderFits links 256 (length (now needs)) (now order) (now lows) (now highs) × (links ≤ length (now plan)) ⌝ }
+    ensures { λ _. ⌜ ((probes : ℕ) (costs : List ℕ) → let t = ofSlices 0 probes links (now (needs .entry)) (now (lows .entry)) (now (highs .entry)) costs in
+        InOrder t (now (order .entry)) → now (plan .exit) ≡ stored (λ j. planByte (kept t j)) links (now (plan .entry))) ⌝ }
 {
     let mut counts = [0u16; 256];
     clear(plan, links);
