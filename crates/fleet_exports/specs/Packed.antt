@@ -1,6 +1,6 @@
 -- What the functions of a fleet for C and Rust promise: the answer as one number, and the lent record as the functions that are called leave it.
--- A refusal is its number; any other answer is 2 ^ 48 or more.
-use Prim.Native.Nat.{ℕ, _+_, _^_}
+-- A refusal is its number; any other answer is `answerBase` or more.
+use Prim.Native.Nat.{ℕ, _+_}
 use mathlib.Core.Path.{_≡_}
 use mathlib.Core.Bool.{cond}
 use mathlib.Core.List.{List}
@@ -10,13 +10,13 @@ use Rattle.probe_frame.specs.Frame.{frameOf}
 use Rattle.fleet_theory.specs.Fleet.{eventFault, outcomeOf}
 use Rattle.table.specs.Slices.{Slices, tableOf}
 use Rattle.fleet.specs.Answers.{Handled}
-use Rattle.packed_answers.specs.Packed.{packedAnswer}
+use Rattle.packed_answers.specs.Packed.{answerBase, packedAnswer}
 use Rattle.fleet.specs.declared.Finishing.{Finishing}
 use Rattle.fleet.specs.declared.Finishing.the-variants.{Says, Refused as Unsaid}
 
 -- 1 where the fleet is finished
 abbrev pub packedFinishing : Finishing → ℕ
-packedFinishing (Says finished) = 2 ^ 48 + cond finished 1 0
+packedFinishing (Says finished) = answerBase + cond finished 1 0
 packedFinishing (Unsaid refusal) = refusal
 
 pub record HandledPacked (x : Slices) (used room : ℕ) (line : List ℕ) (r : ℕ) (before after : List ℕ) : Type 0 where

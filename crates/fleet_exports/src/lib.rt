@@ -6,6 +6,7 @@ ghost use Rattle.table.specs.Slices.{tableOf, slicesFault, slicesOf};
 ghost use Rattle.fleet.specs.Answers.{finishingOf};
 ghost use Rattle.fleet_exports.specs.Packed.{packedFinishing, HandledPacked};
 use fleet::Finishing;
+use packed_answers::ANSWER_BASE;
 use packed_answers::packed_answer;
 
 fn packed_finishing(r: Finishing) -> u64
@@ -14,9 +15,9 @@ fn packed_finishing(r: Finishing) -> u64
     match r {
         Finishing::Says(finished) => {
             if finished {
-                281474976710657
+                ANSWER_BASE + 1
             } else {
-                281474976710656
+                ANSWER_BASE
             }
         }
         Finishing::Refused(refusal) => refusal as u64,

@@ -67,7 +67,7 @@ fn spares_fault(
     let mut degrees = [0u16; 256];
     let mut standing = [0u16; 256];
     let mut held = [0u16; 256];
-    table::degrees::count_degrees(&mut degrees, probes, links, lows, highs);
+    table::degrees::count_degrees(&mut degrees, links, lows, highs);
     super::counts::count_bytes(&mut standing, rec, links, lows, highs, 0, 2, 1);
     super::counts::count_bytes(&mut held, rec, links, lows, highs, 3, 1, 1);
     counted_fault(probes, needs, &degrees, &standing, &held)

@@ -86,7 +86,7 @@ pub fn is_finished(
     let mut degrees = [0u16; 256];
     let mut standing = [0u16; 256];
     let mut untried = [0u16; 256];
-    table::degrees::count_degrees(&mut degrees, probes, links, lows, highs);
+    table::degrees::count_degrees(&mut degrees, links, lows, highs);
     super::counts::count_bytes(&mut standing, rec, links, lows, highs, 0, 2, 1);
     super::counts::count_bytes(&mut untried, rec, links, lows, highs, 0, 2, 0);
     none_opens(probes, needs, &degrees, &standing, &untried)

@@ -1,4 +1,4 @@
--- Answers as one number, for callers in other languages. A refusal is its number; any other answer is 2 ^ 48 or more.
+-- Answers as one number, for callers in other languages.
 use Prim.Native.Nat.{ℕ, _+_, _*_, _^_}
 use mathlib.Core.Path.{_≡_}
 use mathlib.Core.Bool.{cond}
@@ -12,13 +12,21 @@ use Rattle.wake_log.specs.declared.Answer.{Answer}
 use Rattle.wake_log.specs.declared.Answer.the-variants.{Logged, Refused as Unlogged}
 use Rattle.wake_log.specs.Entry.{codeOf, linkOf, displacedOf}
 
+-- a refusal is its number; any other answer is `answerBase` or more, an entry `entryBase` or more
+
+abbrev pub answerBase : ℕ
+answerBase = 2 ^ 48
+
+abbrev pub entryBase : ℕ
+entryBase = 2 ^ 63
+
 abbrev pub packedOutput : Output → ℕ
-packedOutput (Printed length) = 2 ^ 48 + length
+packedOutput (Printed length) = answerBase + length
 packedOutput (Unprinted refusal) = refusal
 
 -- an entry: the probe above its code, 8 bits, above the link's place and the displaced probe, 16 bits each
 abbrev pub packedAnswer : Answer → ℕ
-packedAnswer (Logged e) = 2 ^ 63 + e .probe * 2 ^ 40 + codeOf (e .what) * 2 ^ 32 + linkOf (e .what) * 2 ^ 16 + displacedOf (e .what)
+packedAnswer (Logged e) = entryBase + e .probe * 2 ^ 40 + codeOf (e .what) * 2 ^ 32 + linkOf (e .what) * 2 ^ 16 + displacedOf (e .what)
 packedAnswer (Unlogged refusal) = refusal
 
 -- the length of what is printed, or the refusal

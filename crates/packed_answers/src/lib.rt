@@ -5,13 +5,18 @@ use wake_log::Answer;
 
 pub mod printed;
 
+// A refusal is its number; any other answer is 2 to the 48th or more, and an entry 2 to the 63rd or more.
+pub const ANSWER_BASE: u64 = 281474976710656;
+
+pub const ENTRY_BASE: u64 = 9223372036854775808;
+
 pub fn packed_answer(r: Answer) -> u64
     ensures { λ n. ⌜ n ≡ packedAnswer r ⌝ }
 {
     match r {
         Answer::Logged(e) => {
             let what = e.what;
-            9223372036854775808
+            ENTRY_BASE
                 + (e.probe as u64) * 1099511627776
                 + (wake_log::codes::code(what) as u64) * 4294967296
                 + (wake_log::codes::link_place(what) as u64) * 65536

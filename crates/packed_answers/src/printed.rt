@@ -10,7 +10,7 @@ pub fn packed_output(r: Output) -> u64
     ensures { λ n. ⌜ n ≡ packedOutput r ⌝ }
 {
     match r {
-        Output::Length(length) => length as u64 + 281474976710656,
+        Output::Length(length) => length as u64 + super::ANSWER_BASE,
         Output::Refused(refusal) => refusal as u64,
     }
 }

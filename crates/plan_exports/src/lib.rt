@@ -1,27 +1,27 @@
 // The library of plans for C and Rust: both methods, and the plan program's output.
 ghost use mathlib.Core.Path.{_≡_};
 ghost use lib.ListN.{length};
-ghost use Rattle.table.specs.Table.{ofSlices};
-ghost use Rattle.plan_methods.specs.Planning.{planFault, turnsFault};
-ghost use Rattle.plan_exports.specs.Packed.{PlansPacked, TurnsPacked, packedPlanning};
+ghost use Rattle.table.specs.Slices.{slicesOf};
+ghost use Rattle.plan_exports.specs.Packed.{SlsePacked, TurnsPacked, packedPlanning};
 ghost use Rattle.output.specs.Output.{shortFault};
 ghost use Rattle.plan_output.specs.Output.{outputOf};
 ghost use Rattle.packed_answers.specs.Packed.{PrintsPacked};
+use packed_answers::ANSWER_BASE;
 use packed_answers::printed::packed_output;
 use plan_methods::Planning;
+use plan_methods::plan_by_slse;
+use plan_methods::plan_by_turns;
 
 fn packed_planning(r: Planning) -> u64
     ensures { λ n. ⌜ n ≡ packedPlanning r ⌝ }
 {
     match r {
-        Planning::Plan { kept, cost } => 281474976710656
-            + (kept as u64) * 4294967296
-            + (cost as u64),
+        Planning::Plan { kept, cost } => ANSWER_BASE + (kept as u64) * 4294967296 + (cost as u64),
         Planning::Refused(refusal) => refusal as u64,
     }
 }
 
-// `cover::plan_by_slse`, its answer packed.
+// `plan_methods::plan_by_slse`, its answer packed.
 #[no_mangle]
 pub extern "C" fn planner_plan_slse(
     number: u16,
@@ -33,24 +33,13 @@ pub extern "C" fn planner_plan_slse(
     costs: &[u16],
     plan: &mut [u8],
 ) -> u64
-    ensures { λ r. ⌜ PlansPacked
-        (planFault 256 2048 number probes links (now (needs .entry)) (now (lows .entry)) (now (highs .entry)) (now (costs .entry)) (length (now (plan .entry))))
-        (ofSlices number probes links (now (needs .entry)) (now (lows .entry)) (now (highs .entry)) (now (costs .entry)))
-        r (now (plan .entry)) (now (plan .exit)) ⌝ }
+    ensures { λ r. let x = slicesOf number probes links (now (needs .entry)) (now (lows .entry)) (now (highs .entry)) (now (costs .entry)) in
+        ⌜ SlsePacked x r (now (plan .entry)) (now (plan .exit)) ⌝ }
 {
-    packed_planning(plan_methods::plan_by_slse(
-        number,
-        probes,
-        links,
-        needs,
-        lows,
-        highs,
-        costs,
-        plan,
-    ))
+    packed_planning(plan_by_slse(number, probes, links, needs, lows, highs, costs, plan))
 }
 
-// `cover::plan_by_turns`, its answer packed.
+// `plan_methods::plan_by_turns`, its answer packed.
 #[no_mangle]
 pub extern "C" fn planner_plan_turns(
     number: u16,
@@ -63,29 +52,17 @@ pub extern "C" fn planner_plan_turns(
     plan: &mut [u8],
     work: &mut [u8],
 ) -> u64
-    ensures { λ r. ⌜ TurnsPacked
-        (turnsFault 256 2048 number probes links (now (needs .entry)) (now (lows .entry)) (now (highs .entry)) (now (costs .entry)) (length (now (plan .entry))) (length (now (work .entry))))
-        (ofSlices number probes links (now (needs .entry)) (now (lows .entry)) (now (highs .entry)) (now (costs .entry)))
-        r (now (plan .entry)) (now (plan .exit)) (now (work .entry)) (now (work .exit)) ⌝ }
+    ensures { λ r. let x = slicesOf number probes links (now (needs .entry)) (now (lows .entry)) (now (highs .entry)) (now (costs .entry)) in
+        ⌜ TurnsPacked x r (now (plan .entry)) (now (plan .exit)) (now (work .entry)) (now (work .exit)) ⌝ }
 {
-    packed_planning(plan_methods::plan_by_turns(
-        number,
-        probes,
-        links,
-        needs,
-        lows,
-        highs,
-        costs,
-        plan,
-        work,
-    ))
+    packed_planning(plan_by_turns(number, probes, links, needs, lows, highs, costs, plan, work))
 }
 
 // `plan_output::plan_text`, its answer packed.
 #[no_mangle]
 pub extern "C" fn planner_plan_text(text: &[u8], out: &mut [u8]) -> u64
-    ensures { λ r. ⌜ PrintsPacked (shortFault (length (now (out .entry))) (outputOf (now (text .entry)))) (outputOf (now (text .entry)))
-        r (now (out .entry)) (now (out .exit)) ⌝ }
+    ensures { λ r. let printed = outputOf (now (text .entry)) in
+        ⌜ PrintsPacked (shortFault (length (now (out .entry))) printed) printed r (now (out .entry)) (now (out .exit)) ⌝ }
 {
     packed_output(plan_output::plan_text(text, out))
 }

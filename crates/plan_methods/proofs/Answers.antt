@@ -13,7 +13,7 @@ use Rattle.range.proofs.Lists.{stored-at}
 use Rattle.table.specs.Table.{Table, item, ofSlices, dearer}
 use Rattle.plan_theory.specs.Plan.{kept, rested}
 use Rattle.plan_slse.specs.FromDearest.{planByte}
-use Rattle.plan_methods.specs.Planning.{Plans, PlansByTurns}
+use Rattle.plan_methods.specs.Planning.{Plans, PlansAndClears}
 use Rattle.plan_methods.specs.declared.Planning.{Planning}
 use Rattle.plan_methods.specs.declared.Planning.the-variants.{Plan, Refused}
 
@@ -50,10 +50,10 @@ pub numbered : (number probes links : ℕ) (needs lows highs costs plan plan′ 
 unfolding rested dearer
 numbered number probes links needs lows highs costs plan plan′ e = e
 
-pub turns-refused : (fault r : ℕ) (t : Table) (plan work : List ℕ) → r ≡ fault → (r ≡ 0 → ⊥) → PlansByTurns fault t (Refused r) plan plan work work
+pub turns-refused : (fault r : ℕ) (t : Table) (plan work : List ℕ) → r ≡ fault → (r ≡ 0 → ⊥) → PlansAndClears fault t (Refused r) plan plan work work
 turns-refused fault r t plan work e n =
     record { plans = plans-refused fault r t plan e n; cleared = rw (ne-eqb fault 0 (λ z. n (e ∙ z))) }
 
 pub turns-made : (fault : ℕ) (t : Table) (r : Planning) (plan plan′ work work′ : List ℕ) → fault ≡ 0 → Plans fault t r plan plan′ → work′ ≡ replicate (length work) 0
-    → PlansByTurns fault t r plan plan′ work work′
+    → PlansAndClears fault t r plan plan′ work work′
 turns-made fault t r plan plan′ work work′ z p w = record { plans = p; cleared = rw z w }

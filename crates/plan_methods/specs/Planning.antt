@@ -8,22 +8,20 @@ use lib.ListN.{length, replicate}
 use Rattle.range.specs.First.{orElse}
 use Rattle.range.specs.Lists.{stored}
 use Rattle.table.specs.Table.{Table}
-use Rattle.table.specs.Slices.{sliceFault, slicesOf}
+use Rattle.table.specs.Legal.{lentFault}
+use Rattle.table.specs.Slices.{Slices, tableOf, sliceFault}
 use Rattle.plan_theory.specs.Plan.{kept, keptCount, costOf}
 use Rattle.plan_slse.specs.FromDearest.{planByte}
 use Rattle.plan_methods.specs.declared.Planning.{Planning}
 use Rattle.plan_methods.specs.declared.Planning.the-variants.{Plan, Refused}
-use Rattle.table.specs.Legal.{lentFault}
 
 -- 8 for the plan, then the faults of the table's slices; `plan` is the length of the lent plan
-abbrev pub planFault : ℕ → ℕ → ℕ → ℕ → ℕ → List ℕ → List ℕ → List ℕ → List ℕ → ℕ → ℕ
-planFault pmax lmax number probes links needs lows highs costs plan =
-    orElse (lentFault plan links) (sliceFault pmax lmax (slicesOf number probes links needs lows highs costs))
+abbrev pub planFault : ℕ → ℕ → Slices → ℕ → ℕ
+planFault pmax lmax x plan = orElse (lentFault plan (x .links)) (sliceFault pmax lmax x)
 
 -- "Working bytes lent for this, at least four a link": 8 for them, then as above
-abbrev pub turnsFault : ℕ → ℕ → ℕ → ℕ → ℕ → List ℕ → List ℕ → List ℕ → List ℕ → ℕ → ℕ → ℕ
-turnsFault pmax lmax number probes links needs lows highs costs plan work =
-    orElse (lentFault work (4 * links)) (planFault pmax lmax number probes links needs lows highs costs plan)
+abbrev pub turnsFault : ℕ → ℕ → Slices → ℕ → ℕ → ℕ
+turnsFault pmax lmax x plan work = orElse (lentFault work (4 * x .links)) (planFault pmax lmax x plan)
 
 -- "The answer holds the kept count and total cost, both fixed by that definition"; or the number of the refusal alone
 abbrev pub planningOf : ℕ → Table → Planning
@@ -43,6 +41,15 @@ pub record Plans (fault : ℕ) (t : Table) (r : Planning) (before after : List �
   pub plan : after ≡ plannedOf fault t before
 
 -- and in the working bytes
-pub record PlansByTurns (fault : ℕ) (t : Table) (r : Planning) (before after work work′ : List ℕ) : Type 0 where
+pub record PlansAndClears (fault : ℕ) (t : Table) (r : Planning) (before after work work′ : List ℕ) : Type 0 where
   pub plans : Plans fault t r before after
   pub cleared : work′ ≡ clearedOf fault work
+
+-- `plan_by_slse` and `plan_by_turns` on the slices x, within limits: they answer r and leave the lent plan `before` as `after`
+
+abbrev pub PlansBySlse : ℕ → ℕ → Slices → Planning → List ℕ → List ℕ → Type 0
+PlansBySlse pmax lmax x r before after = Plans (planFault pmax lmax x (length before)) (tableOf x) r before after
+
+abbrev pub PlansByTurns : ℕ → ℕ → Slices → Planning → List ℕ → List ℕ → List ℕ → List ℕ → Type 0
+PlansByTurns pmax lmax x r before after work work′ =
+    PlansAndClears (turnsFault pmax lmax x (length before) (length work)) (tableOf x) r before after work work′

@@ -6,6 +6,7 @@ ghost use lib.Dec.{eqb};
 ghost use lib.ListN.{length};
 ghost use Rattle.range.specs.Sum.{weigh, count};
 ghost use Rattle.table.specs.Table.{item};
+ghost use Rattle.plan_slse.specs.FromDearest.{isKept};
 
 // What a link counts where its byte says that it is kept.
 fn counted(byte: u8, value: u16) -> u32
@@ -17,7 +18,7 @@ fn counted(byte: u8, value: u16) -> u32
 // The count of kept links.
 pub fn kept_count(plan: &[u8], links: usize) -> u32
     requires { ⌜ (links ≤ length (now plan)) × (links ≤ 2048) ⌝ }
-    ensures { λ r. ⌜ r ≡ count links (λ i. eqb (item (now (plan .entry)) i) 1) ⌝ }
+    ensures { λ r. ⌜ r ≡ count links (isKept (now (plan .entry))) ⌝ }
 {
     let mut n: u32 = 0;
     let mut i = 0;
@@ -31,7 +32,7 @@ pub fn kept_count(plan: &[u8], links: usize) -> u32
 // The total cost of the kept links.
 pub fn kept_cost(plan: &[u8], links: usize, costs: &[u16]) -> u32
     requires { ⌜ (links ≤ length (now plan)) × (links ≤ length (now costs)) × (links ≤ 2048) ⌝ }
-    ensures { λ r. ⌜ r ≡ weigh links (λ i. eqb (item (now (plan .entry)) i) 1) (item (now (costs .entry))) ⌝ }
+    ensures { λ r. ⌜ r ≡ weigh links (isKept (now (plan .entry))) (item (now (costs .entry))) ⌝ }
 {
     let mut n: u32 = 0;
     let mut i = 0;

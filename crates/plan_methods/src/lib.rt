@@ -1,8 +1,7 @@
 // The plan of a table in slices, by two methods.
 // The count and the cost of the links that a plan keeps.
-ghost use lib.ListN.{length};
-ghost use Rattle.table.specs.Table.{ofSlices};
-ghost use Rattle.plan_methods.specs.Planning.{planFault, turnsFault, Plans, PlansByTurns};
+ghost use Rattle.table.specs.Slices.{slicesOf};
+ghost use Rattle.plan_methods.specs.Planning.{PlansBySlse, PlansByTurns};
 
 pub mod counts;
 pub mod limited;
@@ -24,23 +23,10 @@ pub fn plan_by_slse(
     costs: &[u16],
     plan: &mut [u8],
 ) -> Planning
-    ensures { λ r. ⌜ Plans
-        (planFault 256 2048 number probes links (now (needs .entry)) (now (lows .entry)) (now (highs .entry)) (now (costs .entry)) (length (now (plan .entry))))
-        (ofSlices number probes links (now (needs .entry)) (now (lows .entry)) (now (highs .entry)) (now (costs .entry)))
-        r (now (plan .entry)) (now (plan .exit)) ⌝ }
+    ensures { λ r. let x = slicesOf number probes links (now (needs .entry)) (now (lows .entry)) (now (highs .entry)) (now (costs .entry)) in
+        ⌜ PlansBySlse 256 2048 x r (now (plan .entry)) (now (plan .exit)) ⌝ }
 {
-    limited::slse_limited(
-        256,
-        2048,
-        number,
-        probes,
-        links,
-        needs,
-        lows,
-        highs,
-        costs,
-        plan,
-    )
+    limited::slse_limited(256, 2048, probes, links, needs, lows, highs, costs, plan)
 }
 
 // The plan by offers in turn, with working bytes lent, at least four a link.
@@ -55,15 +41,12 @@ pub fn plan_by_turns(
     plan: &mut [u8],
     work: &mut [u8],
 ) -> Planning
-    ensures { λ r. ⌜ PlansByTurns
-        (turnsFault 256 2048 number probes links (now (needs .entry)) (now (lows .entry)) (now (highs .entry)) (now (costs .entry)) (length (now (plan .entry))) (length (now (work .entry))))
-        (ofSlices number probes links (now (needs .entry)) (now (lows .entry)) (now (highs .entry)) (now (costs .entry)))
-        r (now (plan .entry)) (now (plan .exit)) (now (work .entry)) (now (work .exit)) ⌝ }
+    ensures { λ r. let x = slicesOf number probes links (now (needs .entry)) (now (lows .entry)) (now (highs .entry)) (now (costs .entry)) in
+        ⌜ PlansByTurns 256 2048 x r (now (plan .entry)) (now (plan .exit)) (now (work .entry)) (now (work .exit)) ⌝ }
 {
     limited::turns_limited(
         256,
         2048,
-        number,
         probes,
         links,
         needs,

@@ -1,22 +1,23 @@
 // Planning within limits, and the answer that goes with a plan. The public planners call these.
 use super::Planning;
 ghost use mathlib.Core.Path.{_≡_};
-ghost use Prim.Native.Nat.{_≤_};
-ghost use lib.Dec.{eqb};
+ghost use Prim.Native.Nat.{ℕ, _≤_};
 ghost use lib.ListN.{length};
 ghost use Rattle.range.specs.Sum.{weigh, count};
 ghost use Rattle.range.specs.Lists.{stored};
 ghost use Rattle.table.specs.Table.{item, ofSlices};
+ghost use Rattle.table.specs.Slices.{slicesOf};
 ghost use Rattle.table.specs.Legal.{tableFault, roomFault};
 ghost use Rattle.plan_theory.specs.Plan.{kept};
-ghost use Rattle.plan_slse.specs.FromDearest.{planByte};
-ghost use Rattle.plan_methods.specs.Planning.{planFault, turnsFault, Plans, PlansByTurns};
+ghost use Rattle.plan_slse.specs.FromDearest.{planByte, isKept};
+ghost use Rattle.plan_methods.specs.Planning.{PlansBySlse, PlansByTurns};
 ghost use Rattle.plan_methods.specs.declared.Planning.the-variants.{Plan};
 
 // The answer that goes with a plan.
 fn answer(plan: &[u8], links: usize, costs: &[u16]) -> Planning
     requires { ⌜ (links ≤ length (now plan)) × (links ≤ length (now costs)) × (links ≤ 2048) ⌝ }
-    ensures { λ r. ⌜ r ≡ Plan (count links (λ i. eqb (item (now (plan .entry)) i) 1)) (weigh links (λ i. eqb (item (now (plan .entry)) i) 1) (item (now (costs .entry)))) ⌝ }
+    ensures { λ r. let kept-in = isKept (now (plan .entry)) in
+        ⌜ r ≡ Plan (count links kept-in) (weigh links kept-in (item (now (costs .entry)))) ⌝ }
 {
     let kept = super::counts::kept_count(plan, links);
     let cost = super::counts::kept_cost(plan, links, costs);
@@ -36,20 +37,21 @@ pub fn slse_plan(
     highs: &[u16],
     costs: &[u16],
 )
-    requires { ⌜ (tableFault 256 2048 (ofSlices 0 probes links (now needs) (now lows) (now highs) (now costs)) ≡ 0) × (links ≤ length (now plan))
+    requires { let t = ofSlices 0 probes links (now needs) (now lows) (now highs) (now costs) in
+        ⌜ (tableFault 256 2048 t ≡ 0) × (links ≤ length (now plan))
         × (roomFault probes links (length (now needs)) (length (now lows)) (length (now highs)) (length (now costs)) ≡ 0) ⌝ }
-    ensures { λ _. ⌜ now (plan .exit) ≡ stored (λ i. planByte (kept (ofSlices 0 probes links (now (needs .entry)) (now (lows .entry)) (now (highs .entry)) (now (costs .entry))) i)) links (now (plan .entry)) ⌝ }
+    ensures { λ _. let t = ofSlices 0 probes links (now (needs .entry)) (now (lows .entry)) (now (highs .entry)) (now (costs .entry)) in
+        ⌜ now (plan .exit) ≡ stored (λ i. planByte (kept t i)) links (now (plan .entry)) ⌝ }
 {
     let mut order = [0u16; 2048];
     plan_order::sorting::order_links(&mut order, links, costs);
-    plan_slse::passes::plan_in_order(plan, probes, links, &order, needs, lows, highs, costs);
+    plan_slse::passes::plan_in_order(plan, links, &order, needs, lows, highs);
 }
 
-// The plan by S-LSE within the limits pmax and lmax.
+// The plan by S-LSE within the limits pmax and lmax, for a table of any number.
 pub fn slse_limited(
     pmax: usize,
     lmax: usize,
-    number: u16,
     probes: u16,
     links: u16,
     needs: &[u16],
@@ -59,10 +61,8 @@ pub fn slse_limited(
     plan: &mut [u8],
 ) -> Planning
     requires { ⌜ (pmax ≤ 256) × (lmax ≤ 2048) ⌝ }
-    ensures { λ r. ⌜ Plans
-        (planFault pmax lmax number probes links (now (needs .entry)) (now (lows .entry)) (now (highs .entry)) (now (costs .entry)) (length (now (plan .entry))))
-        (ofSlices number probes links (now (needs .entry)) (now (lows .entry)) (now (highs .entry)) (now (costs .entry)))
-        r (now (plan .entry)) (now (plan .exit)) ⌝ }
+    ensures { λ r. ⌜ ((number : ℕ) → let x = slicesOf number probes links (now (needs .entry)) (now (lows .entry)) (now (highs .entry)) (now (costs .entry)) in
+        PlansBySlse pmax lmax x r (now (plan .entry)) (now (plan .exit))) ⌝ }
 {
     let n = probes as usize;
     let m = links as usize;
@@ -77,11 +77,10 @@ pub fn slse_limited(
     answer(plan, m, costs)
 }
 
-// The plan by offers in turn within the limits pmax and lmax.
+// The plan by offers in turn within the limits pmax and lmax, for a table of any number.
 pub fn turns_limited(
     pmax: usize,
     lmax: usize,
-    number: u16,
     probes: u16,
     links: u16,
     needs: &[u16],
@@ -92,10 +91,8 @@ pub fn turns_limited(
     work: &mut [u8],
 ) -> Planning
     requires { ⌜ (pmax ≤ 256) × (lmax ≤ 2048) ⌝ }
-    ensures { λ r. ⌜ PlansByTurns
-        (turnsFault pmax lmax number probes links (now (needs .entry)) (now (lows .entry)) (now (highs .entry)) (now (costs .entry)) (length (now (plan .entry))) (length (now (work .entry))))
-        (ofSlices number probes links (now (needs .entry)) (now (lows .entry)) (now (highs .entry)) (now (costs .entry)))
-        r (now (plan .entry)) (now (plan .exit)) (now (work .entry)) (now (work .exit)) ⌝ }
+    ensures { λ r. ⌜ ((number : ℕ) → let x = slicesOf number probes links (now (needs .entry)) (now (lows .entry)) (now (highs .entry)) (now (costs .entry)) in
+        PlansByTurns pmax lmax x r (now (plan .entry)) (now (plan .exit)) (now (work .entry)) (now (work .exit))) ⌝ }
 {
     let n = probes as usize;
     let m = links as usize;

@@ -10,7 +10,8 @@ pub mod text;
 
 // Prints the plan of the table that a text gives, or the text's refusal.
 pub fn plan_text(text: &[u8], out: &mut [u8]) -> Output
-    ensures { λ r. ⌜ Prints (shortFault (length (now (out .entry))) (outputOf (now (text .entry)))) (outputOf (now (text .entry))) r (now (out .entry)) (now (out .exit)) ⌝ }
+    ensures { λ r. let printed = outputOf (now (text .entry)) in
+        ⌜ Prints (shortFault (length (now (out .entry))) printed) printed r (now (out .entry)) (now (out .exit)) ⌝ }
 {
     let mut needs = [0u16; 256];
     let mut lows = [0u16; 2048];

@@ -10,6 +10,7 @@ ghost use Rattle.range.specs.Sum.{count};
 ghost use Rattle.range.specs.Lists.{joined};
 ghost use Rattle.table.specs.Table.{item};
 ghost use Rattle.table.specs.Text.{tripleLine};
+ghost use Rattle.plan_slse.specs.FromDearest.{isKept};
 ghost use Rattle.plan_output.specs.Output.{headLine};
 
 // A plan's first line.
@@ -26,7 +27,8 @@ pub fn put_head(out: &mut [u8], number: u16, kept: u32, cost: u32)
 // The line of a link whose byte says that it is kept. Answers where the next line starts.
 fn put_link(out: &mut [u8], at: usize, byte: u8, low: u16, high: u16, cost: u16) -> usize
     requires { ⌜ at + 13 * cond (eqb byte 1) 1 0 ≤ length (now out) ⌝ }
-    ensures { λ r. ⌜ (now (out .exit) ≡ sets (now (out .entry)) at (cond (eqb byte 1) (tripleLine low high cost) [])) × (r ≡ at + 13 * cond (eqb byte 1) 1 0) ⌝ }
+    ensures { λ r. let kept = eqb byte 1 in
+        ⌜ (now (out .exit) ≡ sets (now (out .entry)) at (cond kept (tripleLine low high cost) [])) × (r ≡ at + 13 * cond kept 1 0) ⌝ }
 {
     if byte != 1 {
         return at;
@@ -44,10 +46,10 @@ pub fn put_kept(
     highs: &[u16],
     costs: &[u16],
 )
-    requires { ⌜ (17 + 13 * count links (λ i. eqb (item (now plan) i) 1) ≤ length (now out)) × (links ≤ length (now plan))
+    requires { ⌜ (17 + 13 * count links (isKept (now plan)) ≤ length (now out)) × (links ≤ length (now plan))
         × (links ≤ length (now lows)) × (links ≤ length (now highs)) × (links ≤ length (now costs)) ⌝ }
     ensures { λ _. ⌜ now (out .exit) ≡ sets (now (out .entry)) 17
-        (joined (λ i. cond (eqb (item (now (plan .entry)) i) 1) (tripleLine (item (now (lows .entry)) i) (item (now (highs .entry)) i) (item (now (costs .entry)) i)) []) links) ⌝ }
+        (joined (λ i. cond (isKept (now (plan .entry)) i) (tripleLine (item (now (lows .entry)) i) (item (now (highs .entry)) i) (item (now (costs .entry)) i)) []) links) ⌝ }
 {
     let mut at = 17;
     let mut i = 0;

@@ -19,12 +19,11 @@ pub fn print_plan(
     highs: &[u16],
     costs: &[u16],
 ) -> Output
-    requires { ⌜ (tableFault 256 2048 (ofSlices 0 probes links (now needs) (now lows) (now highs) (now costs)) ≡ 0)
+    requires { let t = ofSlices 0 probes links (now needs) (now lows) (now highs) (now costs) in
+        ⌜ (tableFault 256 2048 t ≡ 0)
         × (roomFault probes links (length (now needs)) (length (now lows)) (length (now highs)) (length (now costs)) ≡ 0) ⌝ }
-    ensures { λ r. ⌜ Prints
-        (shortFault (length (now (out .entry))) (planText (ofSlices number probes links (now (needs .entry)) (now (lows .entry)) (now (highs .entry)) (now (costs .entry)))))
-        (planText (ofSlices number probes links (now (needs .entry)) (now (lows .entry)) (now (highs .entry)) (now (costs .entry))))
-        r (now (out .entry)) (now (out .exit)) ⌝ }
+    ensures { λ r. let printed = planText (ofSlices number probes links (now (needs .entry)) (now (lows .entry)) (now (highs .entry)) (now (costs .entry))) in
+        ⌜ Prints (shortFault (length (now (out .entry))) printed) printed r (now (out .entry)) (now (out .exit)) ⌝ }
 {
     let mut plan = [0u8; 2048];
     plan_methods::limited::slse_plan(&mut plan, probes, links, needs, lows, highs, costs);

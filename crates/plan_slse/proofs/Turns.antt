@@ -11,7 +11,7 @@ use lib.ListN.{length, getD, set}
 use borrow.Author.Tests.{eq-eqb, ne-eqb}
 use Rattle.range.specs.Lists.{stored}
 use Rattle.range.proofs.Bools.{decided}
-use Rattle.range.proofs.Sums.{weigh-more, weigh-same, none-count, count-le}
+use Rattle.range.proofs.Sums.{weigh-more, weigh-same, none-count}
 use Rattle.range.proofs.Lists.{stored-update, stored-same, stored-self, stored-again, stored-at, length-stored}
 use Rattle.table.specs.Table.{Table, item, ofSlices, touches, dearer, cheaper}
 use Rattle.table.specs.Legal.{tableFault, Ends, Size, RisingLinks, LegalTable}
@@ -24,7 +24,7 @@ use Rattle.table.proofs.LegalLaws.{legal-table}
 use Rattle.plan_theory.proofs.Plan.{at-same}
 use Rattle.plan_theory.proofs.Slse.{slse-is-plan}
 use Rattle.plan_theory.proofs.Pass.{early, pass-step}
-use Rattle.plan_slse.specs.FromDearest.{planByte}
+use Rattle.plan_slse.specs.FromDearest.{InOrder, OrderFits, planByte}
 use Rattle.plan_slse.specs.Steps.{eitherShort, bothOver, oneMore, oneLess}
 
 and-false : (b : Bool) → (b && false) ≡ false
@@ -80,6 +80,17 @@ module _ (t : Table) (before : ℕ → ℕ → Bool) (o : Order (t .links) befor
       go : Dec (j ≡ i) → cond (eqb j i) (test r i) (r j) ≡ r j
       go (yes d) = rw (d, eq-eqb i i refl, n) (sym (early (t .links) before o test k i (omega arith)))
       go (no d) = rw (ne-eqb j i d)
+
+-- a turn of the way up counts at most one more at a probe
+pub one-more-most : (b : Bool) (counts counts′ : List ℕ) (low high v n : ℕ) → Ends (length counts) low high → counts′ ≡ cond b (oneMore counts low high) counts
+    → item counts v ≤ n → item counts′ v ≤ n + 1
+one-more-most true counts counts′ low high v n ends e l =
+    rw e (go (eqb v low || eqb v high) (ends-changed (λ n. n + 1) counts low high (let r = ends .rises in let k = ends .below in omega arith) (ends .below) (ends .rises) v))
+  where
+    go : (b : Bool) → item (oneMore counts low high) v ≡ cond b (item counts v + 1) (item counts v) → item (oneMore counts low high) v ≤ n + 1
+    go true f = omega arith
+    go false f = omega arith
+one-more-most false counts counts′ low high v n ends e l = rw e (omega arith)
 
 module _ (probes links : ℕ) (needs lows highs costs : List ℕ) where
   abbrev pub t : Table
@@ -218,16 +229,6 @@ module _ (probes links : ℕ) (needs lows highs costs : List ℕ) where
         let o = place-opposite links (dearer t) (dearer-order t (whole .order)) i l in
         omega arith
 
-    pub ends-of : (i low high : ℕ) → i < links → low ≡ item lows i → high ≡ item highs i → Ends probes low high
-    ends-of i low high l el eh = rw (el, eh) (whole .ends i l)
-
-    pub up-fits : (k v : ℕ) (plan₀ plan counts : List ℕ) → Up k plan₀ plan counts → v < probes → item counts v < 65535
-    up-fits k v plan₀ plan counts was l =
-        let e = was .counted v l in
-        let n = count-le links (λ i. touches t v i && up k i) in
-        let m = size .within in
-        omega arith
-
     -- cleared, added, removed: the bytes are those of the plan
     pub kept-bytes : (plan plan₁ plan₂ plan₃ : List ℕ) → links ≤ length plan → plan₁ ≡ stored (λ j. 0) links plan → plan₂ ≡ stored (λ j. planByte (added t j)) links plan₁
         → plan₃ ≡ stored (λ j. planByte (slse t j)) links plan₂ → plan₃ ≡ stored (λ j. planByte (kept t j)) links plan
@@ -260,3 +261,19 @@ module _ (probes links : ℕ) (needs lows highs costs : List ℕ) where
   pub down-end : (plan₀ plan counts : List ℕ) → Down links plan₀ plan counts → plan ≡ stored (λ j. planByte (slse t j)) links plan₀
   unfolding removed
   down-end plan₀ plan counts was = was .plans
+
+  -- an order of a legal table fits slices that hold the table, with n counts
+  pub order-fits : (order : List ℕ) (n : ℕ) → InOrder t order → links ≤ length order → probes ≤ length needs → links ≤ length lows → links ≤ length highs → 256 ≤ n
+      → OrderFits links n (length needs) order lows highs
+  order-fits order n is in-order in-needs in-lows in-highs wide =
+      let w = whole (is .0) in
+      let few = w .size .few in
+      record {
+        few = w .size .within;
+        in-order = in-order;
+        in-lows = in-lows;
+        in-highs = in-highs;
+        below = λ k l. is .1 k l .0;
+        counted = λ i l. let e = w .ends i l in record { rises = e .rises; below = omega (arith, e .below) };
+        needed = λ i l. let e = w .ends i l in omega (arith, e .below);
+      }

@@ -2,9 +2,8 @@
 ghost use mathlib.Core.Path.{_≡_};
 ghost use mathlib.Core.Bool.{cond, _&&_};
 ghost use Prim.Native.Nat.{_<_};
-ghost use lib.Dec.{eqb};
 ghost use lib.ListN.{length, getD, set};
-ghost use Rattle.table.specs.Table.{item};
+ghost use Rattle.plan_slse.specs.FromDearest.{isKept};
 ghost use Rattle.plan_slse.specs.Steps.{eitherShort, bothOver, oneMore, oneLess};
 
 // Whether an end has fewer links than it needs.
@@ -40,8 +39,9 @@ pub fn add_link(
 )
     requires { ⌜ (i < length (now plan)) × (low < high) × (high < length (now counts)) × (high < length (now needs))
         × (getD (now counts) low 0 < 65535) × (getD (now counts) high 0 < 65535) ⌝ }
-    ensures { λ _. ⌜ (now (plan .exit) ≡ cond (eitherShort (now (counts .entry)) (now (needs .entry)) low high) (set (now (plan .entry)) i 1) (now (plan .entry)))
-        × (now (counts .exit) ≡ cond (eitherShort (now (counts .entry)) (now (needs .entry)) low high) (oneMore (now (counts .entry)) low high) (now (counts .entry))) ⌝ }
+    ensures { λ _. let adds = eitherShort (now (counts .entry)) (now (needs .entry)) low high in
+        ⌜ (now (plan .exit) ≡ cond adds (set (now (plan .entry)) i 1) (now (plan .entry)))
+        × (now (counts .exit) ≡ cond adds (oneMore (now (counts .entry)) low high) (now (counts .entry))) ⌝ }
 {
     if !either_short(counts, needs, low, high) {
         return;
@@ -61,8 +61,9 @@ pub fn remove_link(
     high: usize,
 )
     requires { ⌜ (i < length (now plan)) × (low < high) × (high < length (now counts)) × (high < length (now needs)) ⌝ }
-    ensures { λ _. ⌜ (now (plan .exit) ≡ cond (eqb (item (now (plan .entry)) i) 1 && bothOver (now (counts .entry)) (now (needs .entry)) low high) (set (now (plan .entry)) i 0) (now (plan .entry)))
-        × (now (counts .exit) ≡ cond (eqb (item (now (plan .entry)) i) 1 && bothOver (now (counts .entry)) (now (needs .entry)) low high) (oneLess (now (counts .entry)) low high) (now (counts .entry))) ⌝ }
+    ensures { λ _. let removes = isKept (now (plan .entry)) i && bothOver (now (counts .entry)) (now (needs .entry)) low high in
+        ⌜ (now (plan .exit) ≡ cond removes (set (now (plan .entry)) i 0) (now (plan .entry)))
+        × (now (counts .exit) ≡ cond removes (oneLess (now (counts .entry)) low high) (now (counts .entry))) ⌝ }
 {
     if plan[i] != 1 {
         return;

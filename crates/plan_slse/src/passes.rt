@@ -1,32 +1,30 @@
 // S-LSE on a table that is legal, with its links in order. The public planner calls this.
 ghost use mathlib.Core.Path.{_≡_};
+ghost use mathlib.Core.List.{List};
 ghost use Prim.Native.Nat.{ℕ, _<_, _≤_};
 ghost use lib.ListN.{length, getD};
 ghost use Rattle.range.specs.Lists.{stored};
 ghost use Rattle.table.specs.Table.{ofSlices};
-ghost use Rattle.table.specs.Legal.{tableFault};
 ghost use Rattle.plan_theory.specs.Plan.{linksAt, added, slse, kept};
-ghost use Rattle.plan_slse.specs.FromDearest.{FromDearest, planByte};
+ghost use Rattle.plan_slse.specs.FromDearest.{InOrder, OrderFits, planByte};
 
-// From cheapest up. The costs stand in the contract alone.
+// From cheapest up: what a legal table of these links adds, whatever its probe count and costs, if this is their order.
 fn add_links(
     plan: &mut [u8],
     counts: &mut [u16],
-    probes: usize,
     links: usize,
     order: &[u16],
     needs: &[u16],
     lows: &[u16],
     highs: &[u16],
-    costs: &[u16],
 )
-    requires { ⌜ (tableFault 256 2048 (ofSlices 0 probes links (now needs) (now lows) (now highs) (now costs)) ≡ 0)
-        × (links ≤ length (now plan)) × (probes ≤ length (now counts)) × (links ≤ length (now order))
-        × (probes ≤ length (now needs)) × (links ≤ length (now lows)) × (links ≤ length (now highs))
-        × FromDearest (ofSlices 0 probes links (now needs) (now lows) (now highs) (now costs)) (now order)
-        × ((j : ℕ) → j < links → getD (now plan) j 0 ≡ 0) × ((v : ℕ) → v < probes → getD (now counts) v 0 ≡ 0) ⌝ }
-    ensures { λ _. ⌜ (now (plan .exit) ≡ stored (λ j. planByte (added (ofSlices 0 probes links (now (needs .entry)) (now (lows .entry)) (now (highs .entry)) (now (costs .entry))) j)) links (now (plan .entry)))
-        × ((v : ℕ) → v < probes → getD (now (counts .exit)) v 0 ≡ linksAt (ofSlices 0 probes links (now (needs .entry)) (now (lows .entry)) (now (highs .entry)) (now (costs .entry))) (added (ofSlices 0 probes links (now (needs .entry)) (now (lows .entry)) (now (highs .entry)) (now (costs .entry)))) v) ⌝ }
+    requires { ⌜ OrderFits links (length (now counts)) (length (now needs)) (now order) (now lows) (now highs)
+        × (links ≤ length (now plan)) × (256 ≤ length (now counts))
+        × ((j : ℕ) → j < links → getD (now plan) j 0 ≡ 0) × ((v : ℕ) → getD (now counts) v 0 ≡ 0) ⌝ }
+    ensures { λ _. ⌜ ((probes : ℕ) (costs : List ℕ) → let t = ofSlices 0 probes links (now (needs .entry)) (now (lows .entry)) (now (highs .entry)) costs in
+        InOrder t (now (order .entry))
+        → (now (plan .exit) ≡ stored (λ j. planByte (added t j)) links (now (plan .entry)))
+        × ((v : ℕ) → v < probes → getD (now (counts .exit)) v 0 ≡ linksAt t (added t) v)) ⌝ }
 {
     let mut k = links;
     while 0 < k {
@@ -43,25 +41,23 @@ fn add_links(
     }
 }
 
-// From dearest down. The costs stand in the contract alone.
+// From dearest down: what S-LSE leaves of the links that such a table adds.
 fn remove_links(
     plan: &mut [u8],
     counts: &mut [u16],
-    probes: usize,
     links: usize,
     order: &[u16],
     needs: &[u16],
     lows: &[u16],
     highs: &[u16],
-    costs: &[u16],
 )
-    requires { ⌜ (tableFault 256 2048 (ofSlices 0 probes links (now needs) (now lows) (now highs) (now costs)) ≡ 0)
-        × (links ≤ length (now plan)) × (probes ≤ length (now counts)) × (links ≤ length (now order))
-        × (probes ≤ length (now needs)) × (links ≤ length (now lows)) × (links ≤ length (now highs))
-        × FromDearest (ofSlices 0 probes links (now needs) (now lows) (now highs) (now costs)) (now order)
-        × ((j : ℕ) → j < links → getD (now plan) j 0 ≡ planByte (added (ofSlices 0 probes links (now needs) (now lows) (now highs) (now costs)) j))
-        × ((v : ℕ) → v < probes → getD (now counts) v 0 ≡ linksAt (ofSlices 0 probes links (now needs) (now lows) (now highs) (now costs)) (added (ofSlices 0 probes links (now needs) (now lows) (now highs) (now costs))) v) ⌝ }
-    ensures { λ _. ⌜ now (plan .exit) ≡ stored (λ j. planByte (slse (ofSlices 0 probes links (now (needs .entry)) (now (lows .entry)) (now (highs .entry)) (now (costs .entry))) j)) links (now (plan .entry)) ⌝ }
+    requires { ⌜ OrderFits links (length (now counts)) (length (now needs)) (now order) (now lows) (now highs)
+        × (links ≤ length (now plan)) × (256 ≤ length (now counts)) ⌝ }
+    ensures { λ _. ⌜ ((probes : ℕ) (costs : List ℕ) → let t = ofSlices 0 probes links (now (needs .entry)) (now (lows .entry)) (now (highs .entry)) costs in
+        InOrder t (now (order .entry))
+        → ((j : ℕ) → j < links → getD (now (plan .entry)) j 0 ≡ planByte (added t j))
+        → ((v : ℕ) → v < probes → getD (now (counts .entry)) v 0 ≡ linksAt t (added t) v)
+        → now (plan .exit) ≡ stored (λ j. planByte (slse t j)) links (now (plan .entry))) ⌝ }
 {
     let mut k = 0;
     while k < links {
@@ -89,45 +85,21 @@ fn clear(plan: &mut [u8], links: usize)
     }
 }
 
-// The plan of a legal table, its links given in order.
+// The plan of every legal table of these links, whatever its probe count and costs, if this is their order.
 pub fn plan_in_order(
     plan: &mut [u8],
-    probes: usize,
     links: usize,
     order: &[u16],
     needs: &[u16],
     lows: &[u16],
     highs: &[u16],
-    costs: &[u16],
 )
-    requires { ⌜ (tableFault 256 2048 (ofSlices 0 probes links (now needs) (now lows) (now highs) (now costs)) ≡ 0)
-        × (links ≤ length (now plan)) × (links ≤ length (now order))
-        × (probes ≤ length (now needs)) × (links ≤ length (now lows)) × (links ≤ length (now highs))
-        × FromDearest (ofSlices 0 probes links (now needs) (now lows) (now highs) (now costs)) (now order) ⌝ }
-    ensures { λ _. ⌜ now (plan .exit) ≡ stored (λ j. planByte (kept (ofSlices 0 probes links (now (needs .entry)) (now (lows .entry)) (now (highs .entry)) (now (costs .entry))) j)) links (now (plan .entry)) ⌝ }
+    requires { ⌜ OrderFits links 256 (length (now needs)) (now order) (now lows) (now highs) × (links ≤ length (now plan)) ⌝ }
+    ensures { λ _. ⌜ ((probes : ℕ) (costs : List ℕ) → let t = ofSlices 0 probes links (now (needs .entry)) (now (lows .entry)) (now (highs .entry)) costs in
+        InOrder t (now (order .entry)) → now (plan .exit) ≡ stored (λ j. planByte (kept t j)) links (now (plan .entry))) ⌝ }
 {
     let mut counts = [0u16; 256];
     clear(plan, links);
-    add_links(
-        plan,
-        &mut counts,
-        probes,
-        links,
-        order,
-        needs,
-        lows,
-        highs,
-        costs,
-    );
-    remove_links(
-        plan,
-        &mut counts,
-        probes,
-        links,
-        order,
-        needs,
-        lows,
-        highs,
-        costs,
-    );
+    add_links(plan, &mut counts, links, order, needs, lows, highs);
+    remove_links(plan, &mut counts, links, order, needs, lows, highs);
 }

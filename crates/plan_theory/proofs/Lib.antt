@@ -6,3 +6,4 @@ pub mod Slse
 pub mod Bound
 pub mod Settled
 pub mod Sites
+pub mod Demand2

@@ -1,4 +1,5 @@
 // Offers by turn. A record has four bytes a link: atSource and atTarget of each direction. Beside it are four entries a probe, the marks.
+use table_links::spares::spare_of;
 ghost use mathlib.Core.Path.{_≡_};
 ghost use mathlib.Core.Bool.{cond};
 ghost use mathlib.Core.List.{[]};
@@ -11,15 +12,6 @@ ghost use Rattle.table.specs.Legal.{linkFault, tableFault};
 ghost use Rattle.plan_theory.specs.Plan.{kept};
 ghost use Rattle.plan_turns_search.specs.Record.{keptByte};
 
-fn less(a: u16, b: u16) -> u16
-    ensures { λ r. ⌜ r ≡ a - b ⌝ }
-{
-    if a < b {
-        return 0;
-    }
-    a - b
-}
-
 // Takes the probes' needs off their counted links.
 fn take_needs(counts: &mut [u16], probes: usize, needs: &[u16])
     requires { ⌜ (probes ≤ length (now counts)) × (probes ≤ length (now needs)) ⌝ }
@@ -27,7 +19,7 @@ fn take_needs(counts: &mut [u16], probes: usize, needs: &[u16])
 {
     let mut v = 0;
     while v < probes {
-        counts[v] = less(counts[v], needs[v]);
+        counts[v] = spare_of(table::numbers::wide(counts[v]), needs, v) as u16;
         v += 1;
     }
 }
@@ -79,9 +71,10 @@ fn find_spares(
     requires { ⌜ (links ≤ length (now lows)) × (links ≤ length (now highs)) × (links ≤ 65535) × (probes ≤ length (now spares)) × (probes ≤ length (now needs))
         × (first (linkFault probes (item (now lows)) (item (now highs))) links ≡ 0)
         × ((v : ℕ) → getD (now spares) v 0 ≡ 0) ⌝ }
-    ensures { λ _. ⌜ ((v : ℕ) → getD (now (spares .exit)) v 0 ≡ spare (ofSlices 0 probes links (now (needs .entry)) (now (lows .entry)) (now (highs .entry)) []) v) ⌝ }
+    ensures { λ _. let t = ofSlices 0 probes links (now (needs .entry)) (now (lows .entry)) (now (highs .entry)) [] in
+        ⌜ ((v : ℕ) → getD (now (spares .exit)) v 0 ≡ spare t v) ⌝ }
 {
-    table::degrees::count_degrees(spares, probes, links, lows, highs);
+    table::degrees::count_degrees(spares, links, lows, highs);
     take_needs(spares, probes, needs);
 }
 
@@ -96,10 +89,12 @@ pub fn by_turns(
     highs: &[u16],
     costs: &[u16],
 )
-    requires { ⌜ (tableFault 256 2048 (ofSlices 0 probes links (now needs) (now lows) (now highs) (now costs)) ≡ 0)
+    requires { let t = ofSlices 0 probes links (now needs) (now lows) (now highs) (now costs) in
+        ⌜ (tableFault 256 2048 t ≡ 0)
         × (probes ≤ length (now needs)) × (links ≤ length (now lows)) × (links ≤ length (now highs)) × (links ≤ length (now costs))
         × (links ≤ length (now plan)) × (4 * links ≤ length (now work)) ⌝ }
-    ensures { λ _. ⌜ now (plan .exit) ≡ stored (λ i. cond (kept (ofSlices 0 probes links (now (needs .entry)) (now (lows .entry)) (now (highs .entry)) (now (costs .entry))) i) 1 0) links (now (plan .entry)) ⌝ }
+    ensures { λ _. let t = ofSlices 0 probes links (now (needs .entry)) (now (lows .entry)) (now (highs .entry)) (now (costs .entry)) in
+        ⌜ now (plan .exit) ≡ stored (λ i. cond (kept t i) 1 0) links (now (plan .entry)) ⌝ }
     ensures { λ _. ⌜ now (work .exit) ≡ replicate (length (now (work .entry))) 0 ⌝ }
 {
     clear(work);

@@ -4,7 +4,7 @@ ghost use Prim.Native.Nat.{_+_, _*_, _<_};
 ghost use lib.ListN.{length};
 ghost use Rattle.table.specs.Table.{item};
 ghost use Rattle.plan_turns_search.specs.Chain.{DownChains, UpChains};
-ghost use Rattle.plan_turns_search.specs.Record.{endOf, mark, OffersReady, MarksAgree, Offered, Displaces};
+ghost use Rattle.plan_turns_search.specs.Record.{endOf, mark, siteSlicesOf, OffersReady, MarksAgree, Offered, Displaces};
 use plan_turns_search::directions::HELD;
 use plan_turns_search::directions::HELD_CURSOR;
 use plan_turns_search::directions::OFFER_CURSOR;
@@ -28,9 +28,11 @@ pub fn make_offer(
     ups: &[u16],
     u: usize,
 ) -> bool
-    requires { ⌜ (OffersReady links (now lows) (now highs) (now costs) (now spares) (now rec)) × (MarksAgree links (now lows) (now highs) (now costs) (now spares) (now rec) (now marks))
-        × (DownChains links (now lows) (now highs) (now costs) (now nexts)) × (UpChains links (now lows) (now highs) (now costs) (now ups)) × (u < length (now spares)) × (mark (now marks) u 0 < item (now spares) u) ⌝ }
-    ensures { λ r. ⌜ (Offered links (now (lows .entry)) (now (highs .entry)) (now (costs .entry)) (now (spares .entry)) (now (rec .entry)) (now (rec .exit)) u r) × (MarksAgree links (now (lows .entry)) (now (highs .entry)) (now (costs .entry)) (now (spares .entry)) (now (rec .exit)) (now (marks .exit))) ⌝ }
+    requires { let x = siteSlicesOf links (now lows) (now highs) (now costs) (now spares) in
+        ⌜ OffersReady x (now rec) × MarksAgree x (now rec) (now marks)
+        × DownChains x (now nexts) × UpChains x (now ups) × (u < length (now spares)) × (mark (now marks) u 0 < item (now spares) u) ⌝ }
+    ensures { λ r. let x = siteSlicesOf links (now (lows .entry)) (now (highs .entry)) (now (costs .entry)) (now (spares .entry)) in
+        ⌜ Offered x (now (rec .entry)) (now (rec .exit)) u r × MarksAgree x (now (rec .exit)) (now (marks .exit)) ⌝ }
 {
     let d = plan_turns_search::search::next_offer(
         rec,
@@ -73,10 +75,12 @@ fn displace(
     ups: &[u16],
     d: usize,
 )
-    requires { ⌜ (Displaces links (now lows) (now highs) (now costs) (now spares) (now rec) d) × (MarksAgree links (now lows) (now highs) (now costs) (now spares) (now rec) (now marks))
-        × (DownChains links (now lows) (now highs) (now costs) (now nexts)) × (UpChains links (now lows) (now highs) (now costs) (now ups)) ⌝ }
-    ensures { λ _. ⌜ (Offered links (now (lows .entry)) (now (highs .entry)) (now (costs .entry)) (now (spares .entry)) (now (rec .entry)) (now (rec .exit)) (endOf (now (lows .entry)) (now (highs .entry)) d) true)
-        × (MarksAgree links (now (lows .entry)) (now (highs .entry)) (now (costs .entry)) (now (spares .entry)) (now (rec .exit)) (now (marks .exit))) ⌝ }
+    requires { let x = siteSlicesOf links (now lows) (now highs) (now costs) (now spares) in
+        ⌜ Displaces x (now rec) d × MarksAgree x (now rec) (now marks)
+        × DownChains x (now nexts) × UpChains x (now ups) ⌝ }
+    ensures { λ _. let x = siteSlicesOf links (now (lows .entry)) (now (highs .entry)) (now (costs .entry)) (now (spares .entry)) in
+        ⌜ Offered x (now (rec .entry)) (now (rec .exit)) (endOf (now (lows .entry)) (now (highs .entry)) d) true
+        × MarksAgree x (now (rec .exit)) (now (marks .exit)) ⌝ }
 {
     let u = end_of(lows, highs, d);
     let v = end_of(highs, lows, d);

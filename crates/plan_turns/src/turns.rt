@@ -2,7 +2,7 @@
 ghost use Prim.Native.Nat.{_+_, _*_, _<_, _≤_};
 ghost use lib.ListN.{length};
 ghost use Rattle.plan_turns_search.specs.Chain.{DownChains, UpChains};
-ghost use Rattle.plan_turns_search.specs.Record.{OffersReady, MarksAgree, Turned, Over};
+ghost use Rattle.plan_turns_search.specs.Record.{siteSlicesOf, OffersReady, MarksAgree, Turned, Over};
 use plan_turns_search::directions::STANDING;
 use plan_turns_search::directions::entry;
 
@@ -19,9 +19,11 @@ fn turn(
     ups: &[u16],
     p: usize,
 )
-    requires { ⌜ (OffersReady links (now lows) (now highs) (now costs) (now spares) (now rec)) × (MarksAgree links (now lows) (now highs) (now costs) (now spares) (now rec) (now marks))
-        × (DownChains links (now lows) (now highs) (now costs) (now nexts)) × (UpChains links (now lows) (now highs) (now costs) (now ups)) × (p < length (now spares)) ⌝ }
-    ensures { λ _. ⌜ (Turned links (now (lows .entry)) (now (highs .entry)) (now (costs .entry)) (now (spares .entry)) (now (rec .entry)) (now (rec .exit)) p) × (MarksAgree links (now (lows .entry)) (now (highs .entry)) (now (costs .entry)) (now (spares .entry)) (now (rec .exit)) (now (marks .exit))) ⌝ }
+    requires { let x = siteSlicesOf links (now lows) (now highs) (now costs) (now spares) in
+        ⌜ OffersReady x (now rec) × MarksAgree x (now rec) (now marks)
+        × DownChains x (now nexts) × UpChains x (now ups) × (p < length (now spares)) ⌝ }
+    ensures { λ _. let x = siteSlicesOf links (now (lows .entry)) (now (highs .entry)) (now (costs .entry)) (now (spares .entry)) in
+        ⌜ Turned x (now (rec .entry)) (now (rec .exit)) p × MarksAgree x (now (rec .exit)) (now (marks .exit)) ⌝ }
 {
     loop {
         if entry(spares, p) <= entry(marks, 4 * p + STANDING) {
@@ -58,9 +60,11 @@ pub fn take_turns(
     nexts: &[u16],
     ups: &[u16],
 )
-    requires { ⌜ (OffersReady links (now lows) (now highs) (now costs) (now spares) (now rec)) × (MarksAgree links (now lows) (now highs) (now costs) (now spares) (now rec) (now marks))
-        × (DownChains links (now lows) (now highs) (now costs) (now nexts)) × (UpChains links (now lows) (now highs) (now costs) (now ups)) × (probes ≤ length (now spares)) ⌝ }
-    ensures { λ _. ⌜ Over links (now (lows .entry)) (now (highs .entry)) (now (costs .entry)) (now (spares .entry)) (now (rec .exit)) probes ⌝ }
+    requires { let x = siteSlicesOf links (now lows) (now highs) (now costs) (now spares) in
+        ⌜ OffersReady x (now rec) × MarksAgree x (now rec) (now marks)
+        × DownChains x (now nexts) × UpChains x (now ups) × (probes ≤ length (now spares)) ⌝ }
+    ensures { λ _. let x = siteSlicesOf links (now (lows .entry)) (now (highs .entry)) (now (costs .entry)) (now (spares .entry)) in
+        ⌜ Over x (now (rec .exit)) probes ⌝ }
 {
     let mut p = 0;
     while p < probes {

@@ -3,7 +3,7 @@ use Prim.Native.Nat.{ℕ, _+_, _-_, _*_, _/_, _≤_, _<_}
 use mathlib.Core.Path.{_≡_, sym, _∙_, ap}
 use mathlib.Core.Logic.{_⊎_, inl, inr}
 use mathlib.Core.Bool.{true, cond}
-use mathlib.Core.List.{List}
+use mathlib.Core.List.{List, []}
 use native.Mathlib.Omega.{arith}
 use native.Mathlib.Decide.{decLt, ℕ-discrete}
 use lib.Dec.{ltb}
@@ -20,6 +20,7 @@ use Rattle.plan_order.proofs.Order.{By, is-by, later-order}
 use Rattle.plan_turns_search.specs.Record.{endOf, keyOf}
 use Rattle.plan_turns_search.specs.Chain.{Below, ChainBelow, Falls, LinkedBy, turnedKey, DownChains, UpChains}
 use Rattle.plan_turns_search.proofs.Record.{end-from, end-back}
+use Rattle.plan_turns_search.specs.Record.{siteSlicesOf}
 
 -- the order of links as one number
 abbrev linkKey : List ℕ → ℕ → ℕ
@@ -248,7 +249,7 @@ module _ (links : ℕ) (lows highs costs : List ℕ) (few : links ≤ 2048) (che
   by-key = order-falls links costs order few p
 
   pub chains-down : (firsts nexts : List ℕ) → LinkedBy links lows highs order firsts nexts → 2 * links ≤ length nexts
-      → ((v : ℕ) → v < length firsts → Below (2 * links) (endOf lows highs) (keyOf costs) v 4294967296 (item firsts v)) × DownChains links lows highs costs nexts
+      → ((v : ℕ) → v < length firsts → Below (2 * links) (endOf lows highs) (keyOf costs) v 4294967296 (item firsts v)) × DownChains (siteSlicesOf links lows highs costs []) nexts
   unfolding keyOf
   chains-down firsts nexts c long =
       (k .firsts, record { long = long; next = λ d l. k .follows d l (small (d / 2) (omega arith)) })
@@ -280,7 +281,7 @@ module _ (links : ℕ) (lows highs costs : List ℕ) (few : links ≤ 2048) (che
             (links - 1 - x .0, y, at-round (links - 1 - x .0) y ∙ ap (item order) z ∙ x .2)
 
     pub chains-up : (firsts ups : List ℕ) → LinkedBy links lows highs round firsts ups → 2 * links ≤ length ups
-        → ((v : ℕ) → v < length firsts → Below (2 * links) (endOf lows highs) (turnedKey costs) v 4294967296 (item firsts v)) × UpChains links lows highs costs ups
+        → ((v : ℕ) → v < length firsts → Below (2 * links) (endOf lows highs) (turnedKey costs) v 4294967296 (item firsts v)) × UpChains (siteSlicesOf links lows highs costs []) ups
     unfolding keyOf
     chains-up firsts ups c long =
         (k .firsts, record { long = long; next = λ d l. k .follows d l (omega arith) })

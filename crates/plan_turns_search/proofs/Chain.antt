@@ -2,7 +2,7 @@
 use Prim.Native.Nat.{ℕ, _+_, _-_, _*_, _/_, _%_, _≤_, _<_}
 use mathlib.Core.Path.{_≡_, sym, _∙_, ap}
 use mathlib.Core.Bool.{Bool, true, cond, _&&_}
-use mathlib.Core.List.{List}
+use mathlib.Core.List.{List, []}
 use native.Mathlib.Omega.{arith}
 use native.Mathlib.Decide.{decLt, ℕ-discrete}
 use lib.Dec.{ltb, eqb}
@@ -14,6 +14,7 @@ use Rattle.plan_turns_search.specs.Offers.{Site, holds, dearerHeld, Woul
 use Rattle.plan_turns_search.specs.Record.{endOf, keyOf, siteOf, SiteInSlices}
 use Rattle.plan_turns_search.specs.Chain.{opposite, Below, Follows, DownChains, UpChains, turnedKey}
 use Rattle.plan_turns_search.proofs.Record.{end-even, end-odd, distinct}
+use Rattle.plan_turns_search.specs.Record.{siteSlicesOf}
 
 opposite-even : (d : ℕ) → d % 2 ≡ 0 → opposite d ≡ d + 1
 unfolding opposite
@@ -78,9 +79,9 @@ held-grows s o o′ grows v f h =
 pub walk-sought : (s : Site) (o : ℕ → ℕ) (u r : ℕ) → Sought s o u r → OfferSearch s o u r
 walk-sought s o u r h = record { own = λ l. h .some l .own; top = λ l. h .some l .dearest; end = h .none }
 
-module _ (links : ℕ) (lows highs costs spares : List ℕ) (fits : SiteInSlices links lows highs costs spares) where
+module _ (links : ℕ) (lows highs costs spares : List ℕ) (fits : SiteInSlices (siteSlicesOf links lows highs costs spares)) where
   abbrev site : Site
-  site = siteOf links lows highs costs spares
+  site = siteOf (siteSlicesOf links lows highs costs spares)
 
   small : (d : ℕ) → d < 2 * links → keyOf costs d < 4294967296
   unfolding keyOf
@@ -109,7 +110,7 @@ module _ (links : ℕ) (lows highs costs spares : List ℕ) (fits : SiteInSlices
               omega arith
 
   module _ (o : ℕ → ℕ) (u : ℕ) where
-    pub walk-next : (nexts : List ℕ) → DownChains links lows highs costs nexts → (d e : ℕ) → d < 2 * links → OfferSearch site o u d → (o d ≡ 0 → WouldRefuse site o d) → e ≡ item nexts d → OfferSearch site o u e
+    pub walk-next : (nexts : List ℕ) → DownChains (siteSlicesOf links lows highs costs []) nexts → (d e : ℕ) → d < 2 * links → OfferSearch site o u d → (o d ≡ 0 → WouldRefuse site o d) → e ≡ item nexts d → OfferSearch site o u e
     walk-next nexts chain d e l w past q =
         record {
           own = λ k. b .own k ∙ w .own l;
@@ -232,7 +233,7 @@ module _ (links : ℕ) (lows highs costs spares : List ℕ) (fits : SiteInSlices
                 let q : g ≡ d = distinct links lows highs costs spares fits .targets g d lg ld (own ∙ sym at) (omega arith) in
                 absurd (off (sym (ap o q) ∙ e))
 
-        pub held-next : (ups : List ℕ) → UpChains links lows highs costs ups → (o (opposite f) ≡ 1 → ⊥) → (d : ℕ) → d < 2 * links → endOf highs lows d ≡ v → keyOf costs f < keyOf costs d
+        pub held-next : (ups : List ℕ) → UpChains (siteSlicesOf links lows highs costs []) ups → (o (opposite f) ≡ 1 → ⊥) → (d : ℕ) → d < 2 * links → endOf highs lows d ≡ v → keyOf costs f < keyOf costs d
             → (e : ℕ) → e ≡ item ups f → HeldSearch site o v e
         held-next ups chain off d ld at more e q = go (decLt e (2 * links))
           where
@@ -267,7 +268,7 @@ module _ (links : ℕ) (lows highs costs spares : List ℕ) (fits : SiteInSlices
                     held-refuses g lg own (λ w. off (sym (ap o t) ∙ w)) (omega arith)
 
         -- what v holds is further up
-        pub held-step : (ups : List ℕ) → UpChains links lows highs costs ups → (o (opposite f) ≡ 1 → ⊥) → 0 < holds site o v → (e : ℕ) → e ≡ item ups f → HeldSearch site o v e
+        pub held-step : (ups : List ℕ) → UpChains (siteSlicesOf links lows highs costs []) ups → (o (opposite f) ≡ 1 → ⊥) → 0 < holds site o v → (e : ℕ) → e ≡ item ups f → HeldSearch site o v e
         held-step ups chain off some e q =
             let m = member (2 * links) holder some in
             let g = m .0 in

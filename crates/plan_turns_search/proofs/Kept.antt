@@ -10,6 +10,7 @@ use Rattle.table.specs.Table.{item}
 use Rattle.plan_turns_search.specs.Record.{atSource, endOf, siteOf, mark, FirstMarks, MarksAgree}
 use Rattle.plan_turns_search.specs.Offers.{Site, Sought, HeldSearch, OfferSearch}
 use Rattle.plan_turns_search.proofs.Chain.{walk-sought}
+use Rattle.plan_turns_search.specs.Record.{siteSlicesOf}
 
 -- in another column
 pub mark-other : (marks marks′ : List ℕ) (v j x w k : ℕ) → marks′ ≡ set marks (4 * v + j) x → j < 4 → k < 4 → (k ≡ j → ⊥) → mark marks′ w k ≡ mark marks w k
@@ -57,11 +58,11 @@ first-next cursors lasts marks marks₁ marks₂ v x y l ex ey e₁ e₂ f =
     starts : (w : ℕ) → w < v + 1 → (mark marks₂ w 2 ≡ item cursors w) × (mark marks₂ w 3 ≡ item lasts w)
     starts w m = (mark-other marks₁ marks₂ v 3 y w 2 e₂ (omega arith) (omega arith) (λ z. omega arith) ∙ cursors-at w m, lasts-at w m)
 
-module _ (links : ℕ) (lows highs costs spares r marks : List ℕ) (k : MarksAgree links lows highs costs spares r marks) where
+module _ (links : ℕ) (lows highs costs spares r marks : List ℕ) (k : MarksAgree (siteSlicesOf links lows highs costs spares) r marks) where
   abbrev site : Site
-  site = siteOf links lows highs costs spares
+  site = siteOf (siteSlicesOf links lows highs costs spares)
 
-  pub cursor-moved : (u d : ℕ) → u < length spares → Sought site (atSource r) u d → (marks′ : List ℕ) → marks′ ≡ set marks (4 * u + 2) d → MarksAgree links lows highs costs spares r marks′
+  pub cursor-moved : (u d : ℕ) → u < length spares → Sought site (atSource r) u d → (marks′ : List ℕ) → marks′ ≡ set marks (4 * u + 2) d → MarksAgree (siteSlicesOf links lows highs costs spares) r marks′
   cursor-moved u d l s marks′ e =
       record {
         room = room-kept marks marks′ (4 * length spares) (4 * u + 2) d e (k .room);
@@ -71,7 +72,7 @@ module _ (links : ℕ) (lows highs costs spares r marks : List ℕ) (k : MarksAg
         lasts = λ w m. rw (mark-other marks marks′ u 2 d w 3 e (omega arith) (omega arith) (λ z. omega arith)) (k .lasts w m);
       }
 
-  pub held-moved : (v f : ℕ) → v < length spares → HeldSearch site (atSource r) v f → (marks′ : List ℕ) → marks′ ≡ set marks (4 * v + 3) f → MarksAgree links lows highs costs spares r marks′
+  pub held-moved : (v f : ℕ) → v < length spares → HeldSearch site (atSource r) v f → (marks′ : List ℕ) → marks′ ≡ set marks (4 * v + 3) f → MarksAgree (siteSlicesOf links lows highs costs spares) r marks′
   held-moved v f l h marks′ e =
       record {
         room = room-kept marks marks′ (4 * length spares) (4 * v + 3) f e (k .room);

@@ -27,6 +27,7 @@ use Rattle.plan_turns_search.specs.Record.{atSource, atTarget, endOf, ke
 use Rattle.plan_turns_search.specs.Offers.{Site, on, WouldRefuse}
 use Rattle.plan_turns_search.proofs.Offers.{explained}
 use Rattle.plan_turns_search.proofs.Record.{end-from, end-back}
+use Rattle.plan_turns_search.specs.Record.{siteSlicesOf}
 
 -- a count over directions, link by link
 sides : (p : ℕ → Bool) (n : ℕ) → count (2 * n) p ≡ sum n (λ i. cond (p (2 * i)) 1 0 + cond (p (2 * i + 1)) 1 0)
@@ -93,7 +94,7 @@ module _ (probes links : ℕ) (needs lows highs costs : List ℕ) (legal : Legal
   pub ends : (i : ℕ) → i < links → Ends probes (item lows i) (item highs i)
   ends = good .ends
 
-  pub fits : (spares : List ℕ) → length spares ≡ 256 → links ≤ length lows → links ≤ length highs → links ≤ length costs → ((i : ℕ) → item costs i < 65536) → SiteInSlices links lows highs costs spares
+  pub fits : (spares : List ℕ) → length spares ≡ 256 → links ≤ length lows → links ≤ length highs → links ≤ length costs → ((i : ℕ) → item costs i < 65536) → SiteInSlices (siteSlicesOf links lows highs costs spares)
   fits spares e a b d cheap =
       record {
         few = let s = small in omega (arith, s .1);
@@ -106,9 +107,9 @@ module _ (probes links : ℕ) (needs lows highs costs : List ℕ) (legal : Legal
         within = omega arith;
       }
 
-  module _ (spares r : List ℕ) (right : (v : ℕ) → item spares v ≡ spare table v) (over : Over links lows highs costs spares r probes) where
+  module _ (spares r : List ℕ) (right : (v : ℕ) → item spares v ≡ spare table v) (over : Over (siteSlicesOf links lows highs costs spares) r probes) where
     abbrev site : Site
-    site = siteOf links lows highs costs spares
+    site = siteOf (siteSlicesOf links lows highs costs spares)
 
     abbrev stand : ℕ → ℕ → Bool
     stand = offerOf lows r

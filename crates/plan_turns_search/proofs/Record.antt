@@ -14,6 +14,7 @@ use Rattle.range.proofs.Sums.{weigh-le, count-less}
 use Rattle.table.specs.Table.{item}
 use Rattle.plan_turns_search.specs.Record.{atSource, atTarget, endOf, keyOf, siteOf, put, untriedCount, SiteInSlices, Paired}
 use Rattle.plan_turns_search.proofs.Offers.{Distinct}
+use Rattle.plan_turns_search.specs.Record.{siteSlicesOf}
 
 pub end-even : (a b : List ℕ) (d : ℕ) → d % 2 ≡ 0 → endOf a b d ≡ item a (d / 2)
 unfolding endOf
@@ -107,8 +108,8 @@ same-direction links a b costs few apart f g lf lg e k = go (ℕ-discrete (f % 2
         absurd (apart (g / 2) (omega arith) (sym (end-even a b g y) ∙ sym e ∙ end-odd a b f x ∙ ap (item b) place))
     go (no x) (no y) = let p = place in omega arith
 
-module _ (links : ℕ) (lows highs costs spares : List ℕ) (fits : SiteInSlices links lows highs costs spares) where
-  pub distinct : Distinct (siteOf links lows highs costs spares)
+module _ (links : ℕ) (lows highs costs spares : List ℕ) (fits : SiteInSlices (siteSlicesOf links lows highs costs spares)) where
+  pub distinct : Distinct (siteOf (siteSlicesOf links lows highs costs spares))
   distinct =
       record {
         sources = same-direction links lows highs costs (fits .few) (λ i l e. let a = fits .rises i l in omega arith);

@@ -16,12 +16,13 @@ use Rattle.plan_turns_search.proofs.Offers.{on-take, made-none, take-ma
 use Rattle.plan_turns_search.proofs.Record.{length-put, put-here, put-other, put-paired, untried-most, untried-less, distinct, source-below, target-below}
 use Rattle.plan_turns_search.proofs.Chain.{walk-grows, held-grows}
 use Rattle.plan_turns_search.proofs.Kept.{mark-other, mark-column, room-kept}
+use Rattle.plan_turns_search.specs.Record.{siteSlicesOf}
 
 module _ (links : ℕ) (lows highs costs spares r : List ℕ) where
   abbrev site : Site
-  site = siteOf links lows highs costs spares
+  site = siteOf (siteSlicesOf links lows highs costs spares)
 
-  pub offered-none : (u d : ℕ) → OffersReady links lows highs costs spares r → Sought site (atSource r) u d → 2 * links ≤ d → Offered links lows highs costs spares r r u false
+  pub offered-none : (u d : ℕ) → OffersReady (siteSlicesOf links lows highs costs spares) r → Sought site (atSource r) u d → 2 * links ≤ d → Offered (siteSlicesOf links lows highs costs spares) r r u false
   offered-none u d ready s l =
       record {
         paired = ready .paired;
@@ -30,9 +31,9 @@ module _ (links : ℕ) (lows highs costs spares r : List ℕ) where
         none = λ e. s .none l;
       }
 
-  pub offered-take : (u d v n spare : ℕ) → OffersReady links lows highs costs spares r → stands site (atSource r) u < item spares u → Sought site (atSource r) u d → d < 2 * links
+  pub offered-take : (u d v n spare : ℕ) → OffersReady (siteSlicesOf links lows highs costs spares) r → stands site (atSource r) u < item spares u → Sought site (atSource r) u d → d < 2 * links
       → v ≡ endOf highs lows d → n ≡ holds site (atSource r) v → spare ≡ item spares v → n < spare
-      → (r′ : List ℕ) → r′ ≡ put r d 1 → Offered links lows highs costs spares r r′ u true
+      → (r′ : List ℕ) → r′ ≡ put r d 1 → Offered (siteSlicesOf links lows highs costs spares) r r′ u true
   offered-take u d v n spare ready room s l ev en es less r′ e =
       let next = s .some l in
       let fits : 2 * d + 1 < length r = let k = ready .paired .room in omega arith in
@@ -46,9 +47,9 @@ module _ (links : ℕ) (lows highs costs spares r : List ℕ) where
       }
 
   -- the marks after an offer taken: one more of u stands, and one more is held by v
-  pub taken-kept : (u d v : ℕ) → OffersReady links lows highs costs spares r → Sought site (atSource r) u d → d < 2 * links → v ≡ endOf highs lows d → u < length spares → (marks : List ℕ)
-      → MarksAgree links lows highs costs spares r marks → (r′ marks₁ marks₂ : List ℕ) → r′ ≡ put r d 1 → marks₁ ≡ set marks (4 * u + 0) (mark marks u 0 + 1) → marks₂ ≡ set marks₁ (4 * v + 1) (mark marks₁ v 1 + 1)
-      → Grows site (atSource r) (atSource r′) → MarksAgree links lows highs costs spares r′ marks₂
+  pub taken-kept : (u d v : ℕ) → OffersReady (siteSlicesOf links lows highs costs spares) r → Sought site (atSource r) u d → d < 2 * links → v ≡ endOf highs lows d → u < length spares → (marks : List ℕ)
+      → MarksAgree (siteSlicesOf links lows highs costs spares) r marks → (r′ marks₁ marks₂ : List ℕ) → r′ ≡ put r d 1 → marks₁ ≡ set marks (4 * u + 0) (mark marks u 0 + 1) → marks₂ ≡ set marks₁ (4 * v + 1) (mark marks₁ v 1 + 1)
+      → Grows site (atSource r) (atSource r′) → MarksAgree (siteSlicesOf links lows highs costs spares) r′ marks₂
   taken-kept u d v ready s l ev lu marks k r′ marks₁ marks₂ e e₁ e₂ grows =
       record {
         room = room-kept marks₁ marks₂ (4 * length spares) (4 * v + 1) (mark marks₁ v 1 + 1) e₂ room₁;
@@ -89,9 +90,9 @@ module _ (links : ℕ) (lows highs costs spares r : List ℕ) where
           mark-other marks₁ marks₂ v 1 (mark marks₁ v 1 + 1) w j e₂ (omega arith) lj n₁ ∙ mark-other marks marks₁ u 0 (mark marks u 0 + 1) w j e₁ (omega arith) lj n₀
 
   -- u's next offer goes to an end that holds its spare
-  module _ (u d v : ℕ) (ready : OffersReady links lows highs costs spares r) (room : stands site (atSource r) u < item spares u) (s : Sought site (atSource r) u d)
+  module _ (u d v : ℕ) (ready : OffersReady (siteSlicesOf links lows highs costs spares) r) (room : stands site (atSource r) u < item spares u) (s : Sought site (atSource r) u d)
       (l : d < 2 * links) (ev : v ≡ endOf highs lows d) where
-    pub displaces : (n spare : ℕ) → n ≡ holds site (atSource r) v → spare ≡ item spares v → spare ≤ n → Displaces links lows highs costs spares r d
+    pub displaces : (n spare : ℕ) → n ≡ holds site (atSource r) v → spare ≡ item spares v → spare ≤ n → Displaces (siteSlicesOf links lows highs costs spares) r d
     displaces n spare en es more =
         let own = s .some l .own in
         record {
@@ -101,7 +102,7 @@ module _ (links : ℕ) (lows highs costs spares r : List ℕ) where
           full = let a = rw ev at es in let b = rw ev at en in omega arith;
         }
 
-    pub offered-displacing : (r′ : List ℕ) → Offered links lows highs costs spares r r′ (endOf lows highs d) true → Offered links lows highs costs spares r r′ u true
+    pub offered-displacing : (r′ : List ℕ) → Offered (siteSlicesOf links lows highs costs spares) r r′ (endOf lows highs d) true → Offered (siteSlicesOf links lows highs costs spares) r r′ u true
     offered-displacing r′ o = rw (s .some l .own) at o
 
   -- the maker of a held offer has one standing
@@ -112,7 +113,7 @@ module _ (links : ℕ) (lows highs costs spares r : List ℕ) where
       omega arith
 
   -- d is taken in place of c, whose byte is stored, and r becomes r₂
-  module _ (d v : ℕ) (at : Displaces links lows highs costs spares r d) (ev : v ≡ endOf highs lows d) where
+  module _ (d v : ℕ) (at : Displaces (siteSlicesOf links lows highs costs spares) r d) (ev : v ≡ endOf highs lows d) where
     pub some-held : 0 < holds site (atSource r) v
     some-held = rw ev (let a = at .full in let b = at .next .wanted in omega arith)
 
@@ -138,7 +139,7 @@ module _ (links : ℕ) (lows highs costs spares r : List ℕ) where
       rest : (x : ℕ) → (x ≡ d → ⊥) → (x ≡ c → ⊥) → atSource r₂ x ≡ atSource r x
       rest x n m = rw e (put-other (put r c byte) d 1 room-d x n ∙ put-other r c byte room-c x m)
 
-      pub displaced-ready : OffersReady links lows highs costs spares r₂
+      pub displaced-ready : OffersReady (siteSlicesOf links lows highs costs spares) r₂
       displaced-ready =
           record {
             fits = at .ready .fits;
@@ -161,8 +162,8 @@ module _ (links : ℕ) (lows highs costs spares r : List ℕ) where
       pub displaced-fewer : untriedCount links r₂ < untriedCount links r
       displaced-fewer = untried-less links r r₂ still d (at .next .below) (at .next .untried) (λ z. let a = here in omega arith)
 
-      pub displaced-offered : (w : ℕ) → w ≡ endOf lows highs c → (r₃ : List ℕ) (made? : Bool) → Offered links lows highs costs spares r₂ r₃ w made?
-          → Offered links lows highs costs spares r r₃ (endOf lows highs d) true
+      pub displaced-offered : (w : ℕ) → w ≡ endOf lows highs c → (r₃ : List ℕ) (made? : Bool) → Offered (siteSlicesOf links lows highs costs spares) r₂ r₃ w made?
+          → Offered (siteSlicesOf links lows highs costs spares) r r₃ (endOf lows highs d) true
       displaced-offered w ew r₃ made? o =
           record {
             paired = o .paired;
@@ -172,8 +173,8 @@ module _ (links : ℕ) (lows highs costs spares r : List ℕ) where
           }
 
       -- the marks then: one less of w stands, and one more of u
-      pub displaced-kept : (w u : ℕ) → w ≡ endOf lows highs c → u ≡ endOf lows highs d → (marks : List ℕ) → MarksAgree links lows highs costs spares r marks
-          → (marks₁ marks₂ : List ℕ) → marks₁ ≡ set marks (4 * w + 0) (mark marks w 0 - 1) → marks₂ ≡ set marks₁ (4 * u + 0) (mark marks₁ u 0 + 1) → MarksAgree links lows highs costs spares r₂ marks₂
+      pub displaced-kept : (w u : ℕ) → w ≡ endOf lows highs c → u ≡ endOf lows highs d → (marks : List ℕ) → MarksAgree (siteSlicesOf links lows highs costs spares) r marks
+          → (marks₁ marks₂ : List ℕ) → marks₁ ≡ set marks (4 * w + 0) (mark marks w 0 - 1) → marks₂ ≡ set marks₁ (4 * u + 0) (mark marks₁ u 0 + 1) → MarksAgree (siteSlicesOf links lows highs costs spares) r₂ marks₂
       displaced-kept w u ew eu marks k marks₁ marks₂ e₁ e₂ =
           record {
             room = room-kept marks₁ marks₂ (4 * length spares) (4 * u + 0) (mark marks₁ u 0 + 1) e₂ room₁;

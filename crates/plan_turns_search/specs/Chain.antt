@@ -6,7 +6,7 @@ use mathlib.Core.List.{List}
 use lib.Dec.{eqb}
 use lib.ListN.{length}
 use Rattle.table.specs.Table.{item}
-use Rattle.plan_turns_search.specs.Record.{endOf, keyOf, mark}
+use Rattle.plan_turns_search.specs.Record.{endOf, keyOf, SiteSlices, mark}
 
 -- the same link the other way
 unfoldable pub opposite : ℕ → ℕ
@@ -34,18 +34,18 @@ abbrev pub turnedKey : List ℕ → ℕ → ℕ
 turnedKey costs d = 4294967295 - keyOf costs d
 
 -- the chains down from the dearest, and up from the cheapest
-abbrev pub DownChains : ℕ → List ℕ → List ℕ → List ℕ → List ℕ → Type 0
-DownChains links lows highs costs nexts = Follows (2 * links) (endOf lows highs) (keyOf costs) nexts
+abbrev pub DownChains : SiteSlices → List ℕ → Type 0
+DownChains x nexts = Follows (2 * x .links) (endOf (x .lows) (x .highs)) (keyOf (x .costs)) nexts
 
-abbrev pub UpChains : ℕ → List ℕ → List ℕ → List ℕ → List ℕ → Type 0
-UpChains links lows highs costs ups = Follows (2 * links) (endOf lows highs) (turnedKey costs) ups
+abbrev pub UpChains : SiteSlices → List ℕ → Type 0
+UpChains x ups = Follows (2 * x .links) (endOf (x .lows) (x .highs)) (turnedKey (x .costs)) ups
 
 -- no offer is made, and the searches stand at the chains' firsts
-pub record Started (links : ℕ) (lows highs costs marks : List ℕ) : Type 0 where
+pub record Started (x : SiteSlices) (marks : List ℕ) : Type 0 where
   pub standing : (v : ℕ) → v < 256 → mark marks v 0 ≡ 0
   pub held : (v : ℕ) → v < 256 → mark marks v 1 ≡ 0
-  pub cursors : (v : ℕ) → v < 256 → Below (2 * links) (endOf lows highs) (keyOf costs) v 4294967296 (mark marks v 2)
-  pub lasts : (v : ℕ) → v < 256 → Below (2 * links) (endOf lows highs) (turnedKey costs) v 4294967296 (mark marks v 3)
+  pub cursors : (v : ℕ) → v < 256 → Below (2 * x .links) (endOf (x .lows) (x .highs)) (keyOf (x .costs)) v 4294967296 (mark marks v 2)
+  pub lasts : (v : ℕ) → v < 256 → Below (2 * x .links) (endOf (x .lows) (x .highs)) (turnedKey (x .costs)) v 4294967296 (mark marks v 3)
 
 -- `order` has each link, from the largest key to the smallest
 pub record Falls (links : ℕ) (key : ℕ → ℕ) (order : List ℕ) : Type 0 where

@@ -24,9 +24,27 @@ endOf firsts seconds d = cond (eqb (d % 2) 0) (item firsts (d / 2)) (item second
 unfoldable pub keyOf : List ℕ → ℕ → ℕ
 keyOf costs d = item costs (d / 2) * 65536 + d / 2
 
-abbrev pub siteOf : ℕ → List ℕ → List ℕ → List ℕ → List ℕ → Site
-siteOf links lows highs costs spares =
-    record { dirs = 2 * links; source = endOf lows highs; target = endOf highs lows; key = keyOf costs; spare = item spares }
+-- the links in slices, and each probe's spare
+pub record SiteSlices : Type 0 where
+  pub links : ℕ
+  pub lows : List ℕ
+  pub highs : List ℕ
+  pub costs : List ℕ
+  pub spares : List ℕ
+
+-- by its parts
+abbrev pub siteSlicesOf : ℕ → List ℕ → List ℕ → List ℕ → List ℕ → SiteSlices
+siteSlicesOf links lows highs costs spares = record { links = links; lows = lows; highs = highs; costs = costs; spares = spares }
+
+abbrev pub siteOf : SiteSlices → Site
+siteOf x =
+    record {
+      dirs = 2 * x .links;
+      source = endOf (x .lows) (x .highs);
+      target = endOf (x .highs) (x .lows);
+      key = keyOf (x .costs);
+      spare = item (x .spares);
+    }
 
 -- the atSource and the atTarget byte of a direction, both stored
 unfoldable pub put : List ℕ → ℕ → ℕ → List ℕ
@@ -41,25 +59,25 @@ abbrev pub keptByte : List ℕ → ℕ → ℕ
 keptByte r i = cond (eqb (atTarget r (2 * i)) 1 && eqb (atTarget r (2 * i + 1)) 1) 0 1
 
 -- the links fit the slices, and the links' ends the spares
-pub record SiteInSlices (links : ℕ) (lows highs costs spares : List ℕ) : Type 0 where
-  pub few : links ≤ 2048
-  pub in-lows : links ≤ length lows
-  pub in-highs : links ≤ length highs
-  pub in-costs : links ≤ length costs
-  pub cheap : (i : ℕ) → item costs i < 65536
-  pub rises : (i : ℕ) → i < links → item lows i < item highs i
-  pub ends : (i : ℕ) → i < links → item highs i < length spares
-  pub within : length spares ≤ 256
+pub record SiteInSlices (x : SiteSlices) : Type 0 where
+  pub few : x .links ≤ 2048
+  pub in-lows : x .links ≤ length (x .lows)
+  pub in-highs : x .links ≤ length (x .highs)
+  pub in-costs : x .links ≤ length (x .costs)
+  pub cheap : (i : ℕ) → item (x .costs) i < 65536
+  pub rises : (i : ℕ) → i < x .links → item (x .lows) i < item (x .highs) i
+  pub ends : (i : ℕ) → i < x .links → item (x .highs) i < length (x .spares)
+  pub within : length (x .spares) ≤ 256
 
 -- the bytes are there, and a direction's two are equal
 pub record Paired (links : ℕ) (r : List ℕ) : Type 0 where
   pub room : 4 * links ≤ length r
   pub twin : (d : ℕ) → atTarget r d ≡ atSource r d
 
-pub record OffersReady (links : ℕ) (lows highs costs spares r : List ℕ) : Type 0 where
-  pub fits : SiteInSlices links lows highs costs spares
-  pub paired : Paired links r
-  pub inv : Inv (siteOf links lows highs costs spares) (atSource r)
+pub record OffersReady (x : SiteSlices) (r : List ℕ) : Type 0 where
+  pub fits : SiteInSlices x
+  pub paired : Paired (x .links) r
+  pub inv : Inv (siteOf x) (atSource r)
 
 -- the k-th of the four entries of a probe
 abbrev pub mark : List ℕ → ℕ → ℕ → ℕ
@@ -71,34 +89,34 @@ pub record FirstMarks (cursors lasts marks : List ℕ) (n : ℕ) : Type 0 where
   pub starts : (v : ℕ) → v < n → (mark marks v 2 ≡ item cursors v) × (mark marks v 3 ≡ item lasts v)
 
 -- the entries beside the bytes: how many of a probe's offers stand and how many it holds, and where the searches along its links and along its held offers stand
-pub record MarksAgree (links : ℕ) (lows highs costs spares r marks : List ℕ) : Type 0 where
-  pub room : 4 * length spares ≤ length marks
-  pub standing : (u : ℕ) → u < length spares → mark marks u 0 ≡ stands (siteOf links lows highs costs spares) (atSource r) u
-  pub held : (v : ℕ) → v < length spares → mark marks v 1 ≡ holds (siteOf links lows highs costs spares) (atSource r) v
-  pub cursors : (u : ℕ) → u < length spares → OfferSearch (siteOf links lows highs costs spares) (atSource r) u (mark marks u 2)
-  pub lasts : (v : ℕ) → v < length spares → (d : ℕ) → d < 2 * links → endOf highs lows d ≡ v → HeldSearch (siteOf links lows highs costs spares) (atSource r) v (mark marks v 3)
+pub record MarksAgree (x : SiteSlices) (r marks : List ℕ) : Type 0 where
+  pub room : 4 * length (x .spares) ≤ length marks
+  pub standing : (u : ℕ) → u < length (x .spares) → mark marks u 0 ≡ stands (siteOf x) (atSource r) u
+  pub held : (v : ℕ) → v < length (x .spares) → mark marks v 1 ≡ holds (siteOf x) (atSource r) v
+  pub cursors : (u : ℕ) → u < length (x .spares) → OfferSearch (siteOf x) (atSource r) u (mark marks u 2)
+  pub lasts : (v : ℕ) → v < length (x .spares) → (d : ℕ) → d < 2 * x .links → endOf (x .highs) (x .lows) d ≡ v → HeldSearch (siteOf x) (atSource r) v (mark marks v 3)
 
 -- an offer of u was made, or none was left to make
-pub record Offered (links : ℕ) (lows highs costs spares r r′ : List ℕ) (u : ℕ) (made? : Bool) : Type 0 where
-  pub paired : Paired links r′
-  pub made : Made (siteOf links lows highs costs spares) (atSource r) (atSource r′) u
-  pub fewer : made? ≡ true → untriedCount links r′ < untriedCount links r
-  pub none : made? ≡ false → NoneLeft (siteOf links lows highs costs spares) (atSource r′) u
+pub record Offered (x : SiteSlices) (r r′ : List ℕ) (u : ℕ) (made? : Bool) : Type 0 where
+  pub paired : Paired (x .links) r′
+  pub made : Made (siteOf x) (atSource r) (atSource r′) u
+  pub fewer : made? ≡ true → untriedCount (x .links) r′ < untriedCount (x .links) r
+  pub none : made? ≡ false → NoneLeft (siteOf x) (atSource r′) u
 
 -- d is its source's next offer, and its target holds its spare
-pub record Displaces (links : ℕ) (lows highs costs spares r : List ℕ) (d : ℕ) : Type 0 where
-  pub ready : OffersReady links lows highs costs spares r
-  pub next : Next (siteOf links lows highs costs spares) (atSource r) (endOf lows highs d) d
-  pub room : stands (siteOf links lows highs costs spares) (atSource r) (endOf lows highs d) < item spares (endOf lows highs d)
-  pub full : item spares (endOf highs lows d) ≤ holds (siteOf links lows highs costs spares) (atSource r) (endOf highs lows d)
+pub record Displaces (x : SiteSlices) (r : List ℕ) (d : ℕ) : Type 0 where
+  pub ready : OffersReady x r
+  pub next : Next (siteOf x) (atSource r) (endOf (x .lows) (x .highs) d) d
+  pub room : stands (siteOf x) (atSource r) (endOf (x .lows) (x .highs) d) < item (x .spares) (endOf (x .lows) (x .highs) d)
+  pub full : item (x .spares) (endOf (x .highs) (x .lows) d) ≤ holds (siteOf x) (atSource r) (endOf (x .highs) (x .lows) d)
 
 -- probe p had its turn: it is satisfied, and so is each that was
-pub record Turned (links : ℕ) (lows highs costs spares r r′ : List ℕ) (p : ℕ) : Type 0 where
-  pub ready : OffersReady links lows highs costs spares r′
-  pub keeps : (w : ℕ) → Satisfied (siteOf links lows highs costs spares) (atSource r) w → Satisfied (siteOf links lows highs costs spares) (atSource r′) w
-  pub done : Satisfied (siteOf links lows highs costs spares) (atSource r′) p
+pub record Turned (x : SiteSlices) (r r′ : List ℕ) (p : ℕ) : Type 0 where
+  pub ready : OffersReady x r′
+  pub keeps : (w : ℕ) → Satisfied (siteOf x) (atSource r) w → Satisfied (siteOf x) (atSource r′) w
+  pub done : Satisfied (siteOf x) (atSource r′) p
 
 -- the first n probes are satisfied
-pub record Over (links : ℕ) (lows highs costs spares r : List ℕ) (n : ℕ) : Type 0 where
-  pub ready : OffersReady links lows highs costs spares r
-  pub done : (w : ℕ) → w < n → Satisfied (siteOf links lows highs costs spares) (atSource r) w
+pub record Over (x : SiteSlices) (r : List ℕ) (n : ℕ) : Type 0 where
+  pub ready : OffersReady x r
+  pub done : (w : ℕ) → w < n → Satisfied (siteOf x) (atSource r) w

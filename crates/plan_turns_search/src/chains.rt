@@ -1,11 +1,12 @@
 // The functions, each within the bounds that it asks.
 ghost use mathlib.Core.Path.{_≡_};
+ghost use mathlib.Core.List.{[]};
 ghost use Prim.Native.Nat.{ℕ, _+_, _*_, _-_, _<_, _≤_};
 ghost use lib.ListN.{length, set};
 ghost use Rattle.range.specs.Lists.{stored};
 ghost use Rattle.table.specs.Table.{item};
 ghost use Rattle.plan_turns_search.specs.Chain.{DownChains, UpChains, Started, LinkedBy};
-ghost use Rattle.plan_turns_search.specs.Record.{FirstMarks};
+ghost use Rattle.plan_turns_search.specs.Record.{siteSlicesOf, FirstMarks};
 use super::directions::HELD_CURSOR;
 use super::directions::OFFER_CURSOR;
 use super::directions::entry;
@@ -84,7 +85,8 @@ pub fn link_up(
     requires { ⌜ (links ≤ 2048) × (links ≤ length (now lows)) × (links ≤ length (now highs)) × (links ≤ length (now costs))
         × ((i : ℕ) → i < links → (item (now lows) i < item (now highs) i) × (item (now highs) i < 256))
         × (length (now marks) ≡ 1024) × ((j : ℕ) → item (now marks) j ≡ 0) × (2 * links ≤ length (now nexts)) × (2 * links ≤ length (now ups)) ⌝ }
-    ensures { λ _. ⌜ (Started links (now (lows .entry)) (now (highs .entry)) (now (costs .entry)) (now (marks .exit))) × (DownChains links (now (lows .entry)) (now (highs .entry)) (now (costs .entry)) (now (nexts .exit))) × (UpChains links (now (lows .entry)) (now (highs .entry)) (now (costs .entry)) (now (ups .exit))) ⌝ }
+    ensures { λ _. let x = siteSlicesOf links (now (lows .entry)) (now (highs .entry)) (now (costs .entry)) [] in
+        ⌜ Started x (now (marks .exit)) × DownChains x (now (nexts .exit)) × UpChains x (now (ups .exit)) ⌝ }
 {
     let mut order = [0u16; 2048];
     plan_order::sorting::order_links(&mut order, links, costs);

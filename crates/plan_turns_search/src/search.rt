@@ -2,7 +2,7 @@
 ghost use Prim.Native.Nat.{_+_, _*_, _<_, _≤_};
 ghost use lib.ListN.{length};
 ghost use Rattle.table.specs.Table.{item};
-ghost use Rattle.plan_turns_search.specs.Record.{atSource, siteOf, OffersReady, MarksAgree};
+ghost use Rattle.plan_turns_search.specs.Record.{atSource, siteSlicesOf, siteOf, OffersReady, MarksAgree};
 ghost use Rattle.plan_turns_search.specs.Chain.{opposite, DownChains, UpChains};
 ghost use Rattle.plan_turns_search.specs.Offers.{Sought, Cheapest, HeldSearch, holds};
 use super::directions::HELD;
@@ -27,9 +27,11 @@ pub fn next_offer(
     ups: &[u16],
     u: usize,
 ) -> usize
-    requires { ⌜ (OffersReady links (now lows) (now highs) (now costs) (now spares) (now rec)) × (MarksAgree links (now lows) (now highs) (now costs) (now spares) (now rec) (now marks))
-        × (DownChains links (now lows) (now highs) (now costs) (now nexts)) × (UpChains links (now lows) (now highs) (now costs) (now ups)) × (u < length (now spares)) ⌝ }
-    ensures { λ r. ⌜ (Sought (siteOf links (now (lows .entry)) (now (highs .entry)) (now (costs .entry)) (now (spares .entry))) (atSource (now (rec .entry))) u r) × (r ≤ 2 * links) ⌝ }
+    requires { let x = siteSlicesOf links (now lows) (now highs) (now costs) (now spares) in
+        ⌜ OffersReady x (now rec) × MarksAgree x (now rec) (now marks)
+        × DownChains x (now nexts) × UpChains x (now ups) × (u < length (now spares)) ⌝ }
+    ensures { λ r. let x = siteSlicesOf links (now (lows .entry)) (now (highs .entry)) (now (costs .entry)) (now (spares .entry)) in
+        ⌜ (Sought (siteOf x) (atSource (now (rec .entry))) u r) × (r ≤ 2 * links) ⌝ }
 {
     let dirs = 2 * links;
     let mut found = dirs;
@@ -69,10 +71,13 @@ pub fn cheapest(
     ups: &[u16],
     v: usize,
 ) -> usize
-    requires { ⌜ (OffersReady links (now lows) (now highs) (now costs) (now spares) (now rec)) × (MarksAgree links (now lows) (now highs) (now costs) (now spares) (now rec) (now marks)) × (UpChains links (now lows) (now highs) (now costs) (now ups)) × (v < length (now spares))
-        × (0 < holds (siteOf links (now lows) (now highs) (now costs) (now spares)) (atSource (now rec)) v) × (item (now spares) v ≤ holds (siteOf links (now lows) (now highs) (now costs) (now spares)) (atSource (now rec)) v) ⌝ }
-    ensures { λ r. ⌜ (Cheapest (siteOf links (now (lows .entry)) (now (highs .entry)) (now (costs .entry)) (now (spares .entry))) (atSource (now (rec .entry))) v (opposite r))
-        × (HeldSearch (siteOf links (now (lows .entry)) (now (highs .entry)) (now (costs .entry)) (now (spares .entry))) (atSource (now (rec .entry))) v r) ⌝ }
+    requires { let x = siteSlicesOf links (now lows) (now highs) (now costs) (now spares) in
+        let held = holds (siteOf x) (atSource (now rec)) v in
+        ⌜ OffersReady x (now rec) × MarksAgree x (now rec) (now marks) × UpChains x (now ups) × (v < length (now spares))
+        × (0 < held) × (item (now spares) v ≤ held) ⌝ }
+    ensures { λ r. let x = siteSlicesOf links (now (lows .entry)) (now (highs .entry)) (now (costs .entry)) (now (spares .entry)) in
+        let offers = atSource (now (rec .entry)) in
+        ⌜ Cheapest (siteOf x) offers v (opposite r) × HeldSearch (siteOf x) offers v r ⌝ }
 {
     let mut f = entry(marks, 4 * v + HELD_CURSOR);
     while rec[2 * opposite(f) + 1] != 1 {

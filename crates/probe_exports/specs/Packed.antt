@@ -1,6 +1,6 @@
 -- What the functions of one end for C and Rust promise: the answer as one number, and the lent slices as the functions that are called leave them.
--- A refusal is its number; any other answer is 2 ^ 48 or more.
-use Prim.Native.Nat.{ℕ, _+_, _^_}
+-- A refusal is its number; any other answer is `answerBase` or more.
+use Prim.Native.Nat.{ℕ, _+_}
 use mathlib.Core.Path.{_≡_}
 use mathlib.Core.Bool.{Bool, cond}
 use mathlib.Core.List.{List}
@@ -13,19 +13,19 @@ use Rattle.probe.specs.Answers.{Befallen, Asks, askedEvent}
 use Rattle.probe.specs.declared.Kind.{Kind}
 use Rattle.probe.specs.declared.Asked.{Asked}
 use Rattle.probe.specs.declared.Asked.the-variants.{Written, NotNow, Refused as Unasked}
-use Rattle.packed_answers.specs.Packed.{packedAnswer}
+use Rattle.packed_answers.specs.Packed.{answerBase, packedAnswer}
 use Rattle.probe.specs.declared.Resting.{Resting}
 use Rattle.probe.specs.declared.Resting.the-variants.{Rests, Refused as Untold}
 
 -- 1 where the line is written, 0 where it may not be sent now
 abbrev pub packedAsked : Asked → ℕ
-packedAsked Written = 2 ^ 48 + 1
-packedAsked NotNow = 2 ^ 48
+packedAsked Written = answerBase + 1
+packedAsked NotNow = answerBase
 packedAsked (Unasked refusal) = refusal
 
 -- 1 where the link rests
 abbrev pub packedResting : Resting → ℕ
-packedResting (Rests rests) = 2 ^ 48 + cond rests 1 0
+packedResting (Rests rests) = answerBase + cond rests 1 0
 packedResting (Untold refusal) = refusal
 
 -- the answer to asking by the fault found and whether the frame may be sent

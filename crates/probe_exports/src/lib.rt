@@ -13,6 +13,7 @@ ghost use Rattle.probe_checks.specs.Checks.{hearFault, openFault, linkCallFault
 ghost use Rattle.probe.specs.Answers.{restingOf};
 ghost use Rattle.table.specs.Legal.{lentFault};
 ghost use Rattle.probe_exports.specs.Packed.{packedResting, BefallenPacked, AsksPacked, packedAsked};
+use packed_answers::ANSWER_BASE;
 use packed_answers::packed_answer;
 use probe::Asked;
 use probe::Kind;
@@ -22,8 +23,8 @@ fn packed_asked(r: Asked) -> u64
     ensures { λ n. ⌜ n ≡ packedAsked r ⌝ }
 {
     match r {
-        Asked::Written => 281474976710657,
-        Asked::NotNow => 281474976710656,
+        Asked::Written => ANSWER_BASE + 1,
+        Asked::NotNow => ANSWER_BASE,
         Asked::Refused(refusal) => refusal as u64,
     }
 }
@@ -34,9 +35,9 @@ fn packed_resting(r: Resting) -> u64
     match r {
         Resting::Rests(rests) => {
             if rests {
-                return 281474976710657;
+                return ANSWER_BASE + 1;
             }
-            281474976710656
+            ANSWER_BASE
         }
         Resting::Refused(refusal) => refusal as u64,
     }

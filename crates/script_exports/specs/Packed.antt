@@ -1,5 +1,5 @@
 -- What the functions of a script for C and Rust promise: the answer as one number, and the lent slices as the functions that are called leave them.
--- A refusal is its number; any other answer is 2 ^ 48 or more.
+-- A refusal is its number; any other answer is `answerBase` or more.
 use Prim.Native.Nat.{ℕ}
 use mathlib.Core.Path.{_≡_}
 use mathlib.Core.Bool.{cond}

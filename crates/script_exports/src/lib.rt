@@ -10,6 +10,7 @@ ghost use Rattle.script_theory.specs.Script.{afterPiece, endText, scriptOutput}
 ghost use Rattle.script_output.specs.Handling.{callFault, pieceFault, before};
 ghost use Rattle.packed_answers.specs.Packed.{PrintsPacked};
 ghost use Rattle.script_exports.specs.Packed.{PiecePacked, progressOf};
+use packed_answers::ANSWER_BASE;
 use packed_answers::printed::packed_output;
 use script_output::Handling;
 use script_steps::Progress;
@@ -77,7 +78,7 @@ pub extern "C" fn planner_script_piece(
             numbers[0] = next.used;
             numbers[1] = next.held;
             numbers[2] = next.changed;
-            length as u64 + 281474976710656
+            length as u64 + ANSWER_BASE
         }
         Handling::Refused(refusal) => refusal as u64,
     }

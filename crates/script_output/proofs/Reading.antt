@@ -5,17 +5,16 @@ use mathlib.Core.Bool.{true}
 use mathlib.Core.List.{List}
 use native.Mathlib.Omega.{arith}
 use native.Mathlib.Decide.{ℕ-discrete}
-use lib.ListN.{length, take, drop, replicate, length-drop}
+use lib.ListN.{length, take, drop, length-drop}
 use lib.Seq.{sets, take-all}
 use borrow.Author.Tests.{ne-eqb}
 use Rattle.range.proofs.Faults.{or-none}
 use Rattle.table.specs.Legal.{roomFault}
 use Rattle.table.specs.Text.{ofText, textEnd, textFault, readFault}
-use Rattle.table_read.specs.Reading.{Reads}
+use Rattle.table_read.specs.Reading.{Lent, ReadsTable, lentOf}
 use Rattle.table_read.specs.declared.Reading.{Reading}
 use Rattle.table_read.specs.declared.Reading.the-variants.{Table as Read, Refused as Unread}
 use Rattle.table_text.proofs.Good.{text-head}
-use Rattle.table_laws.specs.Functions.{Slices as Lent}
 use Rattle.table_laws.proofs.Round.{text-within}
 use Rattle.table_laws.proofs.Reading.{blank, blank-found, accepted, refusal-is, read-none, read-numbers, read-legal, read-held}
 use Rattle.output.specs.Output.{refusalLine, shortFault, Prints}
@@ -40,9 +39,9 @@ module _ (s : List ℕ) (e : textFault 256 2048 true s ≡ 0) where
 
 -- the text was read into slices of zeros
 module _ (s : List ℕ) (r : Reading) (needs lows highs costs : List ℕ)
-    (read : Reads (readFault 256 2048 true s 256 2048 2048 2048) (ofText s) r (replicate 256 0) needs (replicate 2048 0) lows (replicate 2048 0) highs (replicate 2048 0) costs) where
+    (read : ReadsTable 256 2048 true s r blank (lentOf needs lows highs costs)) where
   abbrev b : Lent
-  b = record { needs = needs; lows = lows; highs = highs; costs = costs }
+  b = lentOf needs lows highs costs
 
   pub refusal-printed : (n : ℕ) (o : Output) (out out′ : List ℕ) → r ≡ Unread n → 5 ≤ length out → Prints (shortFault (length out) (refusalLine n)) (refusalLine n) o out out′
       → Prints 0 (scriptOutput s) o out out′

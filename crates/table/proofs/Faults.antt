@@ -1,7 +1,8 @@
 -- What it means that a table's checks find no fault.
-use Prim.Native.Nat.{ℕ, _-_, _<_}
+use Prim.Native.Nat.{ℕ, _-_, _≤_, _<_}
 use mathlib.Core.Path.{_≡_, sym, _∙_}
 use mathlib.Core.Bool.{cond, not, _&&_, _||_}
+use native.Mathlib.Omega.{arith}
 use lib.Dec.{ltb, eqb}
 use borrow.Author.Tests.{ltb-true, ltb-false, eqb-true, eqb-false, not-false, eq-eqb, ne-eqb, le-ltb}
 use Rattle.range.specs.First.{first}
@@ -27,6 +28,12 @@ link-ends probes low high i e =
 
 pub links-ends : (probes links : ℕ) (low high : ℕ → ℕ) → first (linkFault probes low high) links ≡ 0 → (i : ℕ) → i < links → Ends probes (low i) (high i)
 links-ends probes links low high e i l = link-ends probes low high i (first-all (linkFault probes low high) links i e l)
+
+-- the same where n probes can be counted
+pub ends-within : (probes links n : ℕ) (low high : ℕ → ℕ) → first (linkFault probes low high) links ≡ 0 → probes ≤ n → (i : ℕ) → i < links → Ends n (low i) (high i)
+ends-within probes links n low high e fits i l =
+    let g = links-ends probes links low high e i l in
+    record { rises = g .rises; below = omega arith }
 
 pub size-good : (pmax lmax probes links : ℕ) → sizeFault pmax lmax probes links ≡ 0 → Size pmax lmax probes links
 size-good pmax lmax probes links e =

@@ -110,7 +110,7 @@ pub fn needs_fault(probes: usize, links: usize, needs: &[u16], lows: &[u16], hig
     ensures { λ r. ⌜ r ≡ first (needFault (ofSlices 0 probes links (now (needs .entry)) (now (lows .entry)) (now (highs .entry)) [])) probes ⌝ }
 {
     let mut counts = [0u16; 256];
-    count_degrees(&mut counts, probes, links, lows, highs);
+    count_degrees(&mut counts, links, lows, highs);
     counted_fault(probes, needs, &counts)
 }
 
@@ -176,7 +176,8 @@ pub fn slice_fault(
     costs: &[u16],
 ) -> u8
     requires { ⌜ (pmax ≤ 256) × (lmax ≤ 65535) ⌝ }
-    ensures { λ r. ⌜ r ≡ sliceFault pmax lmax (slicesOf 0 probes links (now (needs .entry)) (now (lows .entry)) (now (highs .entry)) (now (costs .entry))) ⌝ }
+    ensures { λ r. let x = slicesOf 0 probes links (now (needs .entry)) (now (lows .entry)) (now (highs .entry)) (now (costs .entry)) in
+        ⌜ r ≡ sliceFault pmax lmax x ⌝ }
 {
     let room = room_fault(
         probes,

@@ -1,12 +1,11 @@
-// The checks of a table. The table's text, the plan, the ends and the fleet call these, within the bounds that they ask.
+// Counts by probe. The checks of a table, the plan and the fleet call these, within the bounds that they ask.
 use super::numbers::wide;
 ghost use mathlib.Core.Path.{_≡_};
 ghost use mathlib.Core.List.{[]};
 ghost use Prim.Native.Nat.{ℕ, _+_, _-_, _<_, _≤_};
 ghost use lib.ListN.{length, getD, set};
-ghost use Rattle.range.specs.First.{first};
 ghost use Rattle.table.specs.Table.{item, ofSlices, degree};
-ghost use Rattle.table.specs.Legal.{linkFault};
+ghost use Rattle.table.specs.Legal.{Ends};
 
 // One more at a probe.
 pub fn add_one(counts: &mut [u16], v: usize)
@@ -25,11 +24,11 @@ pub fn take_one(counts: &mut [u16], v: usize)
 }
 
 // Counts each probe's links into zeros.
-pub fn count_degrees(counts: &mut [u16], probes: usize, links: usize, lows: &[u16], highs: &[u16])
-    requires { ⌜ (links ≤ length (now lows)) × (links ≤ length (now highs)) × (links ≤ 65535) × (probes ≤ length (now counts))
-        × (first (linkFault probes (item (now lows)) (item (now highs))) links ≡ 0)
+pub fn count_degrees(counts: &mut [u16], links: usize, lows: &[u16], highs: &[u16])
+    requires { ⌜ (links ≤ length (now lows)) × (links ≤ length (now highs)) × (links ≤ 65535)
+        × ((i : ℕ) → i < links → Ends (length (now counts)) (item (now lows) i) (item (now highs) i))
         × ((v : ℕ) → getD (now counts) v 0 ≡ 0) ⌝ }
-    ensures { λ _. ⌜ ((v : ℕ) → getD (now (counts .exit)) v 0 ≡ degree (ofSlices 0 probes links [] (now (lows .entry)) (now (highs .entry)) []) v) ⌝ }
+    ensures { λ _. ⌜ ((v : ℕ) → getD (now (counts .exit)) v 0 ≡ degree (ofSlices 0 0 links [] (now (lows .entry)) (now (highs .entry)) []) v) ⌝ }
 {
     let mut i = 0;
     while i < links {

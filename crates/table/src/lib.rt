@@ -1,6 +1,6 @@
 // A table in slices: whether it is legal.
 ghost use mathlib.Core.Path.{_≡_};
-ghost use Rattle.table.specs.Slices.{sliceFault, slicesOf};
+ghost use Rattle.table.specs.Slices.{slicesFault, slicesOf};
 ghost use Rattle.table.specs.Checking.{checkingOf};
 
 pub mod checks;
@@ -23,7 +23,8 @@ pub fn check_table(
     highs: &[u16],
     costs: &[u16],
 ) -> Checking
-    ensures { λ r. ⌜ r ≡ checkingOf (sliceFault 256 2048 (slicesOf number probes links (now (needs .entry)) (now (lows .entry)) (now (highs .entry)) (now (costs .entry)))) ⌝ }
+    ensures { λ r. let x = slicesOf number probes links (now (needs .entry)) (now (lows .entry)) (now (highs .entry)) (now (costs .entry)) in
+        ⌜ r ≡ checkingOf (slicesFault x) ⌝ }
 {
     let fault = checks::slice_fault(
         256,

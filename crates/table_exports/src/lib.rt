@@ -1,15 +1,15 @@
 // The library of tables for C and Rust: check, read, write.
 ghost use mathlib.Core.Path.{_≡_};
 ghost use mathlib.Core.Bool.{true, false};
-ghost use Prim.Native.Nat.{_+_, _*_, ℕ, _^_, _<_};
+ghost use Prim.Native.Nat.{_+_, _*_, ℕ, _<_};
 ghost use lib.ListN.{length};
-ghost use Rattle.table.specs.Table.{ofSlices};
-ghost use Rattle.table.specs.Slices.{sliceFault, slicesOf};
+ghost use Rattle.table.specs.Slices.{slicesFault, slicesOf};
 ghost use Rattle.table.specs.Checking.{checkingOf, refusalOf};
-ghost use Rattle.table.specs.Text.{ofText, readFault};
-ghost use Rattle.table_write.specs.Writing.{writeFault};
+ghost use Rattle.table_read.specs.Reading.{lentOf};
+ghost use Rattle.packed_answers.specs.Packed.{answerBase};
 ghost use Rattle.table_exports.specs.Packed.{ReadsPacked, WritesPacked, packedReading, packedWriting};
 ghost use Rattle.table_write.specs.declared.Writing.the-variants.{Length};
+use packed_answers::ANSWER_BASE;
 use table::Checking;
 use table_read::Reading;
 use table_write::Writing;
@@ -33,20 +33,17 @@ fn packed_reading(r: Reading) -> u64
             probes,
             links,
             rest: _,
-        } => 281474976710656
-            + (number as u64) * 4294967296
-            + (probes as u64) * 65536
-            + (links as u64),
+        } => ANSWER_BASE + (number as u64) * 4294967296 + (probes as u64) * 65536 + (links as u64),
         Reading::Refused(refusal) => refusal as u64,
     }
 }
 
 fn packed_writing(r: Writing) -> u64
-    requires { ⌜ ((length : ℕ) → r ≡ Length length → length < 2 ^ 48) ⌝ }
+    requires { ⌜ ((length : ℕ) → r ≡ Length length → length < answerBase) ⌝ }
     ensures { λ n. ⌜ n ≡ packedWriting r ⌝ }
 {
     match r {
-        Writing::Length(length) => length as u64 + 281474976710656,
+        Writing::Length(length) => length as u64 + ANSWER_BASE,
         Writing::Refused(refusal) => refusal as u64,
     }
 }
@@ -62,7 +59,8 @@ pub extern "C" fn planner_check_table(
     highs: &[u16],
     costs: &[u16],
 ) -> u8
-    ensures { λ r. ⌜ r ≡ refusalOf (checkingOf (sliceFault 256 2048 (slicesOf number probes links (now (needs .entry)) (now (lows .entry)) (now (highs .entry)) (now (costs .entry))))) ⌝ }
+    ensures { λ r. let x = slicesOf number probes links (now (needs .entry)) (now (lows .entry)) (now (highs .entry)) (now (costs .entry)) in
+        ⌜ r ≡ refusalOf (checkingOf (slicesFault x)) ⌝ }
 {
     refusal_of(table::check_table(number, probes, links, needs, lows, highs, costs))
 }
@@ -76,11 +74,9 @@ pub extern "C" fn planner_read_table(
     highs: &mut [u16],
     costs: &mut [u16],
 ) -> u64
-    ensures { λ r. ⌜ ReadsPacked
-        (readFault 256 2048 false (now (text .entry)) (length (now (needs .entry))) (length (now (lows .entry))) (length (now (highs .entry))) (length (now (costs .entry))))
-        (ofText (now (text .entry))) r
-        (now (needs .entry)) (now (needs .exit)) (now (lows .entry)) (now (lows .exit))
-        (now (highs .entry)) (now (highs .exit)) (now (costs .entry)) (now (costs .exit)) ⌝ }
+    ensures { λ r. let before = lentOf (now (needs .entry)) (now (lows .entry)) (now (highs .entry)) (now (costs .entry)) in
+        let after = lentOf (now (needs .exit)) (now (lows .exit)) (now (highs .exit)) (now (costs .exit)) in
+        ⌜ ReadsPacked false (now (text .entry)) r before after ⌝ }
 {
     packed_reading(table_read::read_table(text, needs, lows, highs, costs))
 }
@@ -94,11 +90,9 @@ pub extern "C" fn planner_read_table_prefix(
     highs: &mut [u16],
     costs: &mut [u16],
 ) -> u64
-    ensures { λ r. ⌜ ReadsPacked
-        (readFault 256 2048 true (now (text .entry)) (length (now (needs .entry))) (length (now (lows .entry))) (length (now (highs .entry))) (length (now (costs .entry))))
-        (ofText (now (text .entry))) r
-        (now (needs .entry)) (now (needs .exit)) (now (lows .entry)) (now (lows .exit))
-        (now (highs .entry)) (now (highs .exit)) (now (costs .entry)) (now (costs .exit)) ⌝ }
+    ensures { λ r. let before = lentOf (now (needs .entry)) (now (lows .entry)) (now (highs .entry)) (now (costs .entry)) in
+        let after = lentOf (now (needs .exit)) (now (lows .exit)) (now (highs .exit)) (now (costs .exit)) in
+        ⌜ ReadsPacked true (now (text .entry)) r before after ⌝ }
 {
     packed_reading(table_read::read_table_prefix(text, needs, lows, highs, costs))
 }
@@ -115,10 +109,8 @@ pub extern "C" fn planner_write_table(
     costs: &[u16],
     out: &mut [u8],
 ) -> u64
-    ensures { λ r. ⌜ WritesPacked
-        (writeFault 256 2048 number probes links (now (needs .entry)) (now (lows .entry)) (now (highs .entry)) (now (costs .entry)) (length (now (out .entry))))
-        (ofSlices number probes links (now (needs .entry)) (now (lows .entry)) (now (highs .entry)) (now (costs .entry)))
-        r (now (out .entry)) (now (out .exit)) ⌝ }
+    ensures { λ r. let x = slicesOf number probes links (now (needs .entry)) (now (lows .entry)) (now (highs .entry)) (now (costs .entry)) in
+        ⌜ WritesPacked x r (now (out .entry)) (now (out .exit)) ⌝ }
 {
     packed_writing(table_write::write_table(number, probes, links, needs, lows, highs, costs, out))
 }

@@ -2,24 +2,26 @@
 use Prim.Native.Nat.{ℕ, _≤_}
 use mathlib.Core.Path.{_≡_, refl, sym, _∙_, ap}
 use mathlib.Core.Bool.{Bool, true, false, cond}
-use mathlib.Core.List.{List, _++_}
+use mathlib.Core.List.{List}
 use native.Mathlib.Omega.{arith}
-use lib.Dec.{ltb, eqb}
+use lib.Dec.{eqb}
 use lib.ListN.{length, take, drop}
 use lib.Seq.{take-at}
 use borrow.Author.Tests.{eqb-true, le-ltb}
 use Rattle.range.proofs.Faults.{or-none, or-right}
 use Rattle.table.specs.Table.{Table}
-use Rattle.table.specs.Legal.{roomFault, tableFault}
+use Rattle.table.specs.Legal.{lentFault, roomFault, tableFault}
 use Rattle.table.specs.Text.{ofText, textOf, textEnd, textFault, readFault}
 use Rattle.table.proofs.Accepted.{text-legal}
 use Rattle.table.proofs.Lengths.{length-text}
 use Rattle.table_read.specs.declared.Reading.{Reading}
 use Rattle.table_read.specs.declared.Reading.the-variants.{Table as Read}
-use Rattle.table_write.specs.declared.Writing.{Writing}
 use Rattle.table_write.specs.declared.Writing.the-variants.{Length, Refused as Unwritten}
-use Rattle.table_laws.specs.Same.{FourDigits, Same}
-use Rattle.table_laws.specs.Functions.{Slices, tableOf, HoldsTable, readingFault, ReadTable, writingFault, WriteTable}
+use Rattle.table_laws.specs.Same.{Same}
+use Rattle.table.specs.Slices.{Slices, tableOf}
+use Rattle.table_read.specs.Reading.{Lent, readingFault}
+use Rattle.table_write.specs.Writing.{writeFault}
+use Rattle.table_laws.specs.Functions.{lentSlices, HoldsTable, ReadTable, ReadThenWrite, WriteThenRead}
 use Rattle.table_laws.proofs.Tables.{same-text, same-fault}
 use Rattle.table_laws.proofs.Reading.{room-none, accepted, entries, holds, read-none, read-numbers}
 use Rattle.table_laws.proofs.Round.{text-whole, table-whole}
@@ -30,49 +32,41 @@ answer-written true fault n t e = (refl, (cc))
 answer-written false fault n t e = let z : _≡_ {A = ℕ} 0 1 = cc in absurd (omega arith)
 
 -- The fault of writing.
-module _ (probes links : ℕ) (a : Slices) (number out : ℕ) where
-  abbrev slices : Table
-  slices = tableOf number probes links a
+writing-none : (number probes links : ℕ) (a : Lent) (out : ℕ) → textEnd (tableOf (lentSlices number probes links a)) ≤ out → HoldsTable probes links a
+    → tableFault 256 2048 (tableOf (lentSlices number probes links a)) ≡ 0 → writeFault 256 2048 (lentSlices number probes links a) out ≡ 0
+writing-none number probes links a out l g legal = rw (le-ltb out (textEnd (tableOf (lentSlices number probes links a))) l, room-none probes links a g) legal
 
-  writing-none : textEnd slices ≤ out → HoldsTable probes links a → tableFault 256 2048 slices ≡ 0 → writingFault number probes links a out ≡ 0
-  writing-none l g legal = rw (le-ltb out (textEnd slices) l, room-none probes links a g) legal
+writing-legal : (x : Slices) (out : ℕ) → writeFault 256 2048 x out ≡ 0 → tableFault 256 2048 (tableOf x) ≡ 0
+writing-legal x out e =
+    or-right (roomFault (x .probes) (x .links) (length (x .needs)) (length (x .lows)) (length (x .highs)) (length (x .costs))) _
+    (or-right (lentFault out (textEnd (tableOf x))) _ e)
 
-  writing-legal : writingFault number probes links a out ≡ 0 → tableFault 256 2048 slices ≡ 0
-  writing-legal e =
-      or-right (roomFault probes links (length (a .needs)) (length (a .lows)) (length (a .highs)) (length (a .costs))) _
-      (or-right (cond (ltb out (textEnd slices)) 8 0) _ e)
-
--- every text that is read is what writing the table read gives
-pub read-then-write : (s out out′ : List ℕ) (a b : Slices) (number probes links rest : ℕ) (w : Writing)
-    → ReadTable s (Read number probes links rest) a b
-    → length s ≤ length out
-    → WriteTable number probes links b w out out′
-    → (w ≡ Length (length s)) × (out′ ≡ s ++ drop (length s) out)
+pub read-then-write : ReadThenWrite
 read-then-write s out out′ a b number probes links rest w read enough write =
     let t = ofText s in
     let none = read-none false s _ a b read number probes links rest refl in
     let n = read-numbers false s _ a b read number probes links rest refl in
-    let u = tableOf (t .number) (t .probes) (t .links) b in
+    let u = tableOf (lentSlices (t .number) (t .probes) (t .links) b) in
     let same = entries false s _ a b read none in
     let good = accepted false s _ a b read none in
     let text : textOf u ≡ s = same-text u t same ∙ text-whole 256 2048 s good in
     let end : textEnd u ≡ length s = sym (length-text u) ∙ ap length text in
     let legal = same-fault u t same 256 2048 ∙ text-legal 256 2048 false s good in
-    let fault = writing-none (t .probes) (t .links) b (t .number) (length out) (omega arith) (holds false s _ a b read none) legal in
+    let fault = writing-none (t .number) (t .probes) (t .links) b (length out) (omega arith) (holds false s _ a b read none) legal in
     let written = rw (n .0, n .1, n .2) at write in
     (written .answer ∙ rw (fault, end), written .out ∙ rw (fault, text))
 
 -- A text without a fault that has the entries of the table t, read into slices that hold them.
-module _ (s : List ℕ) (t : Table) (r : Reading) (b b′ : Slices) (none : textFault 256 2048 false s ≡ 0) (same : Same (ofText s) t)
+module _ (s : List ℕ) (t : Table) (r : Reading) (b b′ : Lent) (none : textFault 256 2048 false s ≡ 0) (same : Same (ofText s) t)
     (enough : HoldsTable (t .probes) (t .links) b) (read : ReadTable s r b b′) where
-  fault-none : readingFault s b ≡ 0
+  fault-none : readingFault 256 2048 false s b ≡ 0
   unfolding readFault
   fault-none = or-none (textFault 256 2048 false s) _ none ∙ rw (same .probes, same .links) (room-none (t .probes) (t .links) b enough)
 
   back-answer : r ≡ Read (t .number) (t .probes) (t .links) (textEnd t)
   back-answer = read .answer ∙ rw (fault-none, same .number, same .probes, same .links)
 
-  back-entries : Same (tableOf (t .number) (t .probes) (t .links) b′) t
+  back-entries : Same (tableOf (lentSlices (t .number) (t .probes) (t .links) b′)) t
   back-entries =
       let e = entries false s r b b′ read fault-none in
       let p = same .probes in
@@ -87,19 +81,13 @@ module _ (s : List ℕ) (t : Table) (r : Reading) (b b′ : Slices) (none : text
         cost = λ i l. e .cost i (omega arith) ∙ same .cost i (omega arith);
       }
 
--- every legal table, written, reads back as itself
-pub write-then-read : (number probes links n : ℕ) (a b b′ : Slices) (out out′ : List ℕ) (r : Reading)
-    → FourDigits (tableOf number probes links a)
-    → WriteTable number probes links a (Length n) out out′
-    → HoldsTable probes links b
-    → ReadTable (take n out′) r b b′
-    → (r ≡ Read number probes links n) × Same (tableOf number probes links b′) (tableOf number probes links a)
-write-then-read number probes links n a b b′ out out′ r fits write enough read =
-    let t = tableOf number probes links a in
-    let fault = writingFault number probes links a (length out) in
+pub write-then-read : WriteThenRead
+write-then-read x n b b′ out out′ r fits write enough read =
+    let t = tableOf x in
+    let fault = writeFault 256 2048 x (length out) in
     let w = answer-written (eqb fault 0) fault n t (write .answer) in
     let none = eqb-true fault 0 (w .0) in
-    let legal = writing-legal probes links a number (length out) none in
+    let legal = writing-legal x (length out) none in
     let text : take n out′ ≡ textOf t = rw (rw none at (write .out)) (take-at (textOf t) (drop (length (textOf t)) out) n (length-text t ∙ sym (w .1))) in
     let back = table-whole 256 2048 t fits legal in
     let again = rw text at read in

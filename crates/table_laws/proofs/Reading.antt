@@ -16,12 +16,13 @@ use Rattle.table.specs.Text.{ofText, textEnd, textFault, readFault}
 use Rattle.table.proofs.Faults.{room-good}
 use Rattle.table.proofs.Accepted.{text-legal}
 use Rattle.table_text.proofs.Good.{text-head}
-use Rattle.table_read.specs.Reading.{filledOf, Reads}
+use Rattle.table_read.specs.Reading.{Lent, readingFault, filledOf, ReadsTable}
 use Rattle.table_read.specs.declared.Reading.{Reading}
 use Rattle.table_read.specs.declared.Reading.the-variants.{Table as Read, Refused as Unread}
 use Rattle.table_read.proofs.Answers.{read-text, read-room}
 use Rattle.table_laws.specs.Same.{Same}
-use Rattle.table_laws.specs.Functions.{Slices, tableOf, HoldsTable}
+use Rattle.table.specs.Slices.{tableOf}
+use Rattle.table_laws.specs.Functions.{lentSlices, HoldsTable}
 use Rattle.table_laws.proofs.Tables.{same-fault}
 
 -- what the answer says
@@ -38,21 +39,16 @@ answer-unread true fault refusal t e = let z : _≡_ {A = ℕ} 0 1 = cc in absur
 answer-unread false fault refusal t e = (refl, (cc))
 
 -- slices that hold the table are not refused
-pub room-none : (probes links : ℕ) (a : Slices) → HoldsTable probes links a → roomFault probes links (length (a .needs)) (length (a .lows)) (length (a .highs)) (length (a .costs)) ≡ 0
+pub room-none : (probes links : ℕ) (a : Lent) → HoldsTable probes links a → roomFault probes links (length (a .needs)) (length (a .lows)) (length (a .highs)) (length (a .costs)) ≡ 0
 room-none probes links a g = rw (le-ltb _ _ (g .needed), eq-eqb _ _ (g .equal), eq-eqb _ _ (g .equal₂), le-ltb _ _ (g .linked))
 
--- the fault found in reading the text s into the slices a, with `more` behind its closing line or nothing
-abbrev found : Bool → List ℕ → Slices → ℕ
-found more s a = readFault 256 2048 more s (length (a .needs)) (length (a .lows)) (length (a .highs)) (length (a .costs))
-
 -- A call that answers r and leaves the slices as b.
-module _ (more : Bool) (s : List ℕ) (r : Reading) (a b : Slices)
-    (read : Reads (found more s a) (ofText s) r (a .needs) (b .needs) (a .lows) (b .lows) (a .highs) (b .highs) (a .costs) (b .costs)) where
+module _ (more : Bool) (s : List ℕ) (r : Reading) (a b : Lent) (read : ReadsTable 256 2048 more s r a b) where
   abbrev t : Table
   t = ofText s
 
   abbrev fault : ℕ
-  fault = found more s a
+  fault = readingFault 256 2048 more s a
 
   module _ (none : fault ≡ 0) where
     pub accepted : textFault 256 2048 more s ≡ 0
@@ -65,7 +61,7 @@ module _ (more : Bool) (s : List ℕ) (r : Reading) (a b : Slices)
     entry f n d e q fits i l = rw (rw none at q) (stored-at f n d i fits l)
 
     -- the slices have the entries of the text's table
-    pub entries : Same (tableOf (t .number) (t .probes) (t .links) b) t
+    pub entries : Same (tableOf (lentSlices (t .number) (t .probes) (t .links) b)) t
     entries =
         let g = room in
         record {
@@ -103,17 +99,17 @@ module _ (more : Bool) (s : List ℕ) (r : Reading) (a b : Slices)
     pub read-numbers : (number ≡ t .number) × (probes ≡ t .probes) × (links ≡ t .links) × (rest ≡ textEnd t)
     read-numbers = (said .1, said .2, said .3, said .4)
 
-    pub read-same : Same (tableOf number probes links b) t
+    pub read-same : Same (tableOf (lentSlices number probes links b)) t
     read-same = rw (said .1, said .2, said .3) (entries read-none)
 
-    pub read-legal : tableFault 256 2048 (tableOf number probes links b) ≡ 0
-    read-legal = same-fault (tableOf number probes links b) t read-same 256 2048 ∙ text-legal 256 2048 more s (accepted read-none)
+    pub read-legal : tableFault 256 2048 (tableOf (lentSlices number probes links b)) ≡ 0
+    read-legal = same-fault (tableOf (lentSlices number probes links b)) t read-same 256 2048 ∙ text-legal 256 2048 more s (accepted read-none)
 
     pub read-held : roomFault probes links (length (b .needs)) (length (b .lows)) (length (b .highs)) (length (b .costs)) ≡ 0
     read-held = room-none probes links b (rw (said .2, said .3) (holds read-none))
 
 -- slices of zeros, as long as the largest table's
-abbrev pub blank : Slices
+abbrev pub blank : Lent
 blank = record { needs = replicate 256 0; lows = replicate 2048 0; highs = replicate 2048 0; costs = replicate 2048 0 }
 
 -- they hold every table within the limits, so that 8 is not found

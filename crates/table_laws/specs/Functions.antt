@@ -1,43 +1,49 @@
--- The promises of `read_table` and `write_table`, with the four lent slices as one record.
-use Prim.Native.Nat.{ℕ}
+-- The round trips of `read_table` and `write_table`, by the promises of both.
+use Prim.Native.Nat.{ℕ, _≤_}
+use mathlib.Core.Path.{_≡_}
 use mathlib.Core.Bool.{false}
-use mathlib.Core.List.{List}
-use lib.ListN.{length}
-use Rattle.table.specs.Table.{Table, ofSlices}
-use Rattle.table.specs.Text.{ofText, readFault}
+use mathlib.Core.List.{List, _++_}
+use lib.ListN.{length, take, drop}
 use Rattle.table.specs.Legal.{Room}
-use Rattle.table_read.specs.Reading.{Reads}
+use Rattle.table.specs.Slices.{Slices, slicesOf, tableOf}
+use Rattle.table_read.specs.Reading.{Lent, ReadsTable}
 use Rattle.table_read.specs.declared.Reading.{Reading}
-use Rattle.table_write.specs.Writing.{writeFault, Writes}
+use Rattle.table_read.specs.declared.Reading.the-variants.{Table as Read}
+use Rattle.table_write.specs.Writing.{WritesTable}
 use Rattle.table_write.specs.declared.Writing.{Writing}
+use Rattle.table_write.specs.declared.Writing.the-variants.{Length}
+use Rattle.table_laws.specs.Same.{FourDigits, Same}
 
-pub record Slices : Type 0 where
-  pub needs : List ℕ
-  pub lows : List ℕ
-  pub highs : List ℕ
-  pub costs : List ℕ
-
--- the table in the slices, with its number, probe count and link count
-abbrev pub tableOf : ℕ → ℕ → ℕ → Slices → Table
-tableOf number probes links a = ofSlices number probes links (a .needs) (a .lows) (a .highs) (a .costs)
+-- lent slices with the number, probe count and link count of a table in them
+abbrev pub lentSlices : ℕ → ℕ → ℕ → Lent → Slices
+lentSlices number probes links a = slicesOf number probes links (a .needs) (a .lows) (a .highs) (a .costs)
 
 -- the slices have room for the table: refusal 8 does not apply
-abbrev pub HoldsTable : ℕ → ℕ → Slices → Type 0
+abbrev pub HoldsTable : ℕ → ℕ → Lent → Type 0
 HoldsTable probes links a = Room probes links (length (a .needs)) (length (a .lows)) (length (a .highs)) (length (a .costs))
 
--- the fault found by `read_table`, called with the text s and the slices a
-abbrev pub readingFault : List ℕ → Slices → ℕ
-readingFault s a = readFault 256 2048 false s (length (a .needs)) (length (a .lows)) (length (a .highs)) (length (a .costs))
+-- the promises of `read_table` and `write_table`
+abbrev pub ReadTable : List ℕ → Reading → Lent → Lent → Type 0
+ReadTable s r a b = ReadsTable 256 2048 false s r a b
 
--- it answers r and leaves the slices as b
-abbrev pub ReadTable : List ℕ → Reading → Slices → Slices → Type 0
-ReadTable s r a b =
-    Reads (readingFault s a) (ofText s) r (a .needs) (b .needs) (a .lows) (b .lows) (a .highs) (b .highs) (a .costs) (b .costs)
+abbrev pub WriteTable : Slices → Writing → List ℕ → List ℕ → Type 0
+WriteTable x w out out′ = WritesTable 256 2048 x w out out′
 
--- the fault found by `write_table`, called with the three numbers, the slices a and a text of length out
-abbrev pub writingFault : ℕ → ℕ → ℕ → Slices → ℕ → ℕ
-writingFault number probes links a out = writeFault 256 2048 number probes links (a .needs) (a .lows) (a .highs) (a .costs) out
+-- "Every table text read is written back the same": into any text that is long enough
+abbrev pub ReadThenWrite : Type 0
+ReadThenWrite =
+    (s out out′ : List ℕ) (a b : Lent) (number probes links rest : ℕ) (w : Writing)
+    → ReadTable s (Read number probes links rest) a b
+    → length s ≤ length out
+    → WriteTable (lentSlices number probes links b) w out out′
+    → (w ≡ Length (length s)) × (out′ ≡ s ++ drop (length s) out)
 
--- it answers w and leaves the text out as out′
-abbrev pub WriteTable : ℕ → ℕ → ℕ → Slices → Writing → List ℕ → List ℕ → Type 0
-WriteTable number probes links a w out out′ = Writes (writingFault number probes links a (length out)) (tableOf number probes links a) w out out′
+-- "every legal table written reads back": from the bytes that writing answers, into any slices that hold it
+abbrev pub WriteThenRead : Type 0
+WriteThenRead =
+    (x : Slices) (n : ℕ) (b b′ : Lent) (out out′ : List ℕ) (r : Reading)
+    → FourDigits (tableOf x)
+    → WriteTable x (Length n) out out′
+    → HoldsTable (x .probes) (x .links) b
+    → ReadTable (take n out′) r b b′
+    → (r ≡ Read (x .number) (x .probes) (x .links) n) × Same (tableOf (lentSlices (x .number) (x .probes) (x .links) b′)) (tableOf x)

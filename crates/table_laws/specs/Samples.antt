@@ -12,7 +12,9 @@ use Rattle.table.specs.Text.{textOf, ofText, textFault}
 use Rattle.table_read.specs.declared.Reading.the-variants.{Table as Read}
 use Rattle.table_write.specs.declared.Writing.the-variants.{Length}
 use Rattle.table_laws.specs.Same.{FourDigits}
-use Rattle.table_laws.specs.Functions.{Slices, tableOf, HoldsTable, ReadTable, WriteTable}
+use Rattle.table.specs.Slices.{Slices, tableOf}
+use Rattle.table_read.specs.Reading.{Lent}
+use Rattle.table_laws.specs.Functions.{lentSlices, HoldsTable, ReadTable, WriteTable}
 
 -- the bytes of a text of ASCII characters
 abbrev pub bytes : String → List ℕ
@@ -23,11 +25,14 @@ bytes (c before s) = code c ∷ bytes s
 abbrev pub m2Text : List ℕ
 m2Text = bytes "000100040003\n0000\n0001\n0001\n0000\n000000010005\n000100020006\n000200030005\nffff\n"
 
+abbrev pub m2Lent : Lent
+m2Lent = record { needs = 0 ∷ 1 ∷ 1 ∷ 0 ∷ []; lows = 0 ∷ 1 ∷ 2 ∷ []; highs = 1 ∷ 2 ∷ 3 ∷ []; costs = 5 ∷ 6 ∷ 5 ∷ [] }
+
 abbrev pub m2Slices : Slices
-m2Slices = record { needs = 0 ∷ 1 ∷ 1 ∷ 0 ∷ []; lows = 0 ∷ 1 ∷ 2 ∷ []; highs = 1 ∷ 2 ∷ 3 ∷ []; costs = 5 ∷ 6 ∷ 5 ∷ [] }
+m2Slices = lentSlices 1 4 3 m2Lent
 
 abbrev pub m2 : Table
-m2 = tableOf 1 4 3 m2Slices
+m2 = tableOf m2Slices
 
 pub record M2 : Type 0 where
   pub header : take 13 m2Text ≡ 48 ∷ 48 ∷ 48 ∷ 49 ∷ 48 ∷ 48 ∷ 48 ∷ 52 ∷ 48 ∷ 48 ∷ 48 ∷ 51 ∷ 10 ∷ []
@@ -39,7 +44,7 @@ pub record M2 : Type 0 where
 
 -- slices of M2's size, and a text that is longer by 3
 
-abbrev blank : Slices
+abbrev blank : Lent
 blank = record { needs = replicate 4 9; lows = replicate 3 9; highs = replicate 3 9; costs = replicate 3 9 }
 
 abbrev lent : List ℕ
@@ -47,11 +52,11 @@ lent = replicate 80 0
 
 -- calls with M2 that meet what each round trip of the functions asks
 pub record Calls : Type 0 where
-  pub read : ReadTable m2Text (Read 1 4 3 77) blank m2Slices
+  pub read : ReadTable m2Text (Read 1 4 3 77) blank m2Lent
   pub enough : length m2Text ≤ length lent
-  pub write : WriteTable 1 4 3 m2Slices (Length 77) lent (m2Text ++ drop 77 lent)
+  pub write : WriteTable m2Slices (Length 77) lent (m2Text ++ drop 77 lent)
   pub holds : HoldsTable 4 3 blank
-  pub again : ReadTable (take 77 (m2Text ++ drop 77 lent)) (Read 1 4 3 77) blank m2Slices
+  pub again : ReadTable (take 77 (m2Text ++ drop 77 lent)) (Read 1 4 3 77) blank m2Lent
 
 abbrev refusal : Bool → String → ℕ
 refusal more s = textFault 256 2048 more (bytes s)

@@ -1,8 +1,6 @@
 // Reading a table's text into lent slices.
 ghost use mathlib.Core.Bool.{true, false};
-ghost use lib.ListN.{length};
-ghost use Rattle.table.specs.Text.{ofText, readFault};
-ghost use Rattle.table_read.specs.Reading.{Reads};
+ghost use Rattle.table_read.specs.Reading.{lentOf, ReadsTable};
 
 pub mod limited;
 
@@ -25,11 +23,9 @@ pub fn read_table(
     highs: &mut [u16],
     costs: &mut [u16],
 ) -> Reading
-    ensures { λ r. ⌜ Reads
-        (readFault 256 2048 false (now (text .entry)) (length (now (needs .entry))) (length (now (lows .entry))) (length (now (highs .entry))) (length (now (costs .entry))))
-        (ofText (now (text .entry))) r
-        (now (needs .entry)) (now (needs .exit)) (now (lows .entry)) (now (lows .exit))
-        (now (highs .entry)) (now (highs .exit)) (now (costs .entry)) (now (costs .exit)) ⌝ }
+    ensures { λ r. let before = lentOf (now (needs .entry)) (now (lows .entry)) (now (highs .entry)) (now (costs .entry)) in
+        let after = lentOf (now (needs .exit)) (now (lows .exit)) (now (highs .exit)) (now (costs .exit)) in
+        ⌜ ReadsTable 256 2048 false (now (text .entry)) r before after ⌝ }
 {
     limited::read_limited(text, needs, lows, highs, costs, 256, 2048, false)
 }
@@ -42,11 +38,9 @@ pub fn read_table_prefix(
     highs: &mut [u16],
     costs: &mut [u16],
 ) -> Reading
-    ensures { λ r. ⌜ Reads
-        (readFault 256 2048 true (now (text .entry)) (length (now (needs .entry))) (length (now (lows .entry))) (length (now (highs .entry))) (length (now (costs .entry))))
-        (ofText (now (text .entry))) r
-        (now (needs .entry)) (now (needs .exit)) (now (lows .entry)) (now (lows .exit))
-        (now (highs .entry)) (now (highs .exit)) (now (costs .entry)) (now (costs .exit)) ⌝ }
+    ensures { λ r. let before = lentOf (now (needs .entry)) (now (lows .entry)) (now (highs .entry)) (now (costs .entry)) in
+        let after = lentOf (now (needs .exit)) (now (lows .exit)) (now (highs .exit)) (now (costs .exit)) in
+        ⌜ ReadsTable 256 2048 true (now (text .entry)) r before after ⌝ }
 {
     limited::read_limited(text, needs, lows, highs, costs, 256, 2048, true)
 }

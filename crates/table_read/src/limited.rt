@@ -6,7 +6,7 @@ ghost use Prim.Native.Nat.{_+_, _*_, _≤_};
 ghost use lib.ListN.{length};
 ghost use Rattle.table.specs.Legal.{roomFault};
 ghost use Rattle.table.specs.Text.{ofText, textFault, readFault};
-ghost use Rattle.table_read.specs.Reading.{readingOf, Filled, Reads};
+ghost use Rattle.table_read.specs.Reading.{lentOf, readingOf, Filled, ReadsTable};
 
 // 1 to 8, by the lengths of the lent needs, lows, highs and costs.
 fn read_fault(
@@ -60,10 +60,12 @@ fn fill_table(
     highs: &mut [u16],
     costs: &mut [u16],
 )
-    requires { ⌜ (textFault 256 2048 true (now text) ≡ 0)
-        × (roomFault (ofText (now text) .probes) (ofText (now text) .links) (length (now needs)) (length (now lows)) (length (now highs)) (length (now costs)) ≡ 0) ⌝ }
-    ensures { λ _. ⌜ Filled (ofText (now (text .entry))) (now (needs .entry)) (now (needs .exit)) (now (lows .entry)) (now (lows .exit))
-        (now (highs .entry)) (now (highs .exit)) (now (costs .entry)) (now (costs .exit)) ⌝ }
+    requires { let t = ofText (now text) in
+        ⌜ (textFault 256 2048 true (now text) ≡ 0)
+        × (roomFault (t .probes) (t .links) (length (now needs)) (length (now lows)) (length (now highs)) (length (now costs)) ≡ 0) ⌝ }
+    ensures { λ _. let before = lentOf (now (needs .entry)) (now (lows .entry)) (now (highs .entry)) (now (costs .entry)) in
+        let after = lentOf (now (needs .exit)) (now (lows .exit)) (now (highs .exit)) (now (costs .exit)) in
+        ⌜ Filled (ofText (now (text .entry))) before after ⌝ }
 {
     let probes = hex::fields::number(text, 4, 4);
     let links = hex::fields::number(text, 8, 4);
@@ -85,11 +87,9 @@ pub fn read_limited(
     more: bool,
 ) -> Reading
     requires { ⌜ (pmax ≤ 256) × (lmax ≤ 2048) ⌝ }
-    ensures { λ r. ⌜ Reads
-        (readFault pmax lmax more (now (text .entry)) (length (now (needs .entry))) (length (now (lows .entry))) (length (now (highs .entry))) (length (now (costs .entry))))
-        (ofText (now (text .entry))) r
-        (now (needs .entry)) (now (needs .exit)) (now (lows .entry)) (now (lows .exit))
-        (now (highs .entry)) (now (highs .exit)) (now (costs .entry)) (now (costs .exit)) ⌝ }
+    ensures { λ r. let before = lentOf (now (needs .entry)) (now (lows .entry)) (now (highs .entry)) (now (costs .entry)) in
+        let after = lentOf (now (needs .exit)) (now (lows .exit)) (now (highs .exit)) (now (costs .exit)) in
+        ⌜ ReadsTable pmax lmax more (now (text .entry)) r before after ⌝ }
 {
     let fault = read_fault(
         text,

@@ -3,20 +3,19 @@ use Prim.Native.Nat.{ℕ}
 use mathlib.Core.Path.{_≡_}
 use mathlib.Core.Bool.{cond}
 use mathlib.Core.List.{List, _++_}
-use lib.Dec.{ltb, eqb}
+use lib.Dec.{eqb}
 use lib.ListN.{length, drop}
 use Rattle.range.specs.First.{orElse}
-use Rattle.table.specs.Table.{Table, ofSlices}
-use Rattle.table.specs.Slices.{sliceFault, slicesOf}
+use Rattle.table.specs.Table.{Table}
+use Rattle.table.specs.Legal.{lentFault}
+use Rattle.table.specs.Slices.{Slices, tableOf, sliceFault}
 use Rattle.table.specs.Text.{textOf, textEnd}
 use Rattle.table_write.specs.declared.Writing.{Writing}
 use Rattle.table_write.specs.declared.Writing.the-variants.{Length, Refused}
 
 -- 8 for "a lent .. output slice too short", then the faults of the table's slices. `out` is the length of the lent text.
-abbrev pub writeFault : ℕ → ℕ → ℕ → ℕ → ℕ → List ℕ → List ℕ → List ℕ → List ℕ → ℕ → ℕ
-writeFault pmax lmax number probes links needs lows highs costs out =
-    orElse (cond (ltb out (textEnd (ofSlices number probes links needs lows highs costs))) 8 0)
-    (sliceFault pmax lmax (slicesOf number probes links needs lows highs costs))
+abbrev pub writeFault : ℕ → ℕ → Slices → ℕ → ℕ
+writeFault pmax lmax x out = orElse (lentFault out (textEnd (tableOf x))) (sliceFault pmax lmax x)
 
 -- the answer: the text's length, or the number of the refusal alone
 abbrev pub writingOf : ℕ → Table → Writing
@@ -30,3 +29,7 @@ writtenOf fault t d = cond (eqb fault 0) (textOf t ++ drop (length (textOf t)) d
 pub record Writes (fault : ℕ) (t : Table) (answered : Writing) (before after : List ℕ) : Type 0 where
   pub answer : answered ≡ writingOf fault t
   pub out : after ≡ writtenOf fault t before
+
+-- `write_table` on the slices x, within limits: it answers r and leaves the lent text `before` as `after`
+abbrev pub WritesTable : ℕ → ℕ → Slices → Writing → List ℕ → List ℕ → Type 0
+WritesTable pmax lmax x r before after = Writes (writeFault pmax lmax x (length before)) (tableOf x) r before after

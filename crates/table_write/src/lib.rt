@@ -1,9 +1,8 @@
 // A table in slices, written as text.
 // The lines of a table's text, written one by one. The writers of a table, of a frame and of a plan call these, within the bounds that they ask.
 // A table's text, written as a whole.
-ghost use lib.ListN.{length};
-ghost use Rattle.table.specs.Table.{ofSlices};
-ghost use Rattle.table_write.specs.Writing.{writeFault, Writes};
+ghost use Rattle.table.specs.Slices.{slicesOf};
+ghost use Rattle.table_write.specs.Writing.{WritesTable};
 
 pub mod limited;
 pub mod line;
@@ -26,10 +25,8 @@ pub fn write_table(
     costs: &[u16],
     out: &mut [u8],
 ) -> Writing
-    ensures { λ r. ⌜ Writes
-        (writeFault 256 2048 number probes links (now (needs .entry)) (now (lows .entry)) (now (highs .entry)) (now (costs .entry)) (length (now (out .entry))))
-        (ofSlices number probes links (now (needs .entry)) (now (lows .entry)) (now (highs .entry)) (now (costs .entry)))
-        r (now (out .entry)) (now (out .exit)) ⌝ }
+    ensures { λ r. let x = slicesOf number probes links (now (needs .entry)) (now (lows .entry)) (now (highs .entry)) (now (costs .entry)) in
+        ⌜ WritesTable 256 2048 x r (now (out .entry)) (now (out .exit)) ⌝ }
 {
     limited::write_limited(
         256,

@@ -1,8 +1,7 @@
 // A table written within limits.
 ghost use Prim.Native.Nat.{_+_, _≤_};
-ghost use lib.ListN.{length};
-ghost use Rattle.table.specs.Table.{ofSlices};
-ghost use Rattle.table_write.specs.Writing.{writeFault, Writes};
+ghost use Rattle.table.specs.Slices.{slicesOf};
+ghost use Rattle.table_write.specs.Writing.{WritesTable};
 
 // The limits are parameters. `write_table` calls this with 256 and 2,048.
 pub fn write_limited(
@@ -18,10 +17,8 @@ pub fn write_limited(
     out: &mut [u8],
 ) -> super::Writing
     requires { ⌜ (pmax ≤ 256) × (lmax ≤ 65535) ⌝ }
-    ensures { λ r. ⌜ Writes
-        (writeFault pmax lmax number probes links (now (needs .entry)) (now (lows .entry)) (now (highs .entry)) (now (costs .entry)) (length (now (out .entry))))
-        (ofSlices number probes links (now (needs .entry)) (now (lows .entry)) (now (highs .entry)) (now (costs .entry)))
-        r (now (out .entry)) (now (out .exit)) ⌝ }
+    ensures { λ r. let x = slicesOf number probes links (now (needs .entry)) (now (lows .entry)) (now (highs .entry)) (now (costs .entry)) in
+        ⌜ WritesTable pmax lmax x r (now (out .entry)) (now (out .exit)) ⌝ }
 {
     let n = probes as usize;
     let m = links as usize;

@@ -51,10 +51,11 @@ pub fn put_table(
     highs: &[u16],
     costs: &[u16],
 )
-    requires { ⌜ (textEnd (ofSlices number probes links (now needs) (now lows) (now highs) (now costs)) ≤ length (now out))
+    requires { let t = ofSlices number probes links (now needs) (now lows) (now highs) (now costs) in
+        ⌜ (textEnd t ≤ length (now out))
         × (probes ≤ length (now needs)) × (links ≤ length (now lows)) × (links ≤ length (now highs)) × (links ≤ length (now costs)) ⌝ }
-    ensures { λ _. ⌜ now (out .exit) ≡ sets (now (out .entry)) 0
-        (textOf (ofSlices number probes links (now (needs .entry)) (now (lows .entry)) (now (highs .entry)) (now (costs .entry)))) ⌝ }
+    ensures { λ _. let t = ofSlices number probes links (now (needs .entry)) (now (lows .entry)) (now (highs .entry)) (now (costs .entry)) in
+        ⌜ now (out .exit) ≡ sets (now (out .entry)) 0 (textOf t) ⌝ }
 {
     let n = probes as usize;
     let m = links as usize;

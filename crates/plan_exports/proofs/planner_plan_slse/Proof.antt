@@ -2,8 +2,8 @@
 use borrow.Author.Needs.{needs}
 use Rattle.plan_exports.proofs.planner_plan_slse.Statement.{statement}
 use Rattle.plan_exports.proofs.planner_plan_slse.Tie as tie
-use Rattle.table.specs.Table.{ofSlices}
-use Rattle.plan_exports.proofs.Answers.{plans-packed}
+use Rattle.table.specs.Slices.{slicesOf}
+use Rattle.plan_exports.proofs.Answers.{slse-packed}
 
 plan-by-slse-requires : tie.Need-plan-by-slse-requires
 plan-by-slse-requires c κs = search needs
@@ -17,7 +17,7 @@ same-length c = search needs
 returns : tie.Need-returns
 returns c =
     let a = c .before .before .before .before .before .before .before .before .before .before .args in
-    plans-packed _ (ofSlices (a .number) (a .probes) (a .links) (a .needs .now) (a .lows .now) (a .highs .now) (a .costs .now)) _ _ (a .plan .now) _ (c .before .before .before .plan-by-slse .ensures) (c .packed-planning .ensures)
+    slse-packed (slicesOf (a .number) (a .probes) (a .links) (a .needs .now) (a .lows .now) (a .highs .now) (a .costs .now)) _ _ (a .plan .now) _ (c .before .before .before .plan-by-slse .ensures) (c .packed-planning .ensures)
 
 pub planner-plan-slse-spec : {M : Type 1} → statement M
 planner-plan-slse-spec =

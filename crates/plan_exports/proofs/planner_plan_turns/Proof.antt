@@ -2,7 +2,7 @@
 use borrow.Author.Needs.{needs}
 use Rattle.plan_exports.proofs.planner_plan_turns.Statement.{statement}
 use Rattle.plan_exports.proofs.planner_plan_turns.Tie as tie
-use Rattle.table.specs.Table.{ofSlices}
+use Rattle.table.specs.Slices.{slicesOf}
 use Rattle.plan_exports.proofs.Answers.{turns-packed}
 
 plan-by-turns-requires : tie.Need-plan-by-turns-requires
@@ -20,7 +20,7 @@ same-length-2 c = search needs
 returns : tie.Need-returns
 returns c =
     let a = c .before .before .before .before .before .before .before .before .before .before .before .before .before .before .args in
-    turns-packed _ (ofSlices (a .number) (a .probes) (a .links) (a .needs .now) (a .lows .now) (a .highs .now) (a .costs .now)) _ _ (a .plan .now) _ (a .work .now) _ (c .before .before .before .before .before .plan-by-turns .ensures) (c .packed-planning .ensures)
+    turns-packed (slicesOf (a .number) (a .probes) (a .links) (a .needs .now) (a .lows .now) (a .highs .now) (a .costs .now)) _ _ (a .plan .now) _ (a .work .now) _ (c .before .before .before .before .before .plan-by-turns .ensures) (c .packed-planning .ensures)
 
 pub planner-plan-turns-spec : {M : Type 1} → statement M
 planner-plan-turns-spec =

@@ -3,7 +3,7 @@ use borrow.Author.Needs.{needs}
 use Rattle.plan_output.proofs.plan_text.Statement.{statement}
 use Rattle.plan_output.proofs.plan_text.Tie as tie
 use mathlib.Core.Bool.{false}
-use Rattle.table_laws.specs.Functions.{Slices}
+use Rattle.table_read.specs.Reading.{Lent}
 use Rattle.table_laws.proofs.Reading.{blank, read-legal, read-held}
 use Rattle.plan_output.proofs.Reading.{refusal-printed, plan-printed}
 
@@ -47,7 +47,7 @@ print-plan-requires : tie.Need-print-plan-requires
 print-plan-requires c κs =
     let a = c .before .before .before .before .before .before .before .before .before .before .before .before .before .before .before .before .before .before .before .args in
     let k = c .before .before .before .before .before .before .before .before .before .before .before .before .read-table in
-    let b : Slices = record { needs = k .last .1 .0; lows = k .last .1 .1 .0; highs = k .last .1 .1 .1 .0; costs = k .last .1 .1 .1 .1 .0 } in
+    let b : Lent = record { needs = k .last .1 .0; lows = k .last .1 .1 .0; highs = k .last .1 .1 .1 .0; costs = k .last .1 .1 .1 .1 .0 } in
     let e = c .before .before .before .before .before .before .read .given .1 in
     (read-legal false (a .text .now) _ blank b (k .ensures) _ _ _ _ e, read-held false (a .text .now) _ blank b (k .ensures) _ _ _ _ e)
 
@@ -64,7 +64,7 @@ returns : tie.Need-returns
 returns c =
     let a = c .before .before .before .before .before .before .before .before .before .before .before .before .before .before .before .before .before .before .before .before .before .before .args in
     let k = c .before .before .before .before .before .before .before .before .before .before .before .before .before .before .before .read-table in
-    let b : Slices = record { needs = k .last .1 .0; lows = k .last .1 .1 .0; highs = k .last .1 .1 .1 .0; costs = k .last .1 .1 .1 .1 .0 } in
+    let b : Lent = record { needs = k .last .1 .0; lows = k .last .1 .1 .0; highs = k .last .1 .1 .1 .0; costs = k .last .1 .1 .1 .1 .0 } in
     plan-printed (a .text .now) _ b (k .ensures) _ _ _ _ (c .before .before .before .before .before .before .before .before .before .read .given .1) _ (a .out .now) _ (c .before .before .print-plan .ensures)
 
 same-length-2 : tie.Need-same-length-2
@@ -74,7 +74,7 @@ returns-2 : tie.Need-returns-2
 returns-2 c =
     let a = c .before .before .before .before .before .before .before .before .before .before .before .before .before .before .before .before .before .before .args in
     let k = c .before .before .before .before .before .before .before .before .before .before .before .read-table in
-    let b : Slices = record { needs = k .last .1 .0; lows = k .last .1 .1 .0; highs = k .last .1 .1 .1 .0; costs = k .last .1 .1 .1 .1 .0 } in
+    let b : Lent = record { needs = k .last .1 .0; lows = k .last .1 .1 .0; highs = k .last .1 .1 .1 .0; costs = k .last .1 .1 .1 .1 .0 } in
     refusal-printed (a .text .now) _ b (k .ensures) _ _ (a .out .now) _ (c .before .before .before .before .before .read2 .given .1) (c .before .before .print-refusal .ensures)
 
 pub plan-text-spec : {M : Type 1} → statement M

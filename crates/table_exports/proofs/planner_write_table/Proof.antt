@@ -3,7 +3,7 @@ use borrow.Author.Needs.{needs}
 use Rattle.table_exports.proofs.planner_write_table.Statement.{statement}
 use Rattle.table_exports.proofs.planner_write_table.Tie as tie
 use native.Mathlib.Omega.{arith}
-use Rattle.table.specs.Table.{ofSlices}
+use Rattle.table.specs.Slices.{slicesOf}
 use Rattle.table_exports.proofs.Answers.{writes-packed, length-is}
 
 write-table-requires : tie.Need-write-table-requires
@@ -13,8 +13,8 @@ packed-writing-requires : tie.Need-packed-writing-requires
 packed-writing-requires c κs =
     λ n is.
     let a = c .before .before .before .before .before .before .before .before .before .args in
-    let t = ofSlices (a .number) (a .probes) (a .links) (a .needs .now) (a .lows .now) (a .highs .now) (a .costs .now) in
-    let e = length-is _ t _ n (a .out .now) _ (c .before .before .write-table .ensures) is in
+    let x = slicesOf (a .number) (a .probes) (a .links) (a .needs .now) (a .lows .now) (a .highs .now) (a .costs .now) in
+    let e = length-is x _ n (a .out .now) _ (c .before .before .write-table .ensures) is in
     omega (arith, c .before .before .before .before .before .before .before .before .before .fits .probes, c .before .before .before .before .before .before .before .before .before .fits .links)
 
 same-length : tie.Need-same-length
@@ -23,8 +23,8 @@ same-length c = search needs
 returns : tie.Need-returns
 returns c =
     let a = c .before .before .before .before .before .before .before .before .before .before .args in
-    let t = ofSlices (a .number) (a .probes) (a .links) (a .needs .now) (a .lows .now) (a .highs .now) (a .costs .now) in
-    writes-packed _ t _ _ (a .out .now) _ (c .before .before .before .write-table .ensures) (c .packed-writing .ensures)
+    let x = slicesOf (a .number) (a .probes) (a .links) (a .needs .now) (a .lows .now) (a .highs .now) (a .costs .now) in
+    writes-packed x _ _ (a .out .now) _ (c .before .before .before .write-table .ensures) (c .packed-writing .ensures)
 
 pub planner-write-table-spec : {M : Type 1} → statement M
 planner-write-table-spec =

@@ -34,7 +34,7 @@ count-degrees-requires c κs =
     let p = c .before .before .before .before .before .before .before .pre .0 in
     let t = ofSlices 0 (a .probes) (a .links) (a .needs .now) (a .lows .now) (a .highs .now) [] in
     let s = legal-table 256 2048 t (p .legal) .size in
-    (p .in-lows, p .in-highs, omega (arith, s .within), omega (arith, s .few), legal-table 256 2048 t (p .legal) .links-pass, zeros-at 256)
+    (p .in-lows, p .in-highs, omega (arith, s .within), fits-ends (a .probes) (a .links) (a .needs .now) (a .lows .now) (a .highs .now) p, zeros-at 256)
 
 slice-aggregate-count-bytes : tie.Need-slice-aggregate-count-bytes
 slice-aggregate-count-bytes c = search needs

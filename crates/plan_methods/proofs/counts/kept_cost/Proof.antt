@@ -2,18 +2,13 @@
 use borrow.Author.Needs.{needs}
 use Rattle.plan_methods.proofs.counts.kept_cost.Statement.{statement}
 use Rattle.plan_methods.proofs.counts.kept_cost.Tie as tie
-use Prim.Native.Nat.{ℕ, _+_, _-_, _≤_}
+use Prim.Native.Nat.{_+_, _-_, _≤_}
 use mathlib.Core.Path.{_≡_, refl}
-use mathlib.Core.Bool.{Bool}
-use mathlib.Core.List.{List}
 use native.Mathlib.Omega.{arith}
-use lib.Dec.{eqb}
 use Rattle.range.specs.Sum.{sum, weigh}
 use Rattle.range.proofs.Sums.{weigh-next, weigh-most}
 use Rattle.table.specs.Table.{item}
-
-abbrev isKept : List ℕ → ℕ → Bool
-isKept plan i = eqb (item plan i) 1
+use Rattle.plan_slse.specs.FromDearest.{isKept}
 
 abbrev Inv-loop : tie.InvT-loop
 Inv-loop plan links costs n₀ i₀ n i = (i ≤ links) × (n ≡ weigh i (isKept plan) (item costs))

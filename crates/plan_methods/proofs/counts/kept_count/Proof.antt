@@ -4,16 +4,10 @@ use Rattle.plan_methods.proofs.counts.kept_count.Statement.{statement}
 use Rattle.plan_methods.proofs.counts.kept_count.Tie as tie
 use Prim.Native.Nat.{ℕ, _+_, _-_, _≤_}
 use mathlib.Core.Path.{_≡_, refl}
-use mathlib.Core.Bool.{Bool}
-use mathlib.Core.List.{List}
 use native.Mathlib.Omega.{arith}
-use lib.Dec.{eqb}
 use Rattle.range.specs.Sum.{sum, count}
 use Rattle.range.proofs.Sums.{weigh-next, count-le}
-use Rattle.table.specs.Table.{item}
-
-abbrev isKept : List ℕ → ℕ → Bool
-isKept plan i = eqb (item plan i) 1
+use Rattle.plan_slse.specs.FromDearest.{isKept}
 
 abbrev Inv-loop : tie.InvT-loop
 Inv-loop plan links n₀ i₀ n i = (i ≤ links) × (n ≡ count i (isKept plan))

@@ -15,17 +15,17 @@ use Rattle.plan_slse.proofs.Turns.{size}
 use Rattle.plan_methods.proofs.Answers.{plans-refused, plans-made, numbered}
 
 returns : tie.Need-returns
-returns c =
+returns c number =
     let a = c .before .before .before .before .before .before .args in
-    plans-refused _ 8 (ofSlices (a .number) (a .probes) (a .links) (a .needs .now) (a .lows .now) (a .highs .now) (a .costs .now)) (a .plan .now) (room-short (length (a .plan .now)) (a .links) _ (c .if1 .taken)) (λ z. omega arith)
+    plans-refused _ 8 (ofSlices number (a .probes) (a .links) (a .needs .now) (a .lows .now) (a .highs .now) (a .costs .now)) (a .plan .now) (room-short (length (a .plan .now)) (a .links) _ (c .if1 .taken)) (λ z. omega arith)
 
 slice-fault-requires : tie.Need-slice-fault-requires
 slice-fault-requires c κs = search needs
 
 returns-2 : tie.Need-returns-2
-returns-2 c =
+returns-2 c number =
     let a = c .before .before .before .before .before .before .before .before .args in
-    plans-refused _ _ (ofSlices (a .number) (a .probes) (a .links) (a .needs .now) (a .lows .now) (a .highs .now) (a .costs .now)) (a .plan .now) (c .before .slice-fault .ensures ∙ sym (room-enough (length (a .plan .now)) (a .links) _ (c .before .before .if1 .left))) (c .if2 .taken)
+    plans-refused _ _ (ofSlices number (a .probes) (a .links) (a .needs .now) (a .lows .now) (a .highs .now) (a .costs .now)) (a .plan .now) (c .before .slice-fault .ensures ∙ sym (room-enough (length (a .plan .now)) (a .links) _ (c .before .before .if1 .left))) (c .if2 .taken)
 
 slse-plan-requires : tie.Need-slse-plan-requires
 slse-plan-requires c κs =
@@ -51,12 +51,12 @@ same-length : tie.Need-same-length
 same-length c = search needs
 
 returns-3 : tie.Need-returns-3
-returns-3 c =
+returns-3 c number =
     let s = c .before .before .before .before .before .before .before .before .before .before .before .before .before .before in
     let a = s .args in
     let e = sym (c .before .before .before .before .before .before .before .slice-fault .ensures) ∙ c .before .before .before .before .before .before .if2 .left in
-    let p = numbered (a .number) (a .probes) (a .links) (a .needs .now) (a .lows .now) (a .highs .now) (a .costs .now) (a .plan .now) _ (c .before .before .before .before .slse-plan .ensures) in
-    plans-made _ (ofSlices (a .number) (a .probes) (a .links) (a .needs .now) (a .lows .now) (a .highs .now) (a .costs .now)) _ (a .plan .now) _ (room-enough (length (a .plan .now)) (a .links) _ (c .before .before .before .before .before .before .before .before .if1 .left) ∙ e) (c .before .before .before .before .before .before .before .before .if1 .left) p (c .answer .ensures)
+    let p = numbered number (a .probes) (a .links) (a .needs .now) (a .lows .now) (a .highs .now) (a .costs .now) (a .plan .now) _ (c .before .before .before .before .slse-plan .ensures) in
+    plans-made _ (ofSlices number (a .probes) (a .links) (a .needs .now) (a .lows .now) (a .highs .now) (a .costs .now)) _ (a .plan .now) _ (room-enough (length (a .plan .now)) (a .links) _ (c .before .before .before .before .before .before .before .before .if1 .left) ∙ e) (c .before .before .before .before .before .before .before .before .if1 .left) p (c .answer .ensures)
 
 pub slse-limited-spec : {M : Type 1} → statement M
 slse-limited-spec =

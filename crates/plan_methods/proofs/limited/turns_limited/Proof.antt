@@ -19,22 +19,22 @@ mul-if1 : tie.Need-mul-if1
 mul-if1 c = search needs
 
 returns : tie.Need-returns
-returns c =
+returns c number =
     let a = c .before .before .before .before .before .before .before .args in
-    turns-refused _ 8 (ofSlices (a .number) (a .probes) (a .links) (a .needs .now) (a .lows .now) (a .highs .now) (a .costs .now)) (a .plan .now) (a .work .now) (room-short (length (a .work .now)) (4 * a .links) _ (c .if1 .taken)) (λ z. omega arith)
+    turns-refused _ 8 (ofSlices number (a .probes) (a .links) (a .needs .now) (a .lows .now) (a .highs .now) (a .costs .now)) (a .plan .now) (a .work .now) (room-short (length (a .work .now)) (4 * a .links) _ (c .if1 .taken)) (λ z. omega arith)
 
 returns-2 : tie.Need-returns-2
-returns-2 c =
+returns-2 c number =
     let a = c .before .before .before .before .before .before .before .before .args in
-    turns-refused _ 8 (ofSlices (a .number) (a .probes) (a .links) (a .needs .now) (a .lows .now) (a .highs .now) (a .costs .now)) (a .plan .now) (a .work .now) (room-short (length (a .plan .now)) (a .links) _ (c .if2 .taken) ∙ sym (room-enough (length (a .work .now)) (4 * a .links) _ (c .before .if1 .left))) (λ z. omega arith)
+    turns-refused _ 8 (ofSlices number (a .probes) (a .links) (a .needs .now) (a .lows .now) (a .highs .now) (a .costs .now)) (a .plan .now) (a .work .now) (room-short (length (a .plan .now)) (a .links) _ (c .if2 .taken) ∙ sym (room-enough (length (a .work .now)) (4 * a .links) _ (c .before .if1 .left))) (λ z. omega arith)
 
 slice-fault-requires : tie.Need-slice-fault-requires
 slice-fault-requires c κs = search needs
 
 returns-3 : tie.Need-returns-3
-returns-3 c =
+returns-3 c number =
     let a = c .before .before .before .before .before .before .before .before .before .before .args in
-    turns-refused _ _ (ofSlices (a .number) (a .probes) (a .links) (a .needs .now) (a .lows .now) (a .highs .now) (a .costs .now)) (a .plan .now) (a .work .now) (c .before .slice-fault .ensures ∙ sym (room-enough (length (a .plan .now)) (a .links) _ (c .before .before .if2 .left)) ∙ sym (room-enough (length (a .work .now)) (4 * a .links) _ (c .before .before .before .if1 .left))) (c .if3 .taken)
+    turns-refused _ _ (ofSlices number (a .probes) (a .links) (a .needs .now) (a .lows .now) (a .highs .now) (a .costs .now)) (a .plan .now) (a .work .now) (c .before .slice-fault .ensures ∙ sym (room-enough (length (a .plan .now)) (a .links) _ (c .before .before .if2 .left)) ∙ sym (room-enough (length (a .work .now)) (4 * a .links) _ (c .before .before .before .if1 .left))) (c .if3 .taken)
 
 by-turns-requires : tie.Need-by-turns-requires
 by-turns-requires c κs =
@@ -64,12 +64,12 @@ same-length-2 : tie.Need-same-length-2
 same-length-2 c = search needs
 
 returns-4 : tie.Need-returns-4
-returns-4 c =
+returns-4 c number =
     let s = c .before .before .before .before .before .before .before .before .before .before .before .before .before .before .before .before .before .before .before in
     let a = s .args in
-    let t = ofSlices (a .number) (a .probes) (a .links) (a .needs .now) (a .lows .now) (a .highs .now) (a .costs .now) in
+    let t = ofSlices number (a .probes) (a .links) (a .needs .now) (a .lows .now) (a .highs .now) (a .costs .now) in
     let e = room-enough (length (a .work .now)) (4 * a .links) _ (c .before .before .before .before .before .before .before .before .before .before .before .before .if1 .left) ∙ room-enough (length (a .plan .now)) (a .links) _ (c .before .before .before .before .before .before .before .before .before .before .before .if2 .left) ∙ sym (c .before .before .before .before .before .before .before .before .before .before .slice-fault .ensures) ∙ c .before .before .before .before .before .before .before .before .before .if3 .left in
-    let p = numbered (a .number) (a .probes) (a .links) (a .needs .now) (a .lows .now) (a .highs .now) (a .costs .now) (a .plan .now) _ (c .before .before .before .before .before .before .by-turns .ensures .0) in
+    let p = numbered number (a .probes) (a .links) (a .needs .now) (a .lows .now) (a .highs .now) (a .costs .now) (a .plan .now) _ (c .before .before .before .before .before .before .by-turns .ensures .0) in
     turns-made _ t _ (a .plan .now) _ (a .work .now) _ e (plans-made _ t _ (a .plan .now) _ e (c .before .before .before .before .before .before .before .before .before .before .before .if2 .left) p (c .answer .ensures)) (c .before .before .before .before .before .before .by-turns .ensures .1)
 
 pub turns-limited-spec : {M : Type 1} → statement M

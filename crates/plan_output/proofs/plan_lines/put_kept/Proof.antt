@@ -4,10 +4,7 @@ use Rattle.plan_output.proofs.plan_lines.put_kept.Statement.{statement}
 use Rattle.plan_output.proofs.plan_lines.put_kept.Tie as tie
 use Prim.Native.Nat.{ℕ, _+_, _-_, _*_, _≤_}
 use mathlib.Core.Path.{_≡_, refl, _∙_}
-use mathlib.Core.Bool.{Bool}
-use mathlib.Core.List.{List}
 use native.Mathlib.Omega.{arith}
-use lib.Dec.{eqb}
 use lib.ListN.{length}
 use lib.Seq.{sets}
 use Rattle.range.specs.Sum.{sum, count}
@@ -15,9 +12,7 @@ use Rattle.range.specs.Lists.{joined}
 use Rattle.range.proofs.Sums.{weigh-next}
 use Rattle.table.specs.Table.{item}
 use Rattle.plan_output.proofs.Printing.{lineIf, count-part, lines-then}
-
-abbrev isKept : List ℕ → ℕ → Bool
-isKept plan i = eqb (item plan i) 1
+use Rattle.plan_slse.specs.FromDearest.{isKept}
 
 abbrev Inv-loop : tie.InvT-loop
 Inv-loop out₀ plan links lows highs costs at₀ i₀ out at i = (i ≤ links) × (at ≡ 17 + 13 * count i (isKept plan)) × (out ≡ sets out₀ 17 (joined (lineIf (isKept plan) (item lows) (item highs) (item costs)) i)) × (length out ≡ length out₀)

@@ -8,7 +8,7 @@ use mathlib.Core.List.{List}
 use native.Mathlib.Omega.{arith}
 use lib.ListN.{length, getD}
 use Rattle.range.proofs.Lists.{zeros-at, stored-at}
-use Rattle.plan_slse.proofs.Turns.{size, kept-bytes}
+use Rattle.plan_slse.proofs.Turns.{kept-bytes}
 
 clear-requires : tie.Need-clear-requires
 clear-requires c κs = search needs
@@ -18,21 +18,16 @@ slice-aggregate-add-links c = search needs
 
 add-links-requires : tie.Need-add-links-requires
 add-links-requires c κs =
-    let s = c .before .before .before .before .before .before .before .before .before .before .before .before in
-    let a = s .args in
-    let z = size (a .probes) (a .links) (a .needs .now) (a .lows .now) (a .highs .now) (a .costs .now) (s .pre .0) in
+    let at-start = c .before .before .before .before .before .before .before .before .before .before .before in
+    let a = at-start .args in
     let cl = c .before .before .before .before .clear in
+    let room = at-start .pre .1 in
     let k = cl .kept .0 in (
-      s .pre .0,
+      at-start .pre .0,
       omega arith,
       omega arith,
-      search needs,
-      search needs,
-      search needs,
-      search needs,
-      s .pre .6,
-      λ j l. ap (λ (x : List ℕ). getD x j 0) (cl .ensures) ∙ stored-at (λ (i : ℕ). 0) (a .links) (a .plan .now) j (s .pre .1) l,
-      λ v l. zeros-at 256 v,
+      λ j l. ap (λ (x : List ℕ). getD x j 0) (cl .ensures) ∙ stored-at (λ (i : ℕ). 0) (a .links) (a .plan .now) j (at-start .pre .1) l,
+      λ v. zeros-at 256 v,
     )
 
 slice-aggregate-remove-links : tie.Need-slice-aggregate-remove-links
@@ -40,32 +35,30 @@ slice-aggregate-remove-links c = search needs
 
 remove-links-requires : tie.Need-remove-links-requires
 remove-links-requires c κs =
-    let s = c .before .before .before .before .before .before .before .before .before .before .before .before .before .before .before .before .before .before in
-    let a = s .args in
-    let z = size (a .probes) (a .links) (a .needs .now) (a .lows .now) (a .highs .now) (a .costs .now) (s .pre .0) in
+    let at-start = c .before .before .before .before .before .before .before .before .before .before .before .before .before .before .before .before .before in
+    let a = at-start .args in
     let cl = c .before .before .before .before .before .before .before .before .before .before .clear in
     let ad = c .before .before .before .before .before .add-links in
-    let room : a .links ≤ length (cl .last .0) = omega (arith, cl .kept .0, s .pre .1) in (
-      s .pre .0,
-      omega (arith, ad .kept .0),
-      omega (arith, ad .kept .1 .0),
-      search needs,
-      search needs,
-      search needs,
-      search needs,
-      s .pre .6,
-      λ j l. ap (λ (x : List ℕ). getD x j 0) (ad .ensures .0) ∙ stored-at _ (a .links) (cl .last .0) j room l,
-      ad .ensures .1,
-    )
+    let room = at-start .pre .1 in
+    let k = cl .kept .0 in
+    let k₂ = ad .kept .0 in
+    let k₃ = ad .kept .1 .0 in
+    (rw k₃ (at-start .pre .0), omega arith, omega arith)
 
 same-length : tie.Need-same-length
 same-length c = search needs
 
 returns : tie.Need-returns
 returns c =
-    let s = c .before .before .before .before .before .before .before .before .before .before .before .before .before .before .before .before .before .before .before .before .before .before in
-    let a = s .args in
-    kept-bytes (a .probes) (a .links) (a .needs .now) (a .lows .now) (a .highs .now) (a .costs .now) (s .pre .0) (a .plan .now) _ _ _ (s .pre .1) (c .before .before .before .before .before .before .before .before .before .before .before .before .before .before .clear .ensures) (c .before .before .before .before .before .before .before .before .before .add-links .ensures .0) (c .before .before .before .remove-links .ensures)
+    let at-start = c .before .before .before .before .before .before .before .before .before .before .before .before .before .before .before .before .before .before .before .before .before in
+    let a = at-start .args in
+    let cl = c .before .before .before .before .before .before .before .before .before .before .before .before .before .before .clear in
+    let ad = c .before .before .before .before .before .before .before .before .before .add-links in
+    let room : a .links ≤ length (cl .last .0) = omega (arith, cl .kept .0, at-start .pre .1) in
+    λ probes costs is.
+    let added-is = ad .ensures probes costs is in
+    kept-bytes probes (a .links) (a .needs .now) (a .lows .now) (a .highs .now) costs (is .0) (a .plan .now) _ _ _ (at-start .pre .1) (cl .ensures) (added-is .0)
+    (c .before .before .before .remove-links .ensures probes costs is (λ j l. ap (λ (x : List ℕ). getD x j 0) (added-is .0) ∙ stored-at _ (a .links) (cl .last .0) j room l) (added-is .1))
 
 pub plan-in-order-spec : {M : Type 1} → statement M
 plan-in-order-spec =

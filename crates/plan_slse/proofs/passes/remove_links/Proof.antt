@@ -1,76 +1,102 @@
 -- `plan_slse::passes::remove_links` meets its contract.
+-- Invariant: for every legal table of these links in this order, from what it adds, k turns of the way down are done. Measure: the turns left.
 use borrow.Author.Needs.{needs}
 use Rattle.plan_slse.proofs.passes.remove_links.Statement.{statement}
 use Rattle.plan_slse.proofs.passes.remove_links.Tie as tie
-use Prim.Native.Nat.{_-_, _≤_, _<_}
+use Prim.Native.Nat.{ℕ, _-_, _≤_, _<_}
 use mathlib.Core.Path.{_≡_, refl, _∙_}
+use mathlib.Core.List.{List}
 use native.Mathlib.Omega.{arith}
-use lib.ListN.{length}
+use lib.ListN.{length, getD}
 use Rattle.table.specs.Table.{ofSlices, dearer}
+use Rattle.table.specs.Legal.{Ends}
 use Rattle.plan_theory.specs.Pass.{place}
-use Rattle.plan_slse.proofs.Turns.{Down, down-start, down-step, down-end, ends-of, whole}
+use Rattle.plan_theory.specs.Plan.{linksAt, added}
+use Rattle.plan_slse.specs.FromDearest.{InOrder, planByte}
+use Rattle.plan_slse.proofs.Turns.{Down, down-start, down-step, down-end, whole}
 
 abbrev Inv-loop : tie.InvT-loop
-Inv-loop plan₀ counts₀ probes links order needs lows highs costs k₀ plan counts k = (k ≤ links) × Down probes links needs lows highs costs k plan₀ plan counts × (length plan ≡ length plan₀) × (length counts ≡ length counts₀)
+Inv-loop plan₀ counts₀ links order needs lows highs k₀ plan counts k =
+    (k ≤ links)
+    × ((probes : ℕ) (costs : List ℕ) → InOrder (ofSlices 0 probes links needs lows highs costs) order
+    → ((j : ℕ) → j < links → getD plan₀ j 0 ≡ planByte (added (ofSlices 0 probes links needs lows highs costs) j))
+    → ((v : ℕ) → v < probes → getD counts₀ v 0 ≡ linksAt (ofSlices 0 probes links needs lows highs costs) (added (ofSlices 0 probes links needs lows highs costs)) v)
+    → Down probes links needs lows highs costs k plan₀ plan counts)
+    × (length plan ≡ length plan₀) × (length counts ≡ length counts₀)
 
 abbrev μ-loop : tie.MeasureT-loop
-μ-loop plan₀ counts₀ probes links order needs lows highs costs k₀ plan counts k = links - k
+μ-loop plan₀ counts₀ links order needs lows highs k₀ plan counts k = links - k
 
 loop-holds : tie.Need-loop-holds Inv-loop μ-loop
 loop-holds c =
-    let s = c .before .before .before .before .before .before .before in
-    let a = s .args in
-    (search needs, down-start (a .probes) (a .links) (a .needs .now) (a .lows .now) (a .highs .now) (a .costs .now) (a .plan .now) (a .counts .now) (s .pre .1) (s .pre .8) (s .pre .9), refl, refl)
+    let at-start = c .before .before .before .before .before .before in
+    let a = at-start .args in
+    (search needs, λ probes costs is own all. down-start probes (a .links) (a .needs .now) (a .lows .now) (a .highs .now) costs (a .plan .now) (a .counts .now) (at-start .pre .1) own all, refl, refl)
 
 mul-wide : tie.Need-mul-wide Inv-loop μ-loop
-mul-wide c = search needs
+mul-wide c =
+    let fits = c .before .before .before .before .before .before .before .before .pre .0 in
+    omega (arith, fits .in-order)
 
 shared-slice-read-wide : tie.Need-shared-slice-read-wide Inv-loop μ-loop
-shared-slice-read-wide c = search needs
+shared-slice-read-wide c =
+    let fits = c .before .before .before .before .before .before .before .before .before .pre .0 in
+    omega (arith, fits .in-order)
 
 wide-requires : tie.Need-wide-requires Inv-loop μ-loop
 wide-requires c κs = search needs
 
 mul-wide-2 : tie.Need-mul-wide-2 Inv-loop μ-loop
 mul-wide-2 c =
-    let o = c .before .before .before .before .before .before .before .before .before .before .before .before .before .pre .7 (c .before .before .before .before .before .loop .k) (omega arith) in
+    let fits = c .before .before .before .before .before .before .before .before .before .before .before .before .pre .0 in
+    let o = fits .below (c .before .before .before .before .before .loop .k) (omega arith) in
     let e = c .before .before .wide .ensures in
-    omega arith
+    omega (arith, fits .in-lows)
 
 shared-slice-read-wide-2 : tie.Need-shared-slice-read-wide-2 Inv-loop μ-loop
 shared-slice-read-wide-2 c =
-    let o = c .before .before .before .before .before .before .before .before .before .before .before .before .before .before .pre .7 (c .before .before .before .before .before .before .loop .k) (omega arith) in
+    let fits = c .before .before .before .before .before .before .before .before .before .before .before .before .before .pre .0 in
+    let o = fits .below (c .before .before .before .before .before .before .loop .k) (omega arith) in
     let e = c .before .before .before .wide .ensures in
-    omega arith
+    omega (arith, fits .in-lows)
 
 wide-requires-2 : tie.Need-wide-requires-2 Inv-loop μ-loop
 wide-requires-2 c κs = search needs
 
 mul-wide-3 : tie.Need-mul-wide-3 Inv-loop μ-loop
 mul-wide-3 c =
-    let o = c .before .before .before .before .before .before .before .before .before .before .before .before .before .before .before .pre .7 (c .before .before .before .before .before .before .before .loop .k) (omega arith) in
+    let fits = c .before .before .before .before .before .before .before .before .before .before .before .before .before .before .pre .0 in
+    let o = fits .below (c .before .before .before .before .before .before .before .loop .k) (omega arith) in
     let e = c .before .before .before .before .wide .ensures in
-    omega arith
+    omega (arith, fits .in-highs)
 
 shared-slice-read-wide-3 : tie.Need-shared-slice-read-wide-3 Inv-loop μ-loop
 shared-slice-read-wide-3 c =
-    let o = c .before .before .before .before .before .before .before .before .before .before .before .before .before .before .before .before .pre .7 (c .before .before .before .before .before .before .before .before .loop .k) (omega arith) in
+    let fits = c .before .before .before .before .before .before .before .before .before .before .before .before .before .before .before .pre .0 in
+    let o = fits .below (c .before .before .before .before .before .before .before .before .loop .k) (omega arith) in
     let e = c .before .before .before .before .before .wide .ensures in
-    omega arith
+    omega (arith, fits .in-highs)
 
 wide-requires-3 : tie.Need-wide-requires-3 Inv-loop μ-loop
 wide-requires-3 c κs = search needs
 
 remove-link-requires : tie.Need-remove-link-requires Inv-loop μ-loop
 remove-link-requires c κs =
-    let s = c .before .before .before .before .before .before .before .before .before .before .before .before .before .before .before .before .before in
-    let a = s .args in
+    let at-start = c .before .before .before .before .before .before .before .before .before .before .before .before .before .before .before .before in
+    let a = at-start .args in
+    let fits = at-start .pre .0 in
     let l = c .before .before .before .before .before .before .before .before .before in
-    let o = s .pre .7 (l .loop .k) (omega arith) in
-    let e = c .before .before .before .before .before .before .wide .ensures in
-    let i : c .before .before .before .before .before .before .wide .result < a .links = omega arith in
-    let g = ends-of (a .probes) (a .links) (a .needs .now) (a .lows .now) (a .highs .now) (a .costs .now) (s .pre .0) (c .before .before .before .before .before .before .wide .result) (c .before .before .wide2 .result) (c .wide3 .result) i (c .before .before .wide2 .ensures) (c .wide3 .ensures) in
-    (omega arith, g .rises, omega arith, omega arith)
+    let at-link = c .before .before .before .before .before .before in
+    let o = fits .below (l .loop .k) (omega arith) in
+    let e = at-link .wide .ensures in
+    let i : at-link .wide .result < a .links = omega arith in
+    let g : Ends (length (a .counts .now)) (c .before .before .wide2 .result) (c .wide3 .result) = rw (c .before .before .wide2 .ensures, c .wide3 .ensures) (fits .counted (at-link .wide .result) i) in
+    let n = fits .needed (at-link .wide .result) i in
+    let r = g .rises in
+    let b = g .below in
+    let w = c .wide3 .ensures in
+    let same = l .loop .inv .3 in
+    (omega arith, r, omega arith, omega arith)
 
 add-k : tie.Need-add-k Inv-loop μ-loop
 add-k c = search needs
@@ -80,19 +106,33 @@ loop-less c = search needs
 
 loop-again : tie.Need-loop-again Inv-loop μ-loop
 loop-again c =
-    let s = c .before .before .before .before .before .before .before .before .before .before .before .before .before .before .before .before .before .before .before .before .before .before in
-    let a = s .args in
+    let at-start = c .before .before .before .before .before .before .before .before .before .before .before .before .before .before .before .before .before .before .before .before .before in
+    let a = at-start .args in
+    let fits = at-start .pre .0 in
     let l = c .before .before .before .before .before .before .before .before .before .before .before .before .before .before in
+    let at-link = c .before .before .before .before .before .before .before .before .before .before .before in
+    let at-call = c .before .before .before .before in
+    let link = at-link .wide .result in
+    let e = at-link .wide .ensures in
+    let st = at-call .remove-link .ensures in
     let some : l .loop .k < a .links = c .before .before .before .before .before .before .before .before .before .before .before .before .before .loop-test .taken in
-    let long : a .probes ≤ length (l .loop .counts) = omega (arith, s .pre .2, l .loop .inv .3) in
-    let o = s .pre .7 (l .loop .k) some in
-    let e = c .before .before .before .before .before .before .before .before .before .before .before .wide .ensures in
-    let i : c .before .before .before .before .before .before .before .before .before .before .before .wide .result < a .links = omega (arith, e, o .0) in
-    let p : place (a .links) (dearer (ofSlices 0 (a .probes) (a .links) (a .needs .now) (a .lows .now) (a .highs .now) (a .costs .now))) (c .before .before .before .before .before .before .before .before .before .before .before .wide .result) ≡ l .loop .k = rw e (o .1) in
-    let w = whole (a .probes) (a .links) (a .needs .now) (a .lows .now) (a .highs .now) (a .costs .now) (s .pre .0) in
-    let st = c .before .before .before .before .remove-link .ensures in
-    let u = down-step (a .probes) (a .links) (a .needs .now) (a .lows .now) (a .highs .now) (a .costs .now) (w .order) (l .loop .k) (c .before .before .before .before .before .before .before .before .before .before .before .wide .result) (a .plan .now) (l .loop .plan) (l .loop .counts) i (w .ends (c .before .before .before .before .before .before .before .before .before .before .before .wide .result) i) long (s .pre .1) _ _ (l .loop .inv .1) p (rw (c .before .before .before .before .before .before .before .wide2 .ensures, c .before .before .before .before .before .wide3 .ensures) at (st .0)) (rw (c .before .before .before .before .before .before .before .wide2 .ensures, c .before .before .before .before .before .wide3 .ensures) at (st .1)) in
-    (omega arith, u, c .before .before .before .before .remove-link .kept .0 ∙ l .loop .inv .2, c .before .before .before .before .remove-link .kept .1 .0 ∙ l .loop .inv .3)
+    let below = fits .below (l .loop .k) (omega arith) in
+    let i : link < a .links = omega arith in
+    let low = at-call .before .before .before .wide2 .ensures in
+    let high = at-call .before .wide3 .ensures in
+    let plan-after = rw (low, high) at (st .0) in
+    let counts-after = rw (low, high) at (st .1) in (
+      omega arith,
+      λ probes costs is own all.
+          let t = ofSlices 0 probes (a .links) (a .needs .now) (a .lows .now) (a .highs .now) costs in
+          let w = whole probes (a .links) (a .needs .now) (a .lows .now) (a .highs .now) costs (is .0) in
+          let few = w .size .few in
+          let long : probes ≤ length (l .loop .counts) = omega (arith, at-start .pre .2, l .loop .inv .3) in
+          let p : place (a .links) (dearer t) link ≡ l .loop .k = rw e (is .1 (l .loop .k) some .1) in
+          down-step probes (a .links) (a .needs .now) (a .lows .now) (a .highs .now) costs (w .order) (l .loop .k) link (a .plan .now) (l .loop .plan) (l .loop .counts) i (w .ends link i) long (at-start .pre .1) _ _ (l .loop .inv .1 probes costs is own all) p plan-after counts-after,
+      at-call .remove-link .kept .0 ∙ l .loop .inv .2,
+      at-call .remove-link .kept .1 .0 ∙ l .loop .inv .3,
+    )
 
 same-length : tie.Need-same-length Inv-loop μ-loop
 same-length c = c .before .loop .inv .2
@@ -102,9 +142,10 @@ same-length-2 c = c .before .loop .inv .3
 
 returns : tie.Need-returns Inv-loop μ-loop
 returns c =
-    let a = c .before .before .before .before .before .before .before .before .before .args in
-    let z : c .before .loop .k ≡ a .links = omega arith in
-    down-end (a .probes) (a .links) (a .needs .now) (a .lows .now) (a .highs .now) (a .costs .now) (a .plan .now) (c .before .loop .plan) (c .before .loop .counts) (rw z at (c .before .loop .inv .1))
+    let a = c .before .before .before .before .before .before .before .before .args in
+    let l = c .before .loop in
+    let z : l .k ≡ a .links = omega arith in
+    λ probes costs is own all. down-end probes (a .links) (a .needs .now) (a .lows .now) (a .highs .now) costs (a .plan .now) (l .plan) (l .counts) (rw z at (l .inv .1 probes costs is own all))
 
 pub remove-links-spec : {M : Type 1} → statement M
 remove-links-spec =

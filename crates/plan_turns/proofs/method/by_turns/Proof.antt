@@ -12,6 +12,7 @@ use Rattle.table.specs.Table.{item}
 use Rattle.plan_turns_search.specs.Record.{SiteInSlices}
 use Rattle.plan_turns_search.proofs.Turns.{zeros-ready, zeros-kept}
 use Rattle.plan_turns_search.proofs.Plan.{small, no-fault, ends, fits, plan-bytes}
+use Rattle.plan_turns_search.specs.Record.{siteSlicesOf}
 
 clear-requires : tie.Need-clear-requires
 clear-requires c κs = search needs
@@ -65,7 +66,7 @@ take-turns-requires c κs =
     let n : length (f .last .0) ≡ 256 = f .kept .0 in
     let long : length (w .last .0) ≡ length (a .work .now) = w .kept .0 in
     let wide : length (k .last .0) ≡ 1024 = k .kept .0 in
-    let good : SiteInSlices (a .links) (a .lows .now) (a .highs .now) (a .costs .now) (f .last .0) = fits (a .probes) (a .links) (a .needs .now) (a .lows .now) (a .highs .now) (a .costs .now) (p .0) (f .last .0) n (p .2) (p .3) (p .4) (λ i. c .before .before .before .before .before .before .before .before .before .before .before .before .before .before .before .before .before .before .before .shared-slice-known4 .given i .fits) in
+    let good : SiteInSlices (siteSlicesOf (a .links) (a .lows .now) (a .highs .now) (a .costs .now) (f .last .0)) = fits (a .probes) (a .links) (a .needs .now) (a .lows .now) (a .highs .now) (a .costs .now) (p .0) (f .last .0) n (p .2) (p .3) (p .4) (λ i. c .before .before .before .before .before .before .before .before .before .before .before .before .before .before .before .before .before .before .before .shared-slice-known4 .given i .fits) in
     let none : (j : ℕ) → item (w .last .0) j ≡ 0 = λ j. ap (λ (r : List ℕ). item r j) (w .ensures) ∙ zeros-at (length (a .work .now)) j in (
       zeros-ready (a .links) (a .lows .now) (a .highs .now) (a .costs .now) (f .last .0) (w .last .0) good none (omega (arith, p .6)),
       zeros-kept (a .links) (a .lows .now) (a .highs .now) (a .costs .now) (f .last .0) (w .last .0) good none (k .last .0) (omega arith) (k .ensures .0),

@@ -3,12 +3,16 @@ use borrow.Author.Needs.{needs}
 use Rattle.plan_turns.proofs.method.find_spares.Statement.{statement}
 use Rattle.plan_turns.proofs.method.find_spares.Tie as tie
 use native.Mathlib.Omega.{arith}
+use lib.ListN.{length}
 use Rattle.table.specs.Table.{item}
-use Rattle.table.proofs.Faults.{links-ends}
+use Rattle.table.proofs.Faults.{links-ends, ends-within}
 use Rattle.plan_turns_search.proofs.Plan.{spares-right}
 
 count-degrees-requires : tie.Need-count-degrees-requires
-count-degrees-requires c κs = search needs
+count-degrees-requires c κs =
+    let at-start = c .before .before .before .before .before in
+    let a = at-start .args in
+    (search needs, search needs, search needs, ends-within (a .probes) (a .links) (length (a .spares .now)) (item (a .lows .now)) (item (a .highs .now)) (at-start .pre .5) (at-start .pre .3), at-start .pre .6)
 
 take-needs-requires : tie.Need-take-needs-requires
 take-needs-requires c κs = search needs

@@ -1,4 +1,4 @@
--- `plan_turns::method::take_needs` meets its contract.
+-- `plan_turns::method::take_needs` meets its contract. Invariant: the first v probes have their spare, the others their counted links. Measure: the probes left.
 use borrow.Author.Needs.{needs}
 use Rattle.plan_turns.proofs.method.take_needs.Statement.{statement}
 use Rattle.plan_turns.proofs.method.take_needs.Tie as tie
@@ -21,20 +21,23 @@ loop-holds : tie.Need-loop-holds Inv-loop μ-loop
 unfolding stored
 loop-holds c = (search needs, refl, refl)
 
-mul-less : tie.Need-mul-less Inv-loop μ-loop
-mul-less c = search needs
+mul-wide : tie.Need-mul-wide Inv-loop μ-loop
+mul-wide c = search needs
 
-slice-read-less : tie.Need-slice-read-less Inv-loop μ-loop
-slice-read-less c = search needs
+slice-read-wide : tie.Need-slice-read-wide Inv-loop μ-loop
+slice-read-wide c = search needs
 
-mul-less-2 : tie.Need-mul-less-2 Inv-loop μ-loop
-mul-less-2 c = search needs
+wide-requires : tie.Need-wide-requires Inv-loop μ-loop
+wide-requires c κs = search needs
 
-shared-slice-read-less : tie.Need-shared-slice-read-less Inv-loop μ-loop
-shared-slice-read-less c = search needs
+spare-of-requires : tie.Need-spare-of-requires Inv-loop μ-loop
+spare-of-requires c κs = search needs
 
-less-requires : tie.Need-less-requires Inv-loop μ-loop
-less-requires c κs = search needs
+cast-counts : tie.Need-cast-counts Inv-loop μ-loop
+cast-counts c =
+    let e = c .spare-of .ensures in
+    let w = c .before .wide .ensures in
+    omega (arith, c .before .before .slice-known2 .given (c .before .before .before .before .loop .v) .fits)
 
 mul-counts : tie.Need-mul-counts Inv-loop μ-loop
 mul-counts c = search needs
@@ -54,7 +57,7 @@ loop-again c =
     let a = c .before .before .before .before .before .before .before .args in
     let f : ℕ → ℕ = λ k. item (a .counts .now) k - item (a .needs .now) k in
     let was : item (l .counts) (l .v) ≡ item (a .counts .now) (l .v) = ap (λ (x : List ℕ). item x (l .v)) (l .inv .1) ∙ stored-beyond f (l .v) (a .counts .now) (l .v) (omega arith) in
-    let val : c .less .result ≡ f (l .v) = c .less .ensures ∙ ap (λ (x : ℕ). x - item (a .needs .now) (l .v)) was in
+    let val : c .spare-of .result ≡ f (l .v) = c .spare-of .ensures ∙ ap (λ (x : ℕ). x - item (a .needs .now) (l .v)) (c .before .wide .ensures ∙ was) in
     (search needs, rw (val, l .inv .1) (sym (stored-next f (l .v) (a .counts .now))), simp length-set (l .inv .2))
 
 same-length : tie.Need-same-length Inv-loop μ-loop
@@ -72,11 +75,11 @@ take-needs-spec =
     Inv-loop
     μ-loop
     loop-holds
-    mul-less
-    slice-read-less
-    mul-less-2
-    shared-slice-read-less
-    less-requires
+    mul-wide
+    slice-read-wide
+    wide-requires
+    spare-of-requires
+    cast-counts
     mul-counts
     slice-write-counts
     add-v

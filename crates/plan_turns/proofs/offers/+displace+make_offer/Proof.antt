@@ -31,6 +31,7 @@ use Rattle.plan_turns_search.proofs.Record.{target-below, source-below}
 use Rattle.plan_turns_search.proofs.Chain.{opposite-below, opposite-end}
 use Rattle.plan_turns_search.proofs.Kept.{mark-other, less-at, cursor-moved, held-moved}
 use Rattle.plan_turns_search.proofs.Steps.{offered-none, offered-take, taken-kept, displaces, offered-displacing, some-held, displaced-ready, displaced-room, displaced-fewer, displaced-offered, held-stands, displaced-kept}
+use Rattle.plan_turns_search.specs.Record.{siteSlicesOf}
 
 abbrev μ-displace : Measures 8 displace-kinds.ps ℕ
 μ-displace κs a = 2 * untriedCount (a .1 .1 .0) (a .0 .now)
@@ -139,14 +140,14 @@ displace-maker t c =
     let f = c .before .cheapest in
     rw (← c .end-of3 .ensures) at (target-below (a .links) (a .lows .now) (a .highs .now) (a .costs .now) (a .spares .now) (displace-start t (c .before .before .before .before) .pre .1 .0 .ready .fits) (f .result) (f .ensures .1 .below))
 
-displace-kept : (t : ℕ) (c : DisplaceStored t) → let a = displace-start t (displace-ends t c) .args in MarksAgree (a .links) (a .lows .now) (a .highs .now) (a .costs .now) (a .spares .now) (a .rec .now) (c .store .last .0)
+displace-kept : (t : ℕ) (c : DisplaceStored t) → let a = displace-start t (displace-ends t c) .args in MarksAgree (siteSlicesOf (a .links) (a .lows .now) (a .highs .now) (a .costs .now) (a .spares .now)) (a .rec .now) (c .store .last .0)
 displace-kept t c =
     let s = displace-start t (displace-ends t c) in
     let a = s .args in
     held-moved (a .links) (a .lows .now) (a .highs .now) (a .costs .now) (a .spares .now) (a .rec .now) (a .marks .now) (s .pre .1 .1) (displace-ends t c .end-of2 .result) (c .before .before .before .cheapest .result) (displace-target t (displace-ends t c)) (c .before .before .before .cheapest .ensures .1) (c .store .last .0) (c .store .ensures)
 
 -- the cheapest that v holds, and its maker w
-displace-cheapest : (t : ℕ) (c : DisplaceOpposite t) → let e = displace-ends t (c .before .before .before .before) in let a = displace-start t e .args in Cheapest (siteOf (a .links) (a .lows .now) (a .highs .now) (a .costs .now) (a .spares .now)) (atSource (a .rec .now)) (e .end-of2 .result) (c .opposite .result)
+displace-cheapest : (t : ℕ) (c : DisplaceOpposite t) → let e = displace-ends t (c .before .before .before .before) in let a = displace-start t e .args in Cheapest (siteOf (siteSlicesOf (a .links) (a .lows .now) (a .highs .now) (a .costs .now) (a .spares .now))) (atSource (a .rec .now)) (e .end-of2 .result) (c .opposite .result)
 displace-cheapest t c = rw (← c .opposite .ensures) at (c .before .before .before .before .before .before .before .cheapest .ensures .0)
 
 displace-end : (t : ℕ) (c : DisplaceOpposite t) → let a = displace-start t (displace-ends t (c .before .before .before .before)) .args in c .before .before .before .before .before .before .end-of3 .result ≡ endOf (a .lows .now) (a .highs .now) (c .opposite .result)
@@ -324,10 +325,10 @@ abbrev make-offer-stored : (t : ℕ) → OfferTarget t → OfferStored t
 make-offer-stored t c = c .before .before .before .before
 
 -- u stands below its spare, and v is a probe
-make-offer-room : (t : ℕ) (s : OfferStart t) → let a = s .args in stands (siteOf (a .links) (a .lows .now) (a .highs .now) (a .costs .now) (a .spares .now)) (atSource (a .rec .now)) (a .u) < item (a .spares .now) (a .u)
+make-offer-room : (t : ℕ) (s : OfferStart t) → let a = s .args in stands (siteOf (siteSlicesOf (a .links) (a .lows .now) (a .highs .now) (a .costs .now) (a .spares .now))) (atSource (a .rec .now)) (a .u) < item (a .spares .now) (a .u)
 make-offer-room t s = omega (arith, s .pre .1 .1 .standing (s .args .u) (s .pre .1 .4), s .pre .1 .5)
 
-make-offer-kept : (t : ℕ) (c : OfferStored t) → let a = make-offer-start t c .args in MarksAgree (a .links) (a .lows .now) (a .highs .now) (a .costs .now) (a .spares .now) (a .rec .now) (c .store .last .0)
+make-offer-kept : (t : ℕ) (c : OfferStored t) → let a = make-offer-start t c .args in MarksAgree (siteSlicesOf (a .links) (a .lows .now) (a .highs .now) (a .costs .now) (a .spares .now)) (a .rec .now) (c .store .last .0)
 make-offer-kept t c =
     let a = make-offer-start t c .args in
     let p = make-offer-start t c .pre .1 in

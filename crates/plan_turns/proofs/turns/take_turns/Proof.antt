@@ -8,9 +8,10 @@ use native.Mathlib.Omega.{arith}
 use lib.ListN.{length}
 use Rattle.plan_turns_search.specs.Record.{MarksAgree, Over}
 use Rattle.plan_turns_search.proofs.Turns.{over-start, over-next}
+use Rattle.plan_turns_search.specs.Record.{siteSlicesOf}
 
 abbrev Inv-loop : tie.InvT-loop
-Inv-loop rec₀ marks₀ probes links lows highs costs spares nexts ups p₀ rec marks p = (p ≤ probes) × Over links lows highs costs spares rec p × MarksAgree links lows highs costs spares rec marks × (length rec ≡ length rec₀) × (length marks ≡ length marks₀)
+Inv-loop rec₀ marks₀ probes links lows highs costs spares nexts ups p₀ rec marks p = (p ≤ probes) × Over (siteSlicesOf links lows highs costs spares) rec p × MarksAgree (siteSlicesOf links lows highs costs spares) rec marks × (length rec ≡ length rec₀) × (length marks ≡ length marks₀)
 
 abbrev μ-loop : tie.MeasureT-loop
 μ-loop rec₀ marks₀ probes links lows highs costs spares nexts ups p₀ rec marks p = probes - p

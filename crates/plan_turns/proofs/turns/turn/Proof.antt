@@ -8,9 +8,10 @@ use lib.ListN.{length}
 use borrow.Author.Tests.{not-true, not-false}
 use Rattle.plan_turns_search.specs.Record.{untriedCount, MarksAgree}
 use Rattle.plan_turns_search.proofs.Turns.{Turning, turn-start, turn-next, turned-none, turned-full}
+use Rattle.plan_turns_search.specs.Record.{siteSlicesOf}
 
 abbrev Inv-loop : tie.InvT-loop
-Inv-loop rec₀ marks₀ links lows highs costs spares nexts ups p rec marks = Turning links lows highs costs spares rec₀ rec × MarksAgree links lows highs costs spares rec marks × (length rec ≡ length rec₀) × (length marks ≡ length marks₀)
+Inv-loop rec₀ marks₀ links lows highs costs spares nexts ups p rec marks = Turning links lows highs costs spares rec₀ rec × MarksAgree (siteSlicesOf links lows highs costs spares) rec marks × (length rec ≡ length rec₀) × (length marks ≡ length marks₀)
 
 abbrev μ-loop : tie.MeasureT-loop
 μ-loop rec₀ marks₀ links lows highs costs spares nexts ups p rec marks = untriedCount links rec

@@ -8,9 +8,10 @@ use Rattle.plan_turns_search.specs.Record.{atSource, atTarget, endOf, si
 use Rattle.plan_turns_search.specs.Offers.{HeldSearch}
 use Rattle.plan_turns_search.specs.Chain.{opposite, turnedKey}
 use Rattle.plan_turns_search.proofs.Chain.{height, falls, opposite-below, held-at, held-cheapest, held-step}
+use Rattle.plan_turns_search.specs.Record.{siteSlicesOf}
 
 abbrev Inv-loop : tie.InvT-loop
-Inv-loop rec marks links lows highs costs spares ups v f₀ f = HeldSearch (siteOf links lows highs costs spares) (atSource rec) v f
+Inv-loop rec marks links lows highs costs spares ups v f₀ f = HeldSearch (siteOf (siteSlicesOf links lows highs costs spares)) (atSource rec) v f
 
 abbrev μ-loop : tie.MeasureT-loop
 μ-loop rec marks links lows highs costs spares ups v f₀ f = height (2 * links) (turnedKey costs) f

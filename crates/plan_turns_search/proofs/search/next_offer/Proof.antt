@@ -12,15 +12,16 @@ use Rattle.plan_turns_search.specs.Offers.{HeldSearch, OfferSearch, hold
 use Rattle.plan_turns_search.specs.Chain.{opposite, turnedKey}
 use Rattle.plan_turns_search.proofs.Record.{target-below}
 use Rattle.plan_turns_search.proofs.Chain.{height, falls, opposite-below, walk-next, walk-found, walk-end, taken-free, held-wanted, held-refuses, held-next}
+use Rattle.plan_turns_search.specs.Record.{siteSlicesOf}
 
 abbrev Inv-loop : tie.InvT-loop
-Inv-loop rec marks links lows highs costs spares nexts ups u dirs found₀ e d v f₀ found f = (found ≡ 2 * links) × HeldSearch (siteOf links lows highs costs spares) (atSource rec) v f
+Inv-loop rec marks links lows highs costs spares nexts ups u dirs found₀ e d v f₀ found f = (found ≡ 2 * links) × HeldSearch (siteOf (siteSlicesOf links lows highs costs spares)) (atSource rec) v f
 
 abbrev μ-loop : tie.MeasureT-loop
 μ-loop rec marks links lows highs costs spares nexts ups u dirs found₀ e d v f₀ found f = height (2 * links) (turnedKey costs) f
 
 abbrev Inv-search : tie.InvT-search
-Inv-search rec marks links lows highs costs spares nexts ups u dirs found₀ e₀ found e = (found ≡ 2 * links) × OfferSearch (siteOf links lows highs costs spares) (atSource rec) u e
+Inv-search rec marks links lows highs costs spares nexts ups u dirs found₀ e₀ found e = (found ≡ 2 * links) × OfferSearch (siteOf (siteSlicesOf links lows highs costs spares)) (atSource rec) u e
 
 abbrev μ-search : tie.MeasureT-search
 μ-search rec marks links lows highs costs spares nexts ups u dirs found₀ e₀ found e = height (2 * links) (keyOf costs) e
@@ -183,7 +184,7 @@ search-again-2 c =
     let n = p .1 .held (v .result) lv in
     let h = c .before .before .before .before .before .before .entry3 .ensures in
     let s = c .before .before .before .before .before .entry4 .ensures in
-    let full : item (a .spares .now) (v .result) ≤ holds (siteOf (a .links) (a .lows .now) (a .highs .now) (a .costs .now) (a .spares .now)) (atSource (a .rec .now)) (v .result) = omega (arith, c .before .before .before .before .if2 .left) in (
+    let full : item (a .spares .now) (v .result) ≤ holds (siteOf (siteSlicesOf (a .links) (a .lows .now) (a .highs .now) (a .costs .now) (a .spares .now))) (atSource (a .rec .now)) (v .result) = omega (arith, c .before .before .before .before .if2 .left) in (
       c .before .before .loop .inv .0,
       walk-next (a .links) (a .lows .now) (a .highs .now) (a .costs .now) (a .spares .now) (p .0 .fits) (atSource (a .rec .now)) (a .u) (a .nexts .now) (p .2) (c .before .before .before .before .before .before .before .before .before .before .before .before .search .e) (c .before .before .before .before .before .before .before .before .before .before .entry2 .result) (c .before .before .before .before .before .before .before .before .before .before .before .search-test .taken) (c .before .before .before .before .before .before .before .before .before .before .before .before .search .inv .1)
           (λ z. held-refuses (a .links) (a .lows .now) (a .highs .now) (a .costs .now) (a .spares .now) (p .0 .fits) (atSource (a .rec .now)) (p .0 .inv) (v .result) (c .before .before .loop .f) (c .before .before .loop .inv .1) full (c .before .before .before .before .before .before .before .before .before .before .before .before .search .e) (c .before .before .before .before .before .before .before .before .before .before .before .search-test .taken) (sym (v .ensures)) (λ y. omega arith) (ltb-false (keyOf (a .costs .now) (c .before .before .loop .f)) (keyOf (a .costs .now) (c .before .before .before .before .before .before .before .before .before .before .before .before .search .e)) (sym (c .before .cheaper .ensures) ∙ c .if3 .left))) (c .before .before .before .before .before .before .before .before .before .before .entry2 .ensures),
@@ -237,7 +238,7 @@ loop-again c =
     let n = p .1 .held (v .result) lv in
     let h = c .before .before .before .before .before .before .before .before .before .before .entry3 .ensures in
     let s = c .before .before .before .before .before .before .before .before .before .entry4 .ensures in
-    let full : item (a .spares .now) (v .result) ≤ holds (siteOf (a .links) (a .lows .now) (a .highs .now) (a .costs .now) (a .spares .now)) (atSource (a .rec .now)) (v .result) = omega (arith, c .before .before .before .before .before .before .before .before .if2 .left) in (
+    let full : item (a .spares .now) (v .result) ≤ holds (siteOf (siteSlicesOf (a .links) (a .lows .now) (a .highs .now) (a .costs .now) (a .spares .now))) (atSource (a .rec .now)) (v .result) = omega (arith, c .before .before .before .before .before .before .before .before .if2 .left) in (
       c .before .before .before .before .before .before .loop .inv .0,
       held-next (a .links) (a .lows .now) (a .highs .now) (a .costs .now) (a .spares .now) (p .0 .fits) (atSource (a .rec .now)) (p .0 .inv) (v .result) (c .before .before .before .before .before .before .loop .f) (c .before .before .before .before .before .before .loop .inv .1) full (a .ups .now) (p .3)
           (λ z. c .before .if4 .left (ap (atTarget (a .rec .now)) (c .before .before .before .opposite .ensures) ∙ p .0 .paired .twin (opposite (c .before .before .before .before .before .before .loop .f)) ∙ z)) (c .before .before .before .before .before .before .before .before .before .before .before .before .before .before .before .before .search .e) (c .before .before .before .before .before .before .before .before .before .before .before .before .before .before .before .search-test .taken) (sym (v .ensures)) (ltb-true (keyOf (a .costs .now) (c .before .before .before .before .before .before .loop .f)) (keyOf (a .costs .now) (c .before .before .before .before .before .before .before .before .before .before .before .before .before .before .before .before .search .e)) (sym (c .before .before .before .before .before .cheaper .ensures) ∙ c .before .before .before .before .if3 .taken)) (c .entry6 .result) (c .entry6 .ensures),

@@ -8,13 +8,17 @@ use mathlib.Core.List.{[]}
 use Rattle.range.proofs.Faults.{first-same}
 use Rattle.range.proofs.Lists.{zeros-at}
 use Rattle.table.specs.Table.{item, ofSlices}
+use Rattle.table.proofs.Faults.{ends-within}
 use Rattle.table.specs.Legal.{aboveFault, needFault}
 
 slice-aggregate-count-degrees : tie.Need-slice-aggregate-count-degrees
 slice-aggregate-count-degrees c = search needs
 
 count-degrees-requires : tie.Need-count-degrees-requires
-count-degrees-requires c κs = (search needs, search needs, search needs, search needs, search needs, zeros-at 256)
+count-degrees-requires c κs =
+    let at-start = c .before .before .before .before in
+    let a = at-start .args in
+    (search needs, search needs, search needs, ends-within (a .probes) (a .links) 256 (item (a .lows .now)) (item (a .highs .now)) (at-start .pre .5) (at-start .pre .0), zeros-at 256)
 
 slice-aggregate-counted-fault : tie.Need-slice-aggregate-counted-fault
 slice-aggregate-counted-fault c = search needs

@@ -10,19 +10,18 @@ use lib.Seq.{getD-set-other}
 use Rattle.range.specs.Sum.{sum}
 use Rattle.range.proofs.Sums.{count-le}
 use Rattle.table.specs.Table.{item, ofSlices, touches}
-use Rattle.table.proofs.Faults.{links-ends}
 use Rattle.table.proofs.DegreeLaws.{touched, counted-next}
 use mathlib.Core.List.{[]}
 
 abbrev Inv-loop : tie.InvT-loop
-Inv-loop counts₀ probes links lows highs i₀ counts i = (i ≤ links) × ((v : ℕ) → getD counts v 0 ≡ touched (item lows) (item highs) i v) × (length counts ≡ length counts₀)
+Inv-loop counts₀ links lows highs i₀ counts i = (i ≤ links) × ((v : ℕ) → getD counts v 0 ≡ touched (item lows) (item highs) i v) × (length counts ≡ length counts₀)
 
 abbrev μ-loop : tie.MeasureT-loop
-μ-loop counts₀ probes links lows highs i₀ counts i = links - i
+μ-loop counts₀ links lows highs i₀ counts i = links - i
 
 loop-holds : tie.Need-loop-holds Inv-loop μ-loop
 unfolding sum
-loop-holds c = (search needs, c .before .before .before .pre .5, refl)
+loop-holds c = (search needs, c .before .before .before .pre .4, refl)
 
 mul-wide : tie.Need-mul-wide Inv-loop μ-loop
 mul-wide c = search needs
@@ -46,7 +45,7 @@ add-one-requires : tie.Need-add-one-requires Inv-loop μ-loop
 add-one-requires c κs =
     let l = c .before .before .before .before .before .before in
     let a = c .before .before .before .before .before .before .before .before .before .before .args in
-    let g = links-ends (a .probes) (a .links) (item (a .lows .now)) (item (a .highs .now)) (c .before .before .before .before .before .before .before .before .before .before .pre .4) (l .loop .i) (c .before .before .before .before .before .loop-test .taken) in
+    let g = c .before .before .before .before .before .before .before .before .before .before .pre .3 (l .loop .i) (c .before .before .before .before .before .loop-test .taken) in
     let e = c .before .before .before .wide .ensures in
     let n = count-le (l .loop .i) (touches (ofSlices 0 0 0 [] (a .lows .now) (a .highs .now) []) (c .before .before .before .wide .result)) in
     let k = l .loop .inv .1 (c .before .before .before .wide .result) in
@@ -56,7 +55,7 @@ add-one-requires-2 : tie.Need-add-one-requires-2 Inv-loop μ-loop
 add-one-requires-2 c κs =
     let l = c .before .before .before .before .before .before .before .before .before .before in
     let a = c .before .before .before .before .before .before .before .before .before .before .before .before .before .before .args in
-    let g = links-ends (a .probes) (a .links) (item (a .lows .now)) (item (a .highs .now)) (c .before .before .before .before .before .before .before .before .before .before .before .before .before .before .pre .4) (l .loop .i) (c .before .before .before .before .before .before .before .before .before .loop-test .taken) in
+    let g = c .before .before .before .before .before .before .before .before .before .before .before .before .before .before .pre .3 (l .loop .i) (c .before .before .before .before .before .before .before .before .before .loop-test .taken) in
     let e = c .before .before .before .before .before .before .before .wide .ensures in
     let f = c .before .before .before .before .before .wide2 .ensures in
     let n = count-le (l .loop .i) (touches (ofSlices 0 0 0 [] (a .lows .now) (a .highs .now) []) (c .before .before .before .before .before .wide2 .result)) in
@@ -75,7 +74,7 @@ loop-again : tie.Need-loop-again Inv-loop μ-loop
 loop-again c =
     let l = c .before .before .before .before .before .before .before .before .before .before .before .before .before in
     let a = c .before .before .before .before .before .before .before .before .before .before .before .before .before .before .before .before .before .args in
-    let g = links-ends (a .probes) (a .links) (item (a .lows .now)) (item (a .highs .now)) (c .before .before .before .before .before .before .before .before .before .before .before .before .before .before .before .before .before .pre .4) (l .loop .i) (c .before .before .before .before .before .before .before .before .before .before .before .before .loop-test .taken) in
+    let g = c .before .before .before .before .before .before .before .before .before .before .before .before .before .before .before .before .before .pre .3 (l .loop .i) (c .before .before .before .before .before .before .before .before .before .before .before .before .loop-test .taken) in
     let one = c .before .before .before .before .before .before .add-one .ensures in
     let two = c .before .before .add-one2 .ensures in
     let s = simp length-set at (ap length one) in

@@ -6,6 +6,7 @@ use mathlib.Core.Path.{sym, _∙_}
 use lib.ListN.{length}
 use Rattle.table.specs.Text.{ofText}
 use Rattle.table.proofs.Accepted.{text-wider}
+use Rattle.table_read.specs.Reading.{lentOf}
 use Rattle.table_read.proofs.Answers.{reads-refused, reads-table, read-text, read-room}
 
 read-fault-requires : tie.Need-read-fault-requires
@@ -14,7 +15,7 @@ read-fault-requires c κs = search needs
 returns : tie.Need-returns
 returns c =
     let a = c .before .before .before .before .before .before .before .args in
-    reads-refused _ _ (ofText (a .text .now)) (a .needs .now) (a .lows .now) (a .highs .now) (a .costs .now) (c .before .read-fault .ensures) (c .if1 .taken)
+    reads-refused _ _ (ofText (a .text .now)) (lentOf (a .needs .now) (a .lows .now) (a .highs .now) (a .costs .now)) (c .before .read-fault .ensures) (c .if1 .taken)
 
 answer-requires : tie.Need-answer-requires
 answer-requires c κs =
@@ -46,7 +47,7 @@ returns-2 : tie.Need-returns-2
 returns-2 c =
     let a = c .before .before .before .before .before .before .before .before .before .before .before .before .before .before .before .before .before .before .before .before .before .args in
     let e = sym (c .before .before .before .before .before .before .before .before .before .before .before .before .before .before .before .read-fault .ensures) ∙ c .before .before .before .before .before .before .before .before .before .before .before .before .before .before .if1 .left in
-    reads-table _ (ofText (a .text .now)) _ (a .needs .now) _ (a .lows .now) _ (a .highs .now) _ (a .costs .now) _ e (c .before .before .before .before .before .before .before .before .before .before .before .before .before .answer .ensures) (c .before .before .before .before .before .before .before .before .fill-table .ensures)
+    reads-table _ (ofText (a .text .now)) _ (lentOf (a .needs .now) (a .lows .now) (a .highs .now) (a .costs .now)) _ e (c .before .before .before .before .before .before .before .before .before .before .before .before .before .answer .ensures) (c .before .before .before .before .before .before .before .before .fill-table .ensures)
 
 pub read-limited-spec : {M : Type 1} → statement M
 read-limited-spec =
