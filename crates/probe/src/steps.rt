@@ -19,10 +19,11 @@ pub fn apply(
     probe: u16,
     rec: &mut [u8],
 ) -> wake_log::Entry
-    requires { ⌜ EndReady (ofSlices 0 probes links (now needs) (now lows) (now highs) (now costs)) probe (now rec) (length (now lows)) (length (now highs)) (length (now costs)) × EventWithin links event ⌝ }
-    ensures { λ r. ⌜ (r ≡ entryOf (ofSlices 0 probes links (now (needs .entry)) (now (lows .entry)) (now (highs .entry)) (now (costs .entry))) probe
-        (befalls (ofSlices 0 probes links (now (needs .entry)) (now (lows .entry)) (now (highs .entry)) (now (costs .entry))) probe event (now (rec .entry))))
-        × (now (rec .exit) ≡ alter (befalls (ofSlices 0 probes links (now (needs .entry)) (now (lows .entry)) (now (highs .entry)) (now (costs .entry))) probe event (now (rec .entry))) (now (rec .entry))) ⌝ }
+    requires { let t = ofSlices 0 probes links (now needs) (now lows) (now highs) (now costs) in
+        ⌜ EndReady t probe (now rec) (length (now lows)) (length (now highs)) (length (now costs)) × EventWithin links event ⌝ }
+    ensures { λ r. let t = ofSlices 0 probes links (now (needs .entry)) (now (lows .entry)) (now (highs .entry)) (now (costs .entry)) in
+        let o = befalls t probe event (now (rec .entry)) in
+        ⌜ (r ≡ entryOf t probe o) × (now (rec .exit) ≡ alter o (now (rec .entry))) ⌝ }
 {
     let outcome = probe_rules::decisions::decide(
         event,
