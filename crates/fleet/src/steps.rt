@@ -21,11 +21,11 @@ fn apply(
     probe: u16,
     rec: &mut [u8],
 ) -> wake_log::Entry
-    requires { ⌜ FleetReady (ofSlices 0 probes links (now needs) (now lows) (now highs) (now costs)) (now rec) (length (now lows)) (length (now highs)) (length (now costs)) × EventWithin links event ⌝ }
-    ensures { λ r. ⌜ (r ≡ entryOf (ofSlices 0 probes links (now (needs .entry)) (now (lows .entry)) (now (highs .entry)) (now (costs .entry))) probe
-        (befalls (ofSlices 0 probes links (now (needs .entry)) (now (lows .entry)) (now (highs .entry)) (now (costs .entry))) probe event (own (ofSlices 0 probes links (now (needs .entry)) (now (lows .entry)) (now (highs .entry)) (now (costs .entry))) probe (now (rec .entry)))))
-        × (now (rec .exit) ≡ alterFleet (ofSlices 0 probes links (now (needs .entry)) (now (lows .entry)) (now (highs .entry)) (now (costs .entry))) probe
-        (befalls (ofSlices 0 probes links (now (needs .entry)) (now (lows .entry)) (now (highs .entry)) (now (costs .entry))) probe event (own (ofSlices 0 probes links (now (needs .entry)) (now (lows .entry)) (now (highs .entry)) (now (costs .entry))) probe (now (rec .entry)))) (now (rec .entry))) ⌝ }
+    requires { let t = ofSlices 0 probes links (now needs) (now lows) (now highs) (now costs) in
+        ⌜ FleetReady t (now rec) (length (now lows)) (length (now highs)) (length (now costs)) × EventWithin links event ⌝ }
+    ensures { λ r. let t = ofSlices 0 probes links (now (needs .entry)) (now (lows .entry)) (now (highs .entry)) (now (costs .entry)) in
+        let o = befalls t probe event (own t probe (now (rec .entry))) in
+        ⌜ (r ≡ entryOf t probe o) × (now (rec .exit) ≡ alterFleet t probe o (now (rec .entry))) ⌝ }
 {
     let outcome = fleet_rules::decisions::decide(
         event,
@@ -56,10 +56,10 @@ pub fn handle_line(
     used: usize,
     room: usize,
 ) -> wake_log::Answer
-    requires { ⌜ (slicesFault (slicesOf number probes links (now needs) (now lows) (now highs) (now costs)) ≡ 0)
-        × (fleetFault (tableOf (slicesOf number probes links (now needs) (now lows) (now highs) (now costs))) (now rec) ≡ 0) ⌝ }
-    ensures { λ r. ⌜ Handled (slicesOf number probes links (now (needs .entry)) (now (lows .entry)) (now (highs .entry)) (now (costs .entry)))
-        used room (now (line .entry)) r (now (rec .entry)) (now (rec .exit)) ⌝ }
+    requires { let x = slicesOf number probes links (now needs) (now lows) (now highs) (now costs) in
+        ⌜ (slicesFault x ≡ 0) × (fleetFault (tableOf x) (now rec) ≡ 0) ⌝ }
+    ensures { λ r. let x = slicesOf number probes links (now (needs .entry)) (now (lows .entry)) (now (highs .entry)) (now (costs .entry)) in
+        ⌜ Handled x used room (now (line .entry)) r (now (rec .entry)) (now (rec .exit)) ⌝ }
 {
     let ends = super::line_checks::check_line(number, probes, links, lows, highs, line);
     if ends.fault != 0 {

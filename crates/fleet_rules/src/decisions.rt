@@ -45,7 +45,8 @@ fn side_byte(
 // Whether the link k goes before the best so far, which stands earlier in the table.
 fn goes_before(value: u8, costs: &[u16], links: usize, k: usize, best: usize) -> bool
     requires { ⌜ (links ≤ length (now costs)) × (k < links) ⌝ }
-    ensures { λ r. ⌜ r ≡ (leb links best || cond (eqb value 1) (ltb (item (now (costs .entry)) k) (item (now (costs .entry)) best)) (leb (item (now (costs .entry)) best) (item (now (costs .entry)) k))) ⌝ }
+    ensures { λ r. let cost = item (now (costs .entry)) in
+        ⌜ r ≡ (leb links best || cond (eqb value 1) (ltb (cost k) (cost best)) (leb (cost best) (cost k))) ⌝ }
 {
     if value == 1 {
         return table_links::order::cheaper_later(costs, links, k, best);
@@ -56,7 +57,8 @@ fn goes_before(value: u8, costs: &[u16], links: usize, k: usize, best: usize) ->
 // The best link so far, with the link k.
 fn best_with(value: u8, byte: u8, costs: &[u16], links: usize, k: usize, best: usize) -> usize
     requires { ⌜ (links ≤ length (now costs)) × (k < links) ⌝ }
-    ensures { λ r. ⌜ r ≡ cond (eqb byte value && (leb links best || cond (eqb value 1) (ltb (item (now (costs .entry)) k) (item (now (costs .entry)) best)) (leb (item (now (costs .entry)) best) (item (now (costs .entry)) k)))) k best ⌝ }
+    ensures { λ r. let cost = item (now (costs .entry)) in
+        ⌜ r ≡ cond (eqb byte value && (leb links best || cond (eqb value 1) (ltb (cost k) (cost best)) (leb (cost best) (cost k)))) k best ⌝ }
 {
     if byte != value {
         return best;
@@ -79,8 +81,10 @@ fn survey(
     costs: &[u16],
     probe: usize,
 ) -> Survey
-    requires { ⌜ FleetReady (ofSlices 0 probes links (now needs) (now lows) (now highs) (now costs)) (now rec) (length (now lows)) (length (now highs)) (length (now costs)) ⌝ }
-    ensures { λ r. ⌜ Surveyed (ofSlices 0 probes links (now (needs .entry)) (now (lows .entry)) (now (highs .entry)) (now (costs .entry))) probe (sideByte value (own (ofSlices 0 probes links (now (needs .entry)) (now (lows .entry)) (now (highs .entry)) (now (costs .entry))) probe (now (rec .entry)))) (sideBetter value (ofSlices 0 probes links (now (needs .entry)) (now (lows .entry)) (now (highs .entry)) (now (costs .entry)))) value links r ⌝ }
+    requires { let t = ofSlices 0 probes links (now needs) (now lows) (now highs) (now costs) in
+        ⌜ FleetReady t (now rec) (length (now lows)) (length (now highs)) (length (now costs)) ⌝ }
+    ensures { λ r. let t = ofSlices 0 probes links (now (needs .entry)) (now (lows .entry)) (now (highs .entry)) (now (costs .entry)) in
+        ⌜ Surveyed t probe (sideByte value (own t probe (now (rec .entry)))) (sideBetter value t) value links r ⌝ }
 {
     let mut s = Survey {
         degree: 0,
@@ -114,8 +118,10 @@ fn decide_opening(
     costs: &[u16],
     probe: usize,
 ) -> Outcome
-    requires { ⌜ FleetReady (ofSlices 0 probes links (now needs) (now lows) (now highs) (now costs)) (now rec) (length (now lows)) (length (now highs)) (length (now costs)) ⌝ }
-    ensures { λ r. ⌜ r ≡ opening (ofSlices 0 probes links (now (needs .entry)) (now (lows .entry)) (now (highs .entry)) (now (costs .entry))) probe (own (ofSlices 0 probes links (now (needs .entry)) (now (lows .entry)) (now (highs .entry)) (now (costs .entry))) probe (now (rec .entry))) ⌝ }
+    requires { let t = ofSlices 0 probes links (now needs) (now lows) (now highs) (now costs) in
+        ⌜ FleetReady t (now rec) (length (now lows)) (length (now highs)) (length (now costs)) ⌝ }
+    ensures { λ r. let t = ofSlices 0 probes links (now (needs .entry)) (now (lows .entry)) (now (highs .entry)) (now (costs .entry)) in
+        ⌜ r ≡ opening t probe (own t probe (now (rec .entry))) ⌝ }
 {
     let s = survey(0, rec, probes, links, needs, lows, highs, costs, probe);
     if table_links::spares::spare_of(s.degree, needs, probe) <= s.count {
@@ -138,8 +144,10 @@ fn decide_offer(
     probe: usize,
     i: usize,
 ) -> Outcome
-    requires { ⌜ FleetReady (ofSlices 0 probes links (now needs) (now lows) (now highs) (now costs)) (now rec) (length (now lows)) (length (now highs)) (length (now costs)) × (i < links) ⌝ }
-    ensures { λ r. ⌜ r ≡ offer (ofSlices 0 probes links (now (needs .entry)) (now (lows .entry)) (now (highs .entry)) (now (costs .entry))) probe (own (ofSlices 0 probes links (now (needs .entry)) (now (lows .entry)) (now (highs .entry)) (now (costs .entry))) probe (now (rec .entry))) i ⌝ }
+    requires { let t = ofSlices 0 probes links (now needs) (now lows) (now highs) (now costs) in
+        ⌜ FleetReady t (now rec) (length (now lows)) (length (now highs)) (length (now costs)) × (i < links) ⌝ }
+    ensures { λ r. let t = ofSlices 0 probes links (now (needs .entry)) (now (lows .entry)) (now (highs .entry)) (now (costs .entry)) in
+        ⌜ r ≡ offer t probe (own t probe (now (rec .entry))) i ⌝ }
 {
     let s = survey(1, rec, probes, links, needs, lows, highs, costs, probe);
     if s.count < table_links::spares::spare_of(s.degree, needs, probe) {
@@ -167,8 +175,10 @@ pub fn decide(
     costs: &[u16],
     probe: usize,
 ) -> Outcome
-    requires { ⌜ FleetReady (ofSlices 0 probes links (now needs) (now lows) (now highs) (now costs)) (now rec) (length (now lows)) (length (now highs)) (length (now costs)) × EventWithin links event ⌝ }
-    ensures { λ r. ⌜ r ≡ befalls (ofSlices 0 probes links (now (needs .entry)) (now (lows .entry)) (now (highs .entry)) (now (costs .entry))) probe event (own (ofSlices 0 probes links (now (needs .entry)) (now (lows .entry)) (now (highs .entry)) (now (costs .entry))) probe (now (rec .entry))) ⌝ }
+    requires { let t = ofSlices 0 probes links (now needs) (now lows) (now highs) (now costs) in
+        ⌜ FleetReady t (now rec) (length (now lows)) (length (now highs)) (length (now costs)) × EventWithin links event ⌝ }
+    ensures { λ r. let t = ofSlices 0 probes links (now (needs .entry)) (now (lows .entry)) (now (highs .entry)) (now (costs .entry)) in
+        ⌜ r ≡ befalls t probe event (own t probe (now (rec .entry))) ⌝ }
 {
     match event {
         Event::Opening => decide_opening(rec, probes, links, needs, lows, highs, costs, probe),
