@@ -56,7 +56,6 @@ pub fn open(
     }
     let e = steps::apply(
         probe_rules::Event::Opening,
-        probes as usize,
         links as usize,
         needs,
         lows,
@@ -104,7 +103,6 @@ pub fn hear(
     let event = probe_checks::faults::event_of(links as usize, lows, highs, frame);
     let e = steps::apply(
         event,
-        probes as usize,
         links as usize,
         needs,
         lows,

@@ -1,7 +1,7 @@
 // The functions, each within the bounds that it asks.
 ghost use mathlib.Core.Path.{_≡_};
 ghost use mathlib.Core.List.{[]};
-ghost use Prim.Native.Nat.{_*_, _<_, _≤_};
+ghost use Prim.Native.Nat.{_/_};
 ghost use lib.ListN.{length};
 ghost use Rattle.range.specs.First.{orElse};
 ghost use Rattle.table.specs.Table.{ofSlices};
@@ -72,8 +72,8 @@ pub fn event_of(links: usize, lows: &[u16], highs: &[u16], frame: &[u8]) -> prob
 }
 
 // 25.
-fn untried_fault(event: probe_rules::Event, links: usize, rec: &[u8]) -> u8
-    requires { ⌜ (EventWithin links event) × (2 * links ≤ length (now rec)) ⌝ }
+fn untried_fault(event: probe_rules::Event, rec: &[u8]) -> u8
+    requires { ⌜ EventWithin (length (now rec) / 2) event ⌝ }
     ensures { λ r. ⌜ r ≡ untriedFault event (now (rec .entry)) ⌝ }
 {
     match event {
@@ -163,7 +163,7 @@ pub fn hear_fault(
         return heard;
     }
     let event = event_of(links, lows, highs, frame);
-    let untried = untried_fault(event, links, rec);
+    let untried = untried_fault(event, rec);
     if untried != 0 {
         return untried;
     }

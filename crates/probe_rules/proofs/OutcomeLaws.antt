@@ -51,6 +51,11 @@ within-wider n m (Refused i) l w = omega arith
 within-wider n m (RefusalLearnt i) l w = omega arith
 within-wider n m (NoChange i) l w = omega arith
 
+pub event-wider : (n m : ℕ) (v : Event) → n ≤ m → EventWithin n v → EventWithin m v
+event-wider n m Opening l w = tt
+event-wider n m (Offer i) l w = omega arith
+event-wider n m (Refusal i) l w = omega arith
+
 -- what the entry and the outcome take from the table
 module _ (number probes links : ℕ) (needs lows highs costs : List ℕ) (p : ℕ) where
   abbrev table : Table
