@@ -5,14 +5,16 @@ use probe_rules::Outcome;
 ghost use mathlib.Core.Path.{_≡_};
 ghost use mathlib.Core.Bool.{cond, _&&_, _||_};
 ghost use mathlib.Core.List.{[]};
-ghost use Prim.Native.Nat.{_*_, _<_, _≤_};
-ghost use lib.Dec.{ltb, leb, eqb};
+ghost use Prim.Native.Nat.{ℕ, _+_, _*_, _<_, _≤_};
+ghost use lib.Dec.{leb, eqb};
 ghost use lib.ListN.{length};
 ghost use Rattle.table.specs.Table.{item, ofSlices};
+ghost use Rattle.table_links.specs.Order.{OrderedLinks, dearerAt};
+ghost use Rattle.probe_record.specs.Record.{sideByte, sideBetter};
 ghost use Rattle.probe_rules.specs.Rules.{opening, offer, befalls};
 ghost use Rattle.probe_rules.specs.Within.{EventWithin};
 ghost use Rattle.fleet_theory.specs.Fleet.{own};
-ghost use Rattle.fleet_rules.specs.Survey.{FleetReady, sideByte, sideBetter, Surveyed};
+ghost use Rattle.fleet_rules.specs.Survey.{Surveyed};
 
 fn one_if(byte: u8) -> usize
     ensures { λ r. ⌜ r ≡ cond (eqb byte 1) 1 0 ⌝ }
@@ -27,14 +29,14 @@ fn one_if(byte: u8) -> usize
 fn side_byte(
     value: u8,
     rec: &[u8],
-    links: usize,
     lows: &[u16],
     highs: &[u16],
     probe: usize,
     k: usize,
 ) -> u8
-    requires { ⌜ (k < links) × (links ≤ 2048) × (links ≤ length (now lows)) × (links ≤ length (now highs)) × (length (now rec) ≡ 4 * links) ⌝ }
-    ensures { λ r. ⌜ r ≡ sideByte value (own (ofSlices 0 0 links [] (now (lows .entry)) (now (highs .entry)) []) probe (now (rec .entry))) k ⌝ }
+    requires { ⌜ (k < length (now lows)) × (k < length (now highs)) × (k < 65536) × (4 * k + 3 < length (now rec)) ⌝ }
+    ensures { λ r. ⌜ ((links : ℕ) → k < links
+        → r ≡ sideByte value (own (ofSlices 0 0 links [] (now (lows .entry)) (now (highs .entry)) []) probe (now (rec .entry))) k) ⌝ }
 {
     if value == 1 {
         return super::own_bytes::in_byte(rec, lows, highs, probe, k);
@@ -42,28 +44,16 @@ fn side_byte(
     super::own_bytes::out_byte(rec, lows, highs, probe, k)
 }
 
-// Whether the link k goes before the best so far, which stands earlier in the table.
-fn goes_before(value: u8, costs: &[u16], links: usize, k: usize, best: usize) -> bool
-    requires { ⌜ (links ≤ length (now costs)) × (k < links) ⌝ }
-    ensures { λ r. let cost = item (now (costs .entry)) in
-        ⌜ r ≡ (leb links best || cond (eqb value 1) (ltb (cost k) (cost best)) (leb (cost best) (cost k))) ⌝ }
-{
-    if value == 1 {
-        return table_links::order::cheaper_later(costs, links, k, best);
-    }
-    table_links::order::dearer_later(costs, links, k, best)
-}
-
 // The best link so far, with the link k.
 fn best_with(value: u8, byte: u8, costs: &[u16], links: usize, k: usize, best: usize) -> usize
     requires { ⌜ (links ≤ length (now costs)) × (k < links) ⌝ }
     ensures { λ r. let cost = item (now (costs .entry)) in
-        ⌜ r ≡ cond (eqb byte value && (leb links best || cond (eqb value 1) (ltb (cost k) (cost best)) (leb (cost best) (cost k)))) k best ⌝ }
+        ⌜ r ≡ cond (eqb byte value && (leb links best || cond (eqb value 1) (dearerAt cost best k) (dearerAt cost k best))) k best ⌝ }
 {
     if byte != value {
         return best;
     }
-    if goes_before(value, costs, links, k, best) {
+    if table_links::order::goes_before(value == 1, costs, links, k, best) {
         return k;
     }
     best
@@ -73,17 +63,14 @@ fn best_with(value: u8, byte: u8, costs: &[u16], links: usize, k: usize, best: u
 fn survey(
     value: u8,
     rec: &[u8],
-    probes: usize,
     links: usize,
-    needs: &[u16],
     lows: &[u16],
     highs: &[u16],
     costs: &[u16],
     probe: usize,
 ) -> Survey
-    requires { let t = ofSlices 0 probes links (now needs) (now lows) (now highs) (now costs) in
-        ⌜ FleetReady t (now rec) (length (now lows)) (length (now highs)) (length (now costs)) ⌝ }
-    ensures { λ r. let t = ofSlices 0 probes links (now (needs .entry)) (now (lows .entry)) (now (highs .entry)) (now (costs .entry)) in
+    requires { ⌜ OrderedLinks links (now lows) (now highs) (now costs) × (length (now rec) ≡ 4 * links) ⌝ }
+    ensures { λ r. let t = ofSlices 0 0 links [] (now (lows .entry)) (now (highs .entry)) (now (costs .entry)) in
         ⌜ Surveyed t probe (sideByte value (own t probe (now (rec .entry)))) (sideBetter value t) value links r ⌝ }
 {
     let mut s = Survey {
@@ -98,7 +85,7 @@ fn survey(
         if !table_links::ends::touches(lows, highs, probe, k) {
             continue;
         }
-        let byte = side_byte(value, rec, links, lows, highs, probe, k);
+        let byte = side_byte(value, rec, lows, highs, probe, k);
         s = Survey {
             degree: s.degree + 1,
             count: s.count + one_if(byte),
@@ -110,7 +97,6 @@ fn survey(
 
 fn decide_opening(
     rec: &[u8],
-    probes: usize,
     links: usize,
     needs: &[u16],
     lows: &[u16],
@@ -118,12 +104,11 @@ fn decide_opening(
     costs: &[u16],
     probe: usize,
 ) -> Outcome
-    requires { let t = ofSlices 0 probes links (now needs) (now lows) (now highs) (now costs) in
-        ⌜ FleetReady t (now rec) (length (now lows)) (length (now highs)) (length (now costs)) ⌝ }
-    ensures { λ r. let t = ofSlices 0 probes links (now (needs .entry)) (now (lows .entry)) (now (highs .entry)) (now (costs .entry)) in
+    requires { ⌜ OrderedLinks links (now lows) (now highs) (now costs) × (length (now rec) ≡ 4 * links) ⌝ }
+    ensures { λ r. let t = ofSlices 0 0 links (now (needs .entry)) (now (lows .entry)) (now (highs .entry)) (now (costs .entry)) in
         ⌜ r ≡ opening t probe (own t probe (now (rec .entry))) ⌝ }
 {
-    let s = survey(0, rec, probes, links, needs, lows, highs, costs, probe);
+    let s = survey(0, rec, links, lows, highs, costs, probe);
     if table_links::spares::spare_of(s.degree, needs, probe) <= s.count {
         return Outcome::NothingToOpen;
     }
@@ -135,7 +120,6 @@ fn decide_opening(
 
 fn decide_offer(
     rec: &[u8],
-    probes: usize,
     links: usize,
     needs: &[u16],
     lows: &[u16],
@@ -144,12 +128,11 @@ fn decide_offer(
     probe: usize,
     i: usize,
 ) -> Outcome
-    requires { let t = ofSlices 0 probes links (now needs) (now lows) (now highs) (now costs) in
-        ⌜ FleetReady t (now rec) (length (now lows)) (length (now highs)) (length (now costs)) × (i < links) ⌝ }
-    ensures { λ r. let t = ofSlices 0 probes links (now (needs .entry)) (now (lows .entry)) (now (highs .entry)) (now (costs .entry)) in
+    requires { ⌜ OrderedLinks links (now lows) (now highs) (now costs) × (length (now rec) ≡ 4 * links) × (i < links) ⌝ }
+    ensures { λ r. let t = ofSlices 0 0 links (now (needs .entry)) (now (lows .entry)) (now (highs .entry)) (now (costs .entry)) in
         ⌜ r ≡ offer t probe (own t probe (now (rec .entry))) i ⌝ }
 {
-    let s = survey(1, rec, probes, links, needs, lows, highs, costs, probe);
+    let s = survey(1, rec, links, lows, highs, costs, probe);
     if s.count < table_links::spares::spare_of(s.degree, needs, probe) {
         return Outcome::Taken(i);
     }
@@ -167,7 +150,6 @@ fn decide_offer(
 pub fn decide(
     event: Event,
     rec: &[u8],
-    probes: usize,
     links: usize,
     needs: &[u16],
     lows: &[u16],
@@ -175,18 +157,17 @@ pub fn decide(
     costs: &[u16],
     probe: usize,
 ) -> Outcome
-    requires { let t = ofSlices 0 probes links (now needs) (now lows) (now highs) (now costs) in
-        ⌜ FleetReady t (now rec) (length (now lows)) (length (now highs)) (length (now costs)) × EventWithin links event ⌝ }
-    ensures { λ r. let t = ofSlices 0 probes links (now (needs .entry)) (now (lows .entry)) (now (highs .entry)) (now (costs .entry)) in
+    requires { ⌜ OrderedLinks links (now lows) (now highs) (now costs) × (length (now rec) ≡ 4 * links) × EventWithin links event ⌝ }
+    ensures { λ r. let t = ofSlices 0 0 links (now (needs .entry)) (now (lows .entry)) (now (highs .entry)) (now (costs .entry)) in
         ⌜ r ≡ befalls t probe event (own t probe (now (rec .entry))) ⌝ }
 {
     match event {
-        Event::Opening => decide_opening(rec, probes, links, needs, lows, highs, costs, probe),
+        Event::Opening => decide_opening(rec, links, needs, lows, highs, costs, probe),
         Event::Offer(i) => {
             if super::own_bytes::in_byte(rec, lows, highs, probe, i) != 0 {
                 return Outcome::NoChange(i);
             }
-            decide_offer(rec, probes, links, needs, lows, highs, costs, probe, i)
+            decide_offer(rec, links, needs, lows, highs, costs, probe, i)
         }
         Event::Refusal(i) => {
             if super::own_bytes::out_byte(rec, lows, highs, probe, i) == 2 {
