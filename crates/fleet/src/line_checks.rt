@@ -3,7 +3,7 @@ use super::Ends;
 ghost use mathlib.Core.Path.{_≡_};
 ghost use mathlib.Core.Bool.{false, cond};
 ghost use mathlib.Core.List.{[]};
-ghost use Prim.Native.Nat.{_*_, _<_, _≤_};
+ghost use Prim.Native.Nat.{ℕ, _/_};
 ghost use lib.Dec.{eqb};
 ghost use lib.ListN.{length};
 ghost use Rattle.table.specs.Table.{ofSlices, between};
@@ -100,14 +100,14 @@ pub fn line_event(line: &[u8], link: usize) -> probe_rules::Event
 // 27.
 pub fn unsent_fault(
     event: probe_rules::Event,
-    links: usize,
     lows: &[u16],
     highs: &[u16],
     rec: &[u8],
     from: usize,
 ) -> u8
-    requires { ⌜ (EventWithin links event) × (4 * links ≤ length (now rec)) × (links ≤ length (now lows)) × (links ≤ length (now highs)) × (links ≤ 65536) ⌝ }
-    ensures { λ r. ⌜ r ≡ unsentFault event (own (ofSlices 0 0 links [] (now (lows .entry)) (now (highs .entry)) []) from (now (rec .entry))) ⌝ }
+    requires { ⌜ EventWithin (length (now lows)) event × EventWithin (length (now highs)) event × EventWithin 65536 event × EventWithin (length (now rec) / 4) event ⌝ }
+    ensures { λ r. ⌜ ((links : ℕ) → EventWithin links event
+        → r ≡ unsentFault event (own (ofSlices 0 0 links [] (now (lows .entry)) (now (highs .entry)) []) from (now (rec .entry)))) ⌝ }
 {
     match event {
         probe_rules::Event::Opening => 0,

@@ -1,18 +1,18 @@
 // The steps of a fleet. Its public functions and the script program call these, within the bounds that they ask.
 ghost use mathlib.Core.Path.{_≡_};
+ghost use Prim.Native.Nat.{_*_};
 ghost use lib.ListN.{length};
 ghost use Rattle.table.specs.Table.{ofSlices};
+ghost use Rattle.table_links.specs.Order.{OrderedLinks};
 ghost use Rattle.probe_rules.specs.Rules.{befalls, entryOf};
 ghost use Rattle.probe_rules.specs.Within.{EventWithin};
 ghost use Rattle.fleet_theory.specs.Fleet.{own, fleetFault, alterFleet};
 ghost use Rattle.table.specs.Slices.{slicesFault, tableOf, slicesOf};
-ghost use Rattle.fleet_rules.specs.Survey.{FleetReady};
 ghost use Rattle.fleet.specs.Answers.{Handled};
 
 // Lets the event befall the probe: the fleet's record altered, and the entry.
 fn apply(
     event: probe_rules::Event,
-    probes: usize,
     links: usize,
     needs: &[u16],
     lows: &[u16],
@@ -21,16 +21,14 @@ fn apply(
     probe: u16,
     rec: &mut [u8],
 ) -> wake_log::Entry
-    requires { let t = ofSlices 0 probes links (now needs) (now lows) (now highs) (now costs) in
-        ⌜ FleetReady t (now rec) (length (now lows)) (length (now highs)) (length (now costs)) × EventWithin links event ⌝ }
-    ensures { λ r. let t = ofSlices 0 probes links (now (needs .entry)) (now (lows .entry)) (now (highs .entry)) (now (costs .entry)) in
+    requires { ⌜ OrderedLinks links (now lows) (now highs) (now costs) × (length (now rec) ≡ 4 * links) × EventWithin links event ⌝ }
+    ensures { λ r. let t = ofSlices 0 0 links (now (needs .entry)) (now (lows .entry)) (now (highs .entry)) (now (costs .entry)) in
         let o = befalls t probe event (own t probe (now (rec .entry))) in
         ⌜ (r ≡ entryOf t probe o) × (now (rec .exit) ≡ alterFleet t probe o (now (rec .entry))) ⌝ }
 {
     let outcome = fleet_rules::decisions::decide(
         event,
         rec,
-        probes,
         links,
         needs,
         lows,
@@ -67,7 +65,7 @@ pub fn handle_line(
     }
     let event = super::line_checks::line_event(line, ends.link);
     let from = probe_frame::frame_line::field(line, 6, 4);
-    let unsent = super::line_checks::unsent_fault(event, links, lows, highs, rec, from);
+    let unsent = super::line_checks::unsent_fault(event, lows, highs, rec, from);
     if unsent != 0 {
         return wake_log::Answer::Refused(unsent);
     }
@@ -77,7 +75,6 @@ pub fn handle_line(
     let to = probe_frame::frame_line::field(line, 10, 4);
     let e = apply(
         event,
-        probes,
         links,
         needs,
         lows,
