@@ -34,16 +34,16 @@ fn counted_fault(
     standing: &[u16],
     held: &[u16],
 ) -> u8
-    requires { ⌜ (probes ≤ length (now needs)) × (probes ≤ length (now degrees)) × (probes ≤ length (now standing)) × (probes ≤ length (now held)) ⌝ }
+    requires { ⌜ (probes ≤ length (now degrees)) × (probes ≤ length (now standing)) × (probes ≤ length (now held)) ⌝ }
     ensures { λ r. ⌜ r ≡ first (λ v. overFault (item (now (degrees .entry)) v - item (now (needs .entry)) v) (item (now (standing .entry)) v) (item (now (held .entry)) v)) probes ⌝ }
 {
     let mut v = 0;
     while v < probes {
         let spare = super::counts::spare_at(degrees, needs, v);
-        if spare < standing[v] {
+        if spare < standing[v] as usize {
             return 22;
         }
-        if spare < held[v] {
+        if spare < held[v] as usize {
             return 22;
         }
         v += 1;

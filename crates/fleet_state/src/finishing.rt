@@ -51,14 +51,14 @@ fn none_opens(
     standing: &[u16],
     untried: &[u16],
 ) -> bool
-    requires { ⌜ (probes ≤ length (now needs)) × (probes ≤ length (now degrees)) × (probes ≤ length (now standing)) × (probes ≤ length (now untried)) ⌝ }
+    requires { ⌜ (probes ≤ length (now degrees)) × (probes ≤ length (now standing)) × (probes ≤ length (now untried)) ⌝ }
     ensures { λ r. ⌜ r ≡ eqb (count probes (λ v. mayOpen (item (now (standing .entry)) v) (item (now (degrees .entry)) v - item (now (needs .entry)) v) (item (now (untried .entry)) v))) 0 ⌝ }
 {
     let mut v = 0;
     while v < probes {
         let w = v;
         v += 1;
-        if super::counts::spare_at(degrees, needs, w) <= standing[w] {
+        if super::counts::spare_at(degrees, needs, w) <= standing[w] as usize {
             continue;
         }
         if untried[w] == 0 {
