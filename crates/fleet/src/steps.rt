@@ -73,15 +73,6 @@ pub fn handle_line(
         return wake_log::Answer::Refused(26);
     }
     let to = probe_frame::frame_line::field(line, 10, 4);
-    let e = apply(
-        event,
-        links,
-        needs,
-        lows,
-        highs,
-        costs,
-        to as u16,
-        rec,
-    );
+    let e = apply(event, links, needs, lows, highs, costs, to as u16, rec);
     wake_log::Answer::Logged(e)
 }

@@ -26,14 +26,7 @@ fn one_if(byte: u8) -> usize
 }
 
 // The end's byte on the link k: with value 0 the outbound byte, with value 1 the inbound one.
-fn side_byte(
-    value: u8,
-    rec: &[u8],
-    lows: &[u16],
-    highs: &[u16],
-    probe: usize,
-    k: usize,
-) -> u8
+fn side_byte(value: u8, rec: &[u8], lows: &[u16], highs: &[u16], probe: usize, k: usize) -> u8
     requires { ⌜ (k < length (now lows)) × (k < length (now highs)) × (k < 65536) × (4 * k + 3 < length (now rec)) ⌝ }
     ensures { λ r. ⌜ ((links : ℕ) → k < links
         → r ≡ sideByte value (own (ofSlices 0 0 links [] (now (lows .entry)) (now (highs .entry)) []) probe (now (rec .entry))) k) ⌝ }

@@ -101,16 +101,7 @@ pub fn hear(
         return wake_log::Answer::Refused(fault);
     }
     let event = probe_checks::faults::event_of(links as usize, lows, highs, frame);
-    let e = steps::apply(
-        event,
-        links as usize,
-        needs,
-        lows,
-        highs,
-        costs,
-        probe,
-        rec,
-    );
+    let e = steps::apply(event, links as usize, needs, lows, highs, costs, probe, rec);
     wake_log::Answer::Logged(e)
 }
 
