@@ -22,6 +22,7 @@ use Rattle.probe_rules.specs.declared.Event.{Event}
 use Rattle.probe_rules.specs.declared.Event.the-variants.{Opening, Offer, Refusal}
 use Rattle.probe_rules.specs.declared.Outcome.{Outcome}
 use Rattle.probe_rules.specs.Rules.{befalls, entryOf}
+use Rattle.probe_rules.specs.Within.{EventWithin}
 use Rattle.probe_rules.proofs.OutcomeLaws.{entry-same, befalls-same}
 use Rattle.fleet_theory.specs.Fleet.{own, fleetFault, eventLineFault, eventOf, unsentFault, eventFault, outcomeOf, alterFleet, alteredBy, State, faultOf, answerTo, accepted, next}
 use Rattle.fleet.specs.declared.Finishing.the-variants as finishing
@@ -78,8 +79,9 @@ module _ (number probes links : ℕ) (needs lows highs costs : List ℕ) (used r
       (or-through n (slicesFault x) (fleetFault t r) (orElse (eventLineFault t line) (orElse unsent (cond (ltb used room) 0 26))) e some) some
 
   -- 27, as the code finds it
-  pub unsent-is : (n p : ℕ) (v : Event) → v ≡ eventOf t f → p ≡ f .from → n ≡ unsentFault v (own (ofSlices 0 0 links [] lows highs []) p r) → n ≡ unsent
-  unsent-is n p v ev ep e = e ∙ rw (ev, ep, own-same number probes links needs lows highs costs (f .from) r)
+  pub unsent-is : (n p : ℕ) (v : Event) → v ≡ eventOf t f → p ≡ f .from → EventWithin links (eventOf t f)
+      → (EventWithin links v → n ≡ unsentFault v (own (ofSlices 0 0 links [] lows highs []) p r)) → n ≡ unsent
+  unsent-is n p v ev ep w e = e (rw ev w) ∙ rw (ev, ep, own-same number probes links needs lows highs costs (f .from) r)
 
   module _ (fine : slicesFault x ≡ 0) (good : fleetFault t r ≡ 0) where
     -- the fault is the line's
@@ -110,21 +112,21 @@ module _ (number probes links : ℕ) (needs lows highs costs : List ℕ) (used r
         full-refused l = refused-call x used room line r 26 (last 26 (rw (le-ltb used room l))) (λ z. omega arith)
 
         pub line-accepted : used < room → (e : Entry) (r′ : List ℕ)
-            → (let t₀ = ofSlices 0 probes links needs lows highs costs in
+            → (let t₀ = ofSlices 0 0 links needs lows highs costs in
             (e ≡ entryOf t₀ (f .to) (befalls t₀ (f .to) (eventOf t f) (own t₀ (f .to) r)))
             × (r′ ≡ alterFleet t₀ (f .to) (befalls t₀ (f .to) (eventOf t f) (own t₀ (f .to) r)) r))
             → Handled x used room line (Logged e) r r′
         line-accepted l e r′ is =
-            let t₀ = ofSlices 0 probes links needs lows highs costs in
+            let t₀ = ofSlices 0 0 links needs lows highs costs in
             let none = sym (last 0 (rw (lt-ltb used room l))) in
-            let bytes = sym (own-same 0 probes links needs lows highs costs (f .to) r) ∙ own-same number probes links needs lows highs costs (f .to) r in
+            let bytes = sym (own-same 0 0 links needs lows highs costs (f .to) r) ∙ own-same number probes links needs lows highs costs (f .to) r in
             let o : befalls t₀ (f .to) (eventOf t f) (own t₀ (f .to) r) ≡ outcomeOf t r f =
             befalls-same number probes links needs lows highs costs (f .to) (eventOf t f) (own t₀ (f .to) r) ∙ ap (befalls t (f .to) (eventOf t f)) bytes in
             record {
               answer = logged-answer (eventFault x r used room line) e _ none
                   (is .0
                   ∙ ap (entryOf t₀ (f .to)) o
-                  ∙ sym (entry-same 0 probes links needs lows highs costs (f .to) (outcomeOf t r f))
+                  ∙ sym (entry-same 0 0 links needs lows highs costs (f .to) (outcomeOf t r f))
                   ∙ entry-same number probes links needs lows highs costs (f .to) (outcomeOf t r f));
               record-after = altered (eventFault x r used room line) r (alteredBy t r f) r′ none
                   (is .1 ∙ ap (λ (k : Outcome). alterFleet t (f .to) k r) o);

@@ -1,39 +1,19 @@
--- What the checks of table, record and line give.
+-- What the checks of a line give.
 use Prim.Native.Nat.{ℕ, _<_}
 use mathlib.Core.Path.{_≡_}
 use mathlib.Core.List.{List}
 use native.Mathlib.Omega.{arith}
-use lib.ListN.{length}
 use Rattle.range.specs.First.{orElse}
 use Rattle.range.proofs.Faults.{or-left}
-use Rattle.table.specs.Table.{Table, ofSlices}
+use Rattle.table.specs.Table.{Table}
 use Rattle.table.specs.Legal.{Legal}
-use Rattle.table.specs.Slices.{LegalSlices, slicesOf}
 use Rattle.table.proofs.LegalLaws.{legal-table}
 use Rattle.plan_theory.specs.Criterion.{Across, up, down}
 use Rattle.probe_frame.specs.Frame.{Frame, frameOf, frameFault}
 use Rattle.probe_rules.specs.Frames.{numberFault}
 use Rattle.probe_rules.specs.Within.{EventWithin}
-use Rattle.fleet_theory.specs.Fleet.{fleetFault, eventKindFault, eventEndsFault, eventLineFault, eventOf}
+use Rattle.fleet_theory.specs.Fleet.{eventKindFault, eventEndsFault, eventLineFault, eventOf}
 use Rattle.fleet_theory.proofs.Events.{Says, an-opening, an-offer, a-refusal, says}
-use Rattle.fleet_rules.specs.Survey.{FleetReady}
-use Rattle.fleet_state.proofs.CheckLaws.{fleet-good}
-
-module _ (number probes links : ℕ) (needs lows highs costs : List ℕ) where
-  abbrev table : Table
-  table = ofSlices number probes links needs lows highs costs
-
-  pub checked : (r : List ℕ) → LegalSlices 256 2048 (slicesOf number probes links needs lows highs costs) → fleetFault table r ≡ 0
-      → FleetReady (ofSlices 0 probes links needs lows highs costs) r (length lows) (length highs) (length costs)
-  checked r g e =
-      let f = fleet-good table r e in
-      record {
-        legal = g .legal;
-        in-lows = g .in-lows;
-        in-highs = g .in-highs;
-        in-costs = g .in-costs;
-        long = f .0;
-      }
 
 -- a line past the checks before 27
 module _ (t : Table) (l : List ℕ) (e : eventLineFault t l ≡ 0) where

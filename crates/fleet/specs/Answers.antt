@@ -4,6 +4,7 @@ use mathlib.Core.Path.{_≡_}
 use mathlib.Core.Bool.{Bool, cond}
 use mathlib.Core.List.{List, [], _∷_}
 use lib.Dec.{eqb}
+use Rattle.range.specs.First.{orElse}
 use Rattle.probe_frame.specs.Frame.{frameOf}
 use Rattle.wake_log.specs.declared.Answer.{Answer}
 use Rattle.wake_log.specs.declared.Answer.the-variants as answer
@@ -13,8 +14,8 @@ use Rattle.wake_log.specs.Entry.{answerOf}
 use Rattle.probe_rules.specs.Rules.{entryOf}
 use Rattle.fleet.specs.declared.Finishing.{Finishing}
 use Rattle.fleet.specs.declared.Finishing.the-variants as finishing
-use Rattle.fleet_theory.specs.Fleet.{eventFault, outcomeOf, alteredBy, State, answerTo, next}
-use Rattle.table.specs.Slices.{Slices, tableOf}
+use Rattle.fleet_theory.specs.Fleet.{fleetFault, eventFault, outcomeOf, alteredBy, State, answerTo, next, finished}
+use Rattle.table.specs.Slices.{Slices, tableOf, slicesFault}
 
 -- a line: the entry and the altered record, or the refusal alone and the record unchanged
 pub record Handled (x : Slices) (used room : ℕ) (line : List ℕ) (r : Answer) (before after : List ℕ) : Type 0 where
@@ -44,3 +45,7 @@ changesIn x room s (l ∷ ls) = changesBy (answerTo x room s l) + changesIn x ro
 -- whether the fleet is finished, or the refusal
 abbrev pub finishingOf : ℕ → Bool → Finishing
 finishingOf fault b = cond (eqb fault 0) (finishing.Says b) (finishing.Refused fault)
+
+-- "Finished means .. that no opening and no sendable frame would alter a record byte by these rules"
+abbrev pub whetherFinished : Slices → List ℕ → Finishing
+whetherFinished x r = finishingOf (orElse (slicesFault x) (fleetFault (tableOf x) r)) (finished (tableOf x) r)

@@ -2,10 +2,8 @@
 // A line to a fleet: its checks, and what it says.
 // Laws of a fleet on any record: it stays usable, and an event alters as many bytes as its entry says. No function of its own.
 ghost use mathlib.Core.Path.{_≡_};
-ghost use Rattle.range.specs.First.{orElse};
-ghost use Rattle.fleet_theory.specs.Fleet.{fleetFault, finished};
-ghost use Rattle.table.specs.Slices.{tableOf, slicesFault, slicesOf};
-ghost use Rattle.fleet.specs.Answers.{Handled, finishingOf, changesOf};
+ghost use Rattle.table.specs.Slices.{slicesOf};
+ghost use Rattle.fleet.specs.Answers.{Handled, whetherFinished, changesOf};
 
 pub mod line_checks;
 pub mod steps;
@@ -30,8 +28,8 @@ pub fn event(
     used: usize,
     room: usize,
 ) -> wake_log::Answer
-    ensures { λ r. ⌜ Handled (slicesOf number probes links (now (needs .entry)) (now (lows .entry)) (now (highs .entry)) (now (costs .entry)))
-        used room (now (line .entry)) r (now (rec .entry)) (now (rec .exit)) ⌝ }
+    ensures { λ r. let x = slicesOf number probes links (now (needs .entry)) (now (lows .entry)) (now (highs .entry)) (now (costs .entry)) in
+        ⌜ Handled x used room (now (line .entry)) r (now (rec .entry)) (now (rec .exit)) ⌝ }
 {
     let fault = fleet_state::checks::state_fault(
         probes as usize,
@@ -71,10 +69,8 @@ pub fn finished(
     costs: &[u16],
     rec: &[u8],
 ) -> Finishing
-    ensures { λ r. ⌜ r ≡ finishingOf
-        (orElse (slicesFault (slicesOf number probes links (now (needs .entry)) (now (lows .entry)) (now (highs .entry)) (now (costs .entry))))
-        (fleetFault (tableOf (slicesOf number probes links (now (needs .entry)) (now (lows .entry)) (now (highs .entry)) (now (costs .entry)))) (now (rec .entry))))
-        (finished (tableOf (slicesOf number probes links (now (needs .entry)) (now (lows .entry)) (now (highs .entry)) (now (costs .entry)))) (now (rec .entry))) ⌝ }
+    ensures { λ r. let x = slicesOf number probes links (now (needs .entry)) (now (lows .entry)) (now (highs .entry)) (now (costs .entry)) in
+        ⌜ r ≡ whetherFinished x (now (rec .entry)) ⌝ }
 {
     let fault = fleet_state::checks::state_fault(
         probes as usize,

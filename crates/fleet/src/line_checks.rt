@@ -3,7 +3,7 @@ use super::Ends;
 ghost use mathlib.Core.Path.{_≡_};
 ghost use mathlib.Core.Bool.{false, cond};
 ghost use mathlib.Core.List.{[]};
-ghost use Prim.Native.Nat.{_*_, _<_, _≤_};
+ghost use Prim.Native.Nat.{ℕ, _/_};
 ghost use lib.Dec.{eqb};
 ghost use lib.ListN.{length};
 ghost use Rattle.table.specs.Table.{ofSlices, between};
@@ -30,8 +30,9 @@ fn find_ends(
     to: usize,
 ) -> Ends
     requires { ⌜ RisingSlices links (now lows) (now highs) ⌝ }
-    ensures { λ r. ⌜ (r .fault ≡ eventEndsFault (ofSlices 0 probes links [] (now (lows .entry)) (now (highs .entry)) []) (record { kind = kind; number = 0; from = from; to = to }))
-        × (r .fault ≡ 0 → eqb kind 0 ≡ false → r .link ≡ between (ofSlices 0 probes links [] (now (lows .entry)) (now (highs .entry)) []) from to) ⌝ }
+    ensures { λ r. let t = ofSlices 0 probes links [] (now (lows .entry)) (now (highs .entry)) [] in
+        ⌜ (r .fault ≡ eventEndsFault t (record { kind = kind; number = 0; from = from; to = to }))
+        × (r .fault ≡ 0 → eqb kind 0 ≡ false → r .link ≡ between t from to) ⌝ }
 {
     if kind == 0 {
         if from != to {
@@ -59,8 +60,10 @@ pub fn check_line(
     line: &[u8],
 ) -> Ends
     requires { ⌜ RisingSlices links (now lows) (now highs) ⌝ }
-    ensures { λ r. ⌜ (r .fault ≡ eventLineFault (ofSlices number probes links [] (now (lows .entry)) (now (highs .entry)) []) (now (line .entry)))
-        × (r .fault ≡ 0 → eqb (frameOf (now (line .entry)) .kind) 0 ≡ false → r .link ≡ between (ofSlices 0 probes links [] (now (lows .entry)) (now (highs .entry)) []) (frameOf (now (line .entry)) .from) (frameOf (now (line .entry)) .to)) ⌝ }
+    ensures { λ r. let t = ofSlices number probes links [] (now (lows .entry)) (now (highs .entry)) [] in
+        let f = frameOf (now (line .entry)) in
+        ⌜ (r .fault ≡ eventLineFault t (now (line .entry)))
+        × (r .fault ≡ 0 → eqb (f .kind) 0 ≡ false → r .link ≡ between t (f .from) (f .to)) ⌝ }
 {
     let fault = probe_frame::frame_line::frame_fault(line);
     if fault != 0 {
@@ -81,7 +84,8 @@ pub fn check_line(
 // What a line that was not turned down says, by the link between a frame's ends.
 pub fn line_event(line: &[u8], link: usize) -> probe_rules::Event
     requires { ⌜ frameFault (now line) ≡ 0 ⌝ }
-    ensures { λ r. ⌜ r ≡ cond (eqb (frameOf (now (line .entry)) .kind) 0) Opening (cond (eqb (frameOf (now (line .entry)) .kind) 1) (Offer link) (Refusal link)) ⌝ }
+    ensures { λ r. let kind = frameOf (now (line .entry)) .kind in
+        ⌜ r ≡ cond (eqb kind 0) Opening (cond (eqb kind 1) (Offer link) (Refusal link)) ⌝ }
 {
     let kind = probe_frame::frame_line::field(line, 0, 2);
     if kind == 0 {
@@ -96,14 +100,14 @@ pub fn line_event(line: &[u8], link: usize) -> probe_rules::Event
 // 27.
 pub fn unsent_fault(
     event: probe_rules::Event,
-    links: usize,
     lows: &[u16],
     highs: &[u16],
     rec: &[u8],
     from: usize,
 ) -> u8
-    requires { ⌜ (EventWithin links event) × (4 * links ≤ length (now rec)) × (links ≤ length (now lows)) × (links ≤ length (now highs)) × (links ≤ 65536) ⌝ }
-    ensures { λ r. ⌜ r ≡ unsentFault event (own (ofSlices 0 0 links [] (now (lows .entry)) (now (highs .entry)) []) from (now (rec .entry))) ⌝ }
+    requires { ⌜ EventWithin (length (now lows)) event × EventWithin (length (now highs)) event × EventWithin 65536 event × EventWithin (length (now rec) / 4) event ⌝ }
+    ensures { λ r. ⌜ ((links : ℕ) → EventWithin links event
+        → r ≡ unsentFault event (own (ofSlices 0 0 links [] (now (lows .entry)) (now (highs .entry)) []) from (now (rec .entry)))) ⌝ }
 {
     match event {
         probe_rules::Event::Opening => 0,

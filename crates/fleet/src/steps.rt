@@ -1,18 +1,18 @@
 // The steps of a fleet. Its public functions and the script program call these, within the bounds that they ask.
 ghost use mathlib.Core.Path.{_≡_};
+ghost use Prim.Native.Nat.{_*_};
 ghost use lib.ListN.{length};
 ghost use Rattle.table.specs.Table.{ofSlices};
+ghost use Rattle.table_links.specs.Order.{OrderedLinks};
 ghost use Rattle.probe_rules.specs.Rules.{befalls, entryOf};
 ghost use Rattle.probe_rules.specs.Within.{EventWithin};
 ghost use Rattle.fleet_theory.specs.Fleet.{own, fleetFault, alterFleet};
 ghost use Rattle.table.specs.Slices.{slicesFault, tableOf, slicesOf};
-ghost use Rattle.fleet_rules.specs.Survey.{FleetReady};
 ghost use Rattle.fleet.specs.Answers.{Handled};
 
 // Lets the event befall the probe: the fleet's record altered, and the entry.
 fn apply(
     event: probe_rules::Event,
-    probes: usize,
     links: usize,
     needs: &[u16],
     lows: &[u16],
@@ -21,16 +21,14 @@ fn apply(
     probe: u16,
     rec: &mut [u8],
 ) -> wake_log::Entry
-    requires { ⌜ FleetReady (ofSlices 0 probes links (now needs) (now lows) (now highs) (now costs)) (now rec) (length (now lows)) (length (now highs)) (length (now costs)) × EventWithin links event ⌝ }
-    ensures { λ r. ⌜ (r ≡ entryOf (ofSlices 0 probes links (now (needs .entry)) (now (lows .entry)) (now (highs .entry)) (now (costs .entry))) probe
-        (befalls (ofSlices 0 probes links (now (needs .entry)) (now (lows .entry)) (now (highs .entry)) (now (costs .entry))) probe event (own (ofSlices 0 probes links (now (needs .entry)) (now (lows .entry)) (now (highs .entry)) (now (costs .entry))) probe (now (rec .entry)))))
-        × (now (rec .exit) ≡ alterFleet (ofSlices 0 probes links (now (needs .entry)) (now (lows .entry)) (now (highs .entry)) (now (costs .entry))) probe
-        (befalls (ofSlices 0 probes links (now (needs .entry)) (now (lows .entry)) (now (highs .entry)) (now (costs .entry))) probe event (own (ofSlices 0 probes links (now (needs .entry)) (now (lows .entry)) (now (highs .entry)) (now (costs .entry))) probe (now (rec .entry)))) (now (rec .entry))) ⌝ }
+    requires { ⌜ OrderedLinks links (now lows) (now highs) (now costs) × (length (now rec) ≡ 4 * links) × EventWithin links event ⌝ }
+    ensures { λ r. let t = ofSlices 0 0 links (now (needs .entry)) (now (lows .entry)) (now (highs .entry)) (now (costs .entry)) in
+        let o = befalls t probe event (own t probe (now (rec .entry))) in
+        ⌜ (r ≡ entryOf t probe o) × (now (rec .exit) ≡ alterFleet t probe o (now (rec .entry))) ⌝ }
 {
     let outcome = fleet_rules::decisions::decide(
         event,
         rec,
-        probes,
         links,
         needs,
         lows,
@@ -56,10 +54,10 @@ pub fn handle_line(
     used: usize,
     room: usize,
 ) -> wake_log::Answer
-    requires { ⌜ (slicesFault (slicesOf number probes links (now needs) (now lows) (now highs) (now costs)) ≡ 0)
-        × (fleetFault (tableOf (slicesOf number probes links (now needs) (now lows) (now highs) (now costs))) (now rec) ≡ 0) ⌝ }
-    ensures { λ r. ⌜ Handled (slicesOf number probes links (now (needs .entry)) (now (lows .entry)) (now (highs .entry)) (now (costs .entry)))
-        used room (now (line .entry)) r (now (rec .entry)) (now (rec .exit)) ⌝ }
+    requires { let x = slicesOf number probes links (now needs) (now lows) (now highs) (now costs) in
+        ⌜ (slicesFault x ≡ 0) × (fleetFault (tableOf x) (now rec) ≡ 0) ⌝ }
+    ensures { λ r. let x = slicesOf number probes links (now (needs .entry)) (now (lows .entry)) (now (highs .entry)) (now (costs .entry)) in
+        ⌜ Handled x used room (now (line .entry)) r (now (rec .entry)) (now (rec .exit)) ⌝ }
 {
     let ends = super::line_checks::check_line(number, probes, links, lows, highs, line);
     if ends.fault != 0 {
@@ -67,7 +65,7 @@ pub fn handle_line(
     }
     let event = super::line_checks::line_event(line, ends.link);
     let from = probe_frame::frame_line::field(line, 6, 4);
-    let unsent = super::line_checks::unsent_fault(event, links, lows, highs, rec, from);
+    let unsent = super::line_checks::unsent_fault(event, lows, highs, rec, from);
     if unsent != 0 {
         return wake_log::Answer::Refused(unsent);
     }
@@ -75,16 +73,6 @@ pub fn handle_line(
         return wake_log::Answer::Refused(26);
     }
     let to = probe_frame::frame_line::field(line, 10, 4);
-    let e = apply(
-        event,
-        probes,
-        links,
-        needs,
-        lows,
-        highs,
-        costs,
-        to as u16,
-        rec,
-    );
+    let e = apply(event, links, needs, lows, highs, costs, to as u16, rec);
     wake_log::Answer::Logged(e)
 }

@@ -1,9 +1,7 @@
 // The library of a fleet for C and Rust: one line, finished.
 ghost use mathlib.Core.Path.{_≡_};
-ghost use Rattle.range.specs.First.{orElse};
-ghost use Rattle.fleet_theory.specs.Fleet.{fleetFault, finished};
-ghost use Rattle.table.specs.Slices.{tableOf, slicesFault, slicesOf};
-ghost use Rattle.fleet.specs.Answers.{finishingOf};
+ghost use Rattle.table.specs.Slices.{slicesOf};
+ghost use Rattle.fleet.specs.Answers.{whetherFinished};
 ghost use Rattle.fleet_exports.specs.Packed.{packedFinishing, HandledPacked};
 use fleet::Finishing;
 use packed_answers::ANSWER_BASE;
@@ -39,8 +37,8 @@ pub extern "C" fn planner_fleet_event(
     used: usize,
     room: usize,
 ) -> u64
-    ensures { λ r. ⌜ HandledPacked (slicesOf number probes links (now (needs .entry)) (now (lows .entry)) (now (highs .entry)) (now (costs .entry)))
-        used room (now (line .entry)) r (now (rec .entry)) (now (rec .exit)) ⌝ }
+    ensures { λ r. let x = slicesOf number probes links (now (needs .entry)) (now (lows .entry)) (now (highs .entry)) (now (costs .entry)) in
+        ⌜ HandledPacked x used room (now (line .entry)) r (now (rec .entry)) (now (rec .exit)) ⌝ }
 {
     packed_answer(fleet::event(
         number,
@@ -69,10 +67,8 @@ pub extern "C" fn planner_fleet_finished(
     costs: &[u16],
     rec: &[u8],
 ) -> u64
-    ensures { λ r. ⌜ r ≡ packedFinishing (finishingOf
-        (orElse (slicesFault (slicesOf number probes links (now (needs .entry)) (now (lows .entry)) (now (highs .entry)) (now (costs .entry))))
-        (fleetFault (tableOf (slicesOf number probes links (now (needs .entry)) (now (lows .entry)) (now (highs .entry)) (now (costs .entry)))) (now (rec .entry))))
-        (finished (tableOf (slicesOf number probes links (now (needs .entry)) (now (lows .entry)) (now (highs .entry)) (now (costs .entry)))) (now (rec .entry)))) ⌝ }
+    ensures { λ r. let x = slicesOf number probes links (now (needs .entry)) (now (lows .entry)) (now (highs .entry)) (now (costs .entry)) in
+        ⌜ r ≡ packedFinishing (whetherFinished x (now (rec .entry))) ⌝ }
 {
     packed_finishing(fleet::finished(number, probes, links, needs, lows, highs, costs, rec))
 }

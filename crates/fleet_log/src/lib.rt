@@ -16,8 +16,8 @@ fn event_told(
     used: usize,
     room: usize,
 ) -> Told
-    ensures { λ r. ⌜ ToldLine (slicesOf number probes links (now (needs .entry)) (now (lows .entry)) (now (highs .entry)) (now (costs .entry)))
-        used room (now (line .entry)) r (now (rec .entry)) (now (rec .exit)) ⌝ }
+    ensures { λ r. let x = slicesOf number probes links (now (needs .entry)) (now (lows .entry)) (now (highs .entry)) (now (costs .entry)) in
+        ⌜ ToldLine x used room (now (line .entry)) r (now (rec .entry)) (now (rec .exit)) ⌝ }
 {
     let answer = fleet::event(
         number,
@@ -49,8 +49,8 @@ pub fn event_logged(
     log: &mut [wake_log::Entry],
     used: usize,
 ) -> wake_log::Answer
-    ensures { λ r. ⌜ LogsInFleet (slicesOf number probes links (now (needs .entry)) (now (lows .entry)) (now (highs .entry)) (now (costs .entry)))
-        used (now (line .entry)) r (now (rec .entry)) (now (rec .exit)) (now (log .entry)) (now (log .exit)) ⌝ }
+    ensures { λ r. let x = slicesOf number probes links (now (needs .entry)) (now (lows .entry)) (now (highs .entry)) (now (costs .entry)) in
+        ⌜ LogsInFleet x used (now (line .entry)) r (now (rec .entry)) (now (rec .exit)) (now (log .entry)) (now (log .exit)) ⌝ }
 {
     let t = event_told(
         number,

@@ -2,19 +2,19 @@
 use Prim.Native.Nat.{ℕ, _+_, _≤_, _<_}
 use mathlib.Core.Path.{_≡_, refl, sym, _∙_, ap}
 use mathlib.Core.Logic.{_⊎_, inl, inr}
-use mathlib.Core.Bool.{Bool, true, false, cond, _&&_, _||_}
+use mathlib.Core.Bool.{Bool, true, false, cond, _&&_}
+use mathlib.Core.List.{List, []}
 use native.Mathlib.Omega.{arith}
-use lib.Dec.{ltb, leb, eqb}
+use lib.Dec.{eqb}
 use Rattle.range.specs.Sum.{sum, count}
 use Rattle.range.specs.Choice.{best}
 use Rattle.range.proofs.Bools.{decided}
 use Rattle.range.proofs.Choice.{Found, found-start, found-skip, found-new, found-old}
 use Rattle.range.proofs.Sums.{count-hit, count-miss}
-use Rattle.table.specs.Table.{Table, touches, dearer, cheaper}
-use Rattle.table.specs.Legal.{Legal}
-use Rattle.probe_record.specs.Record.{ownWith}
-use Rattle.probe_record.proofs.SearchLaws.{test-dearer, test-not-dearer, test-cheaper, test-not-cheaper}
-use Rattle.fleet_rules.specs.Survey.{sideBetter, Surveyed}
+use Rattle.table.specs.Table.{Table, ofSlices, touches, dearer}
+use Rattle.probe_record.specs.Record.{ownWith, sideByte, sideBetter}
+use Rattle.fleet_theory.specs.Fleet.{own}
+use Rattle.fleet_rules.specs.Survey.{Surveyed}
 use Rattle.fleet_rules.specs.declared.Survey.{Survey}
 
 pub one-most : (c : Bool) → cond c 1 0 ≤ 1
@@ -85,22 +85,9 @@ module _ (t : Table) (p : ℕ) (byte : ℕ → ℕ) (better : ℕ → ℕ → Bo
         chosen = g .found .is ∙ ap (best better (ownWith t p byte value) (t .links)) e;
       }
 
--- the code's test of a later link, on either side
-module _ (t : Table) (legal : Legal t) (value k b : ℕ) (l : k < t .links) where
-  abbrev test : Bool
-  test = leb (t .links) b || cond (eqb value 1) (ltb (t .cost k) (t .cost b)) (leb (t .cost b) (t .cost k))
-
-  pub side-before : test ≡ true → b < k → sideBetter value t k b ≡ true
-  side-before = go (eqb value 1)
-    where
-      go : (c : Bool) → (leb (t .links) b || cond c (ltb (t .cost k) (t .cost b)) (leb (t .cost b) (t .cost k))) ≡ true → b < k → cond c (cheaper t) (dearer t) k b ≡ true
-      go true = test-cheaper t legal k b l (leb (t .links) b || ltb (t .cost k) (t .cost b)) refl
-      go false = test-dearer t legal k b l (leb (t .links) b || leb (t .cost b) (t .cost k)) refl
-
-  pub side-behind : test ≡ false → (b < t .links → b < k) → (b < t .links) × (sideBetter value t k b ≡ false)
-  side-behind = go (eqb value 1)
-    where
-      go : (c : Bool) → (leb (t .links) b || cond c (ltb (t .cost k) (t .cost b)) (leb (t .cost b) (t .cost k))) ≡ false → (b < t .links → b < k)
-          → (b < t .links) × (cond c (cheaper t) (dearer t) k b ≡ false)
-      go true = test-not-cheaper t legal k b l (leb (t .links) b || ltb (t .cost k) (t .cost b)) refl
-      go false = test-not-dearer t legal k b l (leb (t .links) b || leb (t .cost b) (t .cost k)) refl
+-- what a pass tells does not hang on the needs
+pub surveyed-same : (value links : ℕ) (needs lows highs costs : List ℕ) (p : ℕ) (r : List ℕ) (s : Survey)
+    → (let t = ofSlices 0 0 links [] lows highs costs in Surveyed t p (sideByte value (own t p r)) (sideBetter value t) value links s)
+    → (let t = ofSlices 0 0 links needs lows highs costs in Surveyed t p (sideByte value (own t p r)) (sideBetter value t) value links s)
+unfolding dearer own
+surveyed-same value links needs lows highs costs p r s g = record { links = g .links; ones = g .ones; chosen = g .chosen }

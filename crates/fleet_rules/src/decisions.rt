@@ -5,14 +5,16 @@ use probe_rules::Outcome;
 ghost use mathlib.Core.Path.{_≡_};
 ghost use mathlib.Core.Bool.{cond, _&&_, _||_};
 ghost use mathlib.Core.List.{[]};
-ghost use Prim.Native.Nat.{_*_, _<_, _≤_};
-ghost use lib.Dec.{ltb, leb, eqb};
+ghost use Prim.Native.Nat.{ℕ, _+_, _*_, _<_, _≤_};
+ghost use lib.Dec.{leb, eqb};
 ghost use lib.ListN.{length};
 ghost use Rattle.table.specs.Table.{item, ofSlices};
+ghost use Rattle.table_links.specs.Order.{OrderedLinks, dearerAt};
+ghost use Rattle.probe_record.specs.Record.{sideByte, sideBetter};
 ghost use Rattle.probe_rules.specs.Rules.{opening, offer, befalls};
 ghost use Rattle.probe_rules.specs.Within.{EventWithin};
 ghost use Rattle.fleet_theory.specs.Fleet.{own};
-ghost use Rattle.fleet_rules.specs.Survey.{FleetReady, sideByte, sideBetter, Surveyed};
+ghost use Rattle.fleet_rules.specs.Survey.{Surveyed};
 
 fn one_if(byte: u8) -> usize
     ensures { λ r. ⌜ r ≡ cond (eqb byte 1) 1 0 ⌝ }
@@ -24,17 +26,10 @@ fn one_if(byte: u8) -> usize
 }
 
 // The end's byte on the link k: with value 0 the outbound byte, with value 1 the inbound one.
-fn side_byte(
-    value: u8,
-    rec: &[u8],
-    links: usize,
-    lows: &[u16],
-    highs: &[u16],
-    probe: usize,
-    k: usize,
-) -> u8
-    requires { ⌜ (k < links) × (links ≤ 2048) × (links ≤ length (now lows)) × (links ≤ length (now highs)) × (length (now rec) ≡ 4 * links) ⌝ }
-    ensures { λ r. ⌜ r ≡ sideByte value (own (ofSlices 0 0 links [] (now (lows .entry)) (now (highs .entry)) []) probe (now (rec .entry))) k ⌝ }
+fn side_byte(value: u8, rec: &[u8], lows: &[u16], highs: &[u16], probe: usize, k: usize) -> u8
+    requires { ⌜ (k < length (now lows)) × (k < length (now highs)) × (k < 65536) × (4 * k + 3 < length (now rec)) ⌝ }
+    ensures { λ r. ⌜ ((links : ℕ) → k < links
+        → r ≡ sideByte value (own (ofSlices 0 0 links [] (now (lows .entry)) (now (highs .entry)) []) probe (now (rec .entry))) k) ⌝ }
 {
     if value == 1 {
         return super::own_bytes::in_byte(rec, lows, highs, probe, k);
@@ -42,26 +37,16 @@ fn side_byte(
     super::own_bytes::out_byte(rec, lows, highs, probe, k)
 }
 
-// Whether the link k goes before the best so far, which stands earlier in the table.
-fn goes_before(value: u8, costs: &[u16], links: usize, k: usize, best: usize) -> bool
-    requires { ⌜ (links ≤ length (now costs)) × (k < links) ⌝ }
-    ensures { λ r. ⌜ r ≡ (leb links best || cond (eqb value 1) (ltb (item (now (costs .entry)) k) (item (now (costs .entry)) best)) (leb (item (now (costs .entry)) best) (item (now (costs .entry)) k))) ⌝ }
-{
-    if value == 1 {
-        return table_links::order::cheaper_later(costs, links, k, best);
-    }
-    table_links::order::dearer_later(costs, links, k, best)
-}
-
 // The best link so far, with the link k.
 fn best_with(value: u8, byte: u8, costs: &[u16], links: usize, k: usize, best: usize) -> usize
     requires { ⌜ (links ≤ length (now costs)) × (k < links) ⌝ }
-    ensures { λ r. ⌜ r ≡ cond (eqb byte value && (leb links best || cond (eqb value 1) (ltb (item (now (costs .entry)) k) (item (now (costs .entry)) best)) (leb (item (now (costs .entry)) best) (item (now (costs .entry)) k)))) k best ⌝ }
+    ensures { λ r. let cost = item (now (costs .entry)) in
+        ⌜ r ≡ cond (eqb byte value && (leb links best || cond (eqb value 1) (dearerAt cost best k) (dearerAt cost k best))) k best ⌝ }
 {
     if byte != value {
         return best;
     }
-    if goes_before(value, costs, links, k, best) {
+    if table_links::order::goes_before(value == 1, costs, links, k, best) {
         return k;
     }
     best
@@ -71,16 +56,15 @@ fn best_with(value: u8, byte: u8, costs: &[u16], links: usize, k: usize, best: u
 fn survey(
     value: u8,
     rec: &[u8],
-    probes: usize,
     links: usize,
-    needs: &[u16],
     lows: &[u16],
     highs: &[u16],
     costs: &[u16],
     probe: usize,
 ) -> Survey
-    requires { ⌜ FleetReady (ofSlices 0 probes links (now needs) (now lows) (now highs) (now costs)) (now rec) (length (now lows)) (length (now highs)) (length (now costs)) ⌝ }
-    ensures { λ r. ⌜ Surveyed (ofSlices 0 probes links (now (needs .entry)) (now (lows .entry)) (now (highs .entry)) (now (costs .entry))) probe (sideByte value (own (ofSlices 0 probes links (now (needs .entry)) (now (lows .entry)) (now (highs .entry)) (now (costs .entry))) probe (now (rec .entry)))) (sideBetter value (ofSlices 0 probes links (now (needs .entry)) (now (lows .entry)) (now (highs .entry)) (now (costs .entry)))) value links r ⌝ }
+    requires { ⌜ OrderedLinks links (now lows) (now highs) (now costs) × (length (now rec) ≡ 4 * links) ⌝ }
+    ensures { λ r. let t = ofSlices 0 0 links [] (now (lows .entry)) (now (highs .entry)) (now (costs .entry)) in
+        ⌜ Surveyed t probe (sideByte value (own t probe (now (rec .entry)))) (sideBetter value t) value links r ⌝ }
 {
     let mut s = Survey {
         degree: 0,
@@ -94,7 +78,7 @@ fn survey(
         if !table_links::ends::touches(lows, highs, probe, k) {
             continue;
         }
-        let byte = side_byte(value, rec, links, lows, highs, probe, k);
+        let byte = side_byte(value, rec, lows, highs, probe, k);
         s = Survey {
             degree: s.degree + 1,
             count: s.count + one_if(byte),
@@ -106,7 +90,6 @@ fn survey(
 
 fn decide_opening(
     rec: &[u8],
-    probes: usize,
     links: usize,
     needs: &[u16],
     lows: &[u16],
@@ -114,10 +97,11 @@ fn decide_opening(
     costs: &[u16],
     probe: usize,
 ) -> Outcome
-    requires { ⌜ FleetReady (ofSlices 0 probes links (now needs) (now lows) (now highs) (now costs)) (now rec) (length (now lows)) (length (now highs)) (length (now costs)) ⌝ }
-    ensures { λ r. ⌜ r ≡ opening (ofSlices 0 probes links (now (needs .entry)) (now (lows .entry)) (now (highs .entry)) (now (costs .entry))) probe (own (ofSlices 0 probes links (now (needs .entry)) (now (lows .entry)) (now (highs .entry)) (now (costs .entry))) probe (now (rec .entry))) ⌝ }
+    requires { ⌜ OrderedLinks links (now lows) (now highs) (now costs) × (length (now rec) ≡ 4 * links) ⌝ }
+    ensures { λ r. let t = ofSlices 0 0 links (now (needs .entry)) (now (lows .entry)) (now (highs .entry)) (now (costs .entry)) in
+        ⌜ r ≡ opening t probe (own t probe (now (rec .entry))) ⌝ }
 {
-    let s = survey(0, rec, probes, links, needs, lows, highs, costs, probe);
+    let s = survey(0, rec, links, lows, highs, costs, probe);
     if table_links::spares::spare_of(s.degree, needs, probe) <= s.count {
         return Outcome::NothingToOpen;
     }
@@ -129,7 +113,6 @@ fn decide_opening(
 
 fn decide_offer(
     rec: &[u8],
-    probes: usize,
     links: usize,
     needs: &[u16],
     lows: &[u16],
@@ -138,10 +121,11 @@ fn decide_offer(
     probe: usize,
     i: usize,
 ) -> Outcome
-    requires { ⌜ FleetReady (ofSlices 0 probes links (now needs) (now lows) (now highs) (now costs)) (now rec) (length (now lows)) (length (now highs)) (length (now costs)) × (i < links) ⌝ }
-    ensures { λ r. ⌜ r ≡ offer (ofSlices 0 probes links (now (needs .entry)) (now (lows .entry)) (now (highs .entry)) (now (costs .entry))) probe (own (ofSlices 0 probes links (now (needs .entry)) (now (lows .entry)) (now (highs .entry)) (now (costs .entry))) probe (now (rec .entry))) i ⌝ }
+    requires { ⌜ OrderedLinks links (now lows) (now highs) (now costs) × (length (now rec) ≡ 4 * links) × (i < links) ⌝ }
+    ensures { λ r. let t = ofSlices 0 0 links (now (needs .entry)) (now (lows .entry)) (now (highs .entry)) (now (costs .entry)) in
+        ⌜ r ≡ offer t probe (own t probe (now (rec .entry))) i ⌝ }
 {
-    let s = survey(1, rec, probes, links, needs, lows, highs, costs, probe);
+    let s = survey(1, rec, links, lows, highs, costs, probe);
     if s.count < table_links::spares::spare_of(s.degree, needs, probe) {
         return Outcome::Taken(i);
     }
@@ -159,7 +143,6 @@ fn decide_offer(
 pub fn decide(
     event: Event,
     rec: &[u8],
-    probes: usize,
     links: usize,
     needs: &[u16],
     lows: &[u16],
@@ -167,16 +150,17 @@ pub fn decide(
     costs: &[u16],
     probe: usize,
 ) -> Outcome
-    requires { ⌜ FleetReady (ofSlices 0 probes links (now needs) (now lows) (now highs) (now costs)) (now rec) (length (now lows)) (length (now highs)) (length (now costs)) × EventWithin links event ⌝ }
-    ensures { λ r. ⌜ r ≡ befalls (ofSlices 0 probes links (now (needs .entry)) (now (lows .entry)) (now (highs .entry)) (now (costs .entry))) probe event (own (ofSlices 0 probes links (now (needs .entry)) (now (lows .entry)) (now (highs .entry)) (now (costs .entry))) probe (now (rec .entry))) ⌝ }
+    requires { ⌜ OrderedLinks links (now lows) (now highs) (now costs) × (length (now rec) ≡ 4 * links) × EventWithin links event ⌝ }
+    ensures { λ r. let t = ofSlices 0 0 links (now (needs .entry)) (now (lows .entry)) (now (highs .entry)) (now (costs .entry)) in
+        ⌜ r ≡ befalls t probe event (own t probe (now (rec .entry))) ⌝ }
 {
     match event {
-        Event::Opening => decide_opening(rec, probes, links, needs, lows, highs, costs, probe),
+        Event::Opening => decide_opening(rec, links, needs, lows, highs, costs, probe),
         Event::Offer(i) => {
             if super::own_bytes::in_byte(rec, lows, highs, probe, i) != 0 {
                 return Outcome::NoChange(i);
             }
-            decide_offer(rec, probes, links, needs, lows, highs, costs, probe, i)
+            decide_offer(rec, links, needs, lows, highs, costs, probe, i)
         }
         Event::Refusal(i) => {
             if super::own_bytes::out_byte(rec, lows, highs, probe, i) == 2 {

@@ -33,7 +33,8 @@ fn in_at(lows: &[u16], probe: usize, i: usize) -> usize
 // The probe's outbound byte on a link, 0 where the link is not its own.
 pub fn out_byte(rec: &[u8], lows: &[u16], highs: &[u16], probe: usize, i: usize) -> u8
     requires { ⌜ (i < length (now lows)) × (i < length (now highs)) × (i < 65536) × (4 * i + 3 < length (now rec)) ⌝ }
-    ensures { λ r. ⌜ r ≡ cond (touches (ofSlices 0 0 0 [] (now (lows .entry)) (now (highs .entry)) []) probe i) (item (now (rec .entry)) (outAt (ofSlices 0 0 0 [] (now (lows .entry)) [] []) probe i)) 0 ⌝ }
+    ensures { λ r. let t = ofSlices 0 0 0 [] (now (lows .entry)) (now (highs .entry)) [] in
+        ⌜ r ≡ cond (touches t probe i) (item (now (rec .entry)) (outAt t probe i)) 0 ⌝ }
 {
     if !table_links::ends::touches(lows, highs, probe, i) {
         return 0;
@@ -45,7 +46,8 @@ pub fn out_byte(rec: &[u8], lows: &[u16], highs: &[u16], probe: usize, i: usize)
 // Its inbound byte.
 pub fn in_byte(rec: &[u8], lows: &[u16], highs: &[u16], probe: usize, i: usize) -> u8
     requires { ⌜ (i < length (now lows)) × (i < length (now highs)) × (i < 65536) × (4 * i + 3 < length (now rec)) ⌝ }
-    ensures { λ r. ⌜ r ≡ cond (touches (ofSlices 0 0 0 [] (now (lows .entry)) (now (highs .entry)) []) probe i) (item (now (rec .entry)) (inAt (ofSlices 0 0 0 [] (now (lows .entry)) [] []) probe i)) 0 ⌝ }
+    ensures { λ r. let t = ofSlices 0 0 0 [] (now (lows .entry)) (now (highs .entry)) [] in
+        ⌜ r ≡ cond (touches t probe i) (item (now (rec .entry)) (inAt t probe i)) 0 ⌝ }
 {
     if !table_links::ends::touches(lows, highs, probe, i) {
         return 0;

@@ -17,4 +17,4 @@ fits-ends probes links needs lows highs f i l =
     record { rises = e .rises; below = omega (arith, e .below, g .size .few) }
 
 pub fits : (number probes links : ℕ) (needs lows highs costs : List ℕ) → LegalSlices 256 2048 (slicesOf number probes links needs lows highs costs) → LegalWithoutCosts probes links needs lows highs
-fits number probes links needs lows highs costs g = record { legal = g .legal; in-needs = g .in-needs; in-lows = g .in-lows; in-highs = g .in-highs }
+fits number probes links needs lows highs costs g = record { legal = g .legal; in-lows = g .in-lows; in-highs = g .in-highs }

@@ -15,6 +15,5 @@ endWith low high r k m value v i =
 -- a legal table in slices that are long enough; costs do not bear on it
 pub record LegalWithoutCosts (probes links : ℕ) (needs lows highs : List ℕ) : Type 0 where
   pub legal : Legal (ofSlices 0 probes links needs lows highs [])
-  pub in-needs : probes ≤ length needs
   pub in-lows : links ≤ length lows
   pub in-highs : links ≤ length highs

@@ -4,7 +4,7 @@ ghost use mathlib.Core.List.{[]};
 ghost use Prim.Native.Nat.{_*_, _-_, _<_, _≤_};
 ghost use lib.ListN.{length};
 ghost use Rattle.range.specs.First.{orElse, first};
-ghost use Rattle.table.specs.Slices.{sliceFault, slicesOf};
+ghost use Rattle.table.specs.Slices.{slicesOf, tableOf, slicesFault};
 ghost use Rattle.probe_record.specs.Record.{spareFault};
 ghost use Rattle.table.specs.Table.{item, ofSlices};
 ghost use Rattle.fleet_theory.specs.Fleet.{own, fleetFault};
@@ -34,16 +34,16 @@ fn counted_fault(
     standing: &[u16],
     held: &[u16],
 ) -> u8
-    requires { ⌜ (probes ≤ length (now needs)) × (probes ≤ length (now degrees)) × (probes ≤ length (now standing)) × (probes ≤ length (now held)) ⌝ }
+    requires { ⌜ (probes ≤ length (now degrees)) × (probes ≤ length (now standing)) × (probes ≤ length (now held)) ⌝ }
     ensures { λ r. ⌜ r ≡ first (λ v. overFault (item (now (degrees .entry)) v - item (now (needs .entry)) v) (item (now (standing .entry)) v) (item (now (held .entry)) v)) probes ⌝ }
 {
     let mut v = 0;
     while v < probes {
         let spare = super::counts::spare_at(degrees, needs, v);
-        if spare < standing[v] {
+        if spare < standing[v] as usize {
             return 22;
         }
-        if spare < held[v] {
+        if spare < held[v] as usize {
             return 22;
         }
         v += 1;
@@ -61,8 +61,8 @@ fn spares_fault(
     rec: &[u8],
 ) -> u8
     requires { ⌜ LegalWithoutCosts probes links (now needs) (now lows) (now highs) × (4 * links ≤ length (now rec)) ⌝ }
-    ensures { λ r. ⌜ r ≡ first (λ p. spareFault (ofSlices 0 probes links (now (needs .entry)) (now (lows .entry)) (now (highs .entry)) []) p
-        (own (ofSlices 0 probes links (now (needs .entry)) (now (lows .entry)) (now (highs .entry)) []) p (now (rec .entry)))) probes ⌝ }
+    ensures { λ r. let t = ofSlices 0 probes links (now (needs .entry)) (now (lows .entry)) (now (highs .entry)) [] in
+        ⌜ r ≡ first (λ p. spareFault t p (own t p (now (rec .entry)))) probes ⌝ }
 {
     let mut degrees = [0u16; 256];
     let mut standing = [0u16; 256];
@@ -83,7 +83,8 @@ fn fleet_fault(
     rec: &[u8],
 ) -> u8
     requires { ⌜ LegalWithoutCosts probes links (now needs) (now lows) (now highs) ⌝ }
-    ensures { λ r. ⌜ r ≡ fleetFault (ofSlices 0 probes links (now (needs .entry)) (now (lows .entry)) (now (highs .entry)) []) (now (rec .entry)) ⌝ }
+    ensures { λ r. let t = ofSlices 0 probes links (now (needs .entry)) (now (lows .entry)) (now (highs .entry)) [] in
+        ⌜ r ≡ fleetFault t (now (rec .entry)) ⌝ }
 {
     if rec.len() != 4 * links {
         return 20;
@@ -105,8 +106,8 @@ pub fn state_fault(
     costs: &[u16],
     rec: &[u8],
 ) -> u8
-    ensures { λ r. ⌜ r ≡ orElse (sliceFault 256 2048 (slicesOf 0 probes links (now (needs .entry)) (now (lows .entry)) (now (highs .entry)) (now (costs .entry))))
-        (fleetFault (ofSlices 0 probes links (now (needs .entry)) (now (lows .entry)) (now (highs .entry)) (now (costs .entry))) (now (rec .entry))) ⌝ }
+    ensures { λ r. let x = slicesOf 0 probes links (now (needs .entry)) (now (lows .entry)) (now (highs .entry)) (now (costs .entry)) in
+        ⌜ r ≡ orElse (slicesFault x) (fleetFault (tableOf x) (now (rec .entry))) ⌝ }
 {
     let fault = table::checks::slice_fault(256, 2048, probes, links, needs, lows, highs, costs);
     if fault != 0 {

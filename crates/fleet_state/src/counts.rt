@@ -46,12 +46,9 @@ pub fn count_bytes(
 }
 
 // A probe's spare, by its counted links.
-pub fn spare_at(degrees: &[u16], needs: &[u16], v: usize) -> u16
-    requires { ⌜ (v < length (now degrees)) × (v < length (now needs)) ⌝ }
+pub fn spare_at(degrees: &[u16], needs: &[u16], v: usize) -> usize
+    requires { ⌜ v < length (now degrees) ⌝ }
     ensures { λ r. ⌜ r ≡ item (now (degrees .entry)) v - item (now (needs .entry)) v ⌝ }
 {
-    if degrees[v] < needs[v] {
-        return 0;
-    }
-    degrees[v] - needs[v]
+    table_links::spares::spare_of(table::numbers::wide(degrees[v]), needs, v)
 }

@@ -27,7 +27,8 @@ fn may_alter(out: u8, into: u8) -> bool
 // Whether no frame that may be sent would alter a byte.
 fn none_alters(rec: &[u8], links: usize) -> bool
     requires { ⌜ 4 * links ≤ length (now rec) ⌝ }
-    ensures { λ r. ⌜ r ≡ eqb (count links (λ i. mayAlter (item (now (rec .entry)) (4 * i)) (item (now (rec .entry)) (4 * i + 1)) || mayAlter (item (now (rec .entry)) (4 * i + 2)) (item (now (rec .entry)) (4 * i + 3)))) 0 ⌝ }
+    ensures { λ r. let byte = item (now (rec .entry)) in
+        ⌜ r ≡ eqb (count links (λ i. mayAlter (byte (4 * i)) (byte (4 * i + 1)) || mayAlter (byte (4 * i + 2)) (byte (4 * i + 3)))) 0 ⌝ }
 {
     let mut i = 0;
     while i < links {
@@ -50,14 +51,14 @@ fn none_opens(
     standing: &[u16],
     untried: &[u16],
 ) -> bool
-    requires { ⌜ (probes ≤ length (now needs)) × (probes ≤ length (now degrees)) × (probes ≤ length (now standing)) × (probes ≤ length (now untried)) ⌝ }
+    requires { ⌜ (probes ≤ length (now degrees)) × (probes ≤ length (now standing)) × (probes ≤ length (now untried)) ⌝ }
     ensures { λ r. ⌜ r ≡ eqb (count probes (λ v. mayOpen (item (now (standing .entry)) v) (item (now (degrees .entry)) v - item (now (needs .entry)) v) (item (now (untried .entry)) v))) 0 ⌝ }
 {
     let mut v = 0;
     while v < probes {
         let w = v;
         v += 1;
-        if super::counts::spare_at(degrees, needs, w) <= standing[w] {
+        if super::counts::spare_at(degrees, needs, w) <= standing[w] as usize {
             continue;
         }
         if untried[w] == 0 {

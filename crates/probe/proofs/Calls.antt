@@ -24,13 +24,13 @@ refused-call fault t p event r e same n =
 
 pub accepted-call : (fault number probes links : ℕ) (needs lows highs costs : List ℕ) (p : ℕ) (event : Event) (e : List ℕ) (entry : Entry) (after : List ℕ)
     → fault ≡ 0
-    → entry ≡ entryOf (ofSlices 0 probes links needs lows highs costs) p (befalls (ofSlices 0 probes links needs lows highs costs) p event e)
-    → after ≡ alter (befalls (ofSlices 0 probes links needs lows highs costs) p event e) e
+    → entry ≡ entryOf (ofSlices 0 0 links needs lows highs costs) p (befalls (ofSlices 0 0 links needs lows highs costs) p event e)
+    → after ≡ alter (befalls (ofSlices 0 0 links needs lows highs costs) p event e) e
     → Befallen fault (ofSlices number probes links needs lows highs costs) p event (Logged entry) e after
 accepted-call fault number probes links needs lows highs costs p event e entry after none is bytes =
     let same = befalls-same number probes links needs lows highs costs p event e in
-    let from = ap (λ (o : Outcome). entryOf (ofSlices 0 probes links needs lows highs costs) p o) same in
-    let plain = sym (entry-same 0 probes links needs lows highs costs p (befalls (ofSlices number probes links needs lows highs costs) p event e)) in
+    let from = ap (λ (o : Outcome). entryOf (ofSlices 0 0 links needs lows highs costs) p o) same in
+    let plain = sym (entry-same 0 0 links needs lows highs costs p (befalls (ofSlices number probes links needs lows highs costs) p event e)) in
     let full = entry-same number probes links needs lows highs costs p (befalls (ofSlices number probes links needs lows highs costs) p event e) in
     record {
       answer = rw none (ap Logged (is ∙ from ∙ plain ∙ full));

@@ -5,13 +5,19 @@ use mathlib.Core.Bool.{Bool, cond, _&&_}
 use mathlib.Core.List.{List}
 use lib.Dec.{eqb}
 use lib.Seq.{sets}
+use lib.ListN.{length}
+use Rattle.range.specs.First.{orElse}
 use Rattle.table.specs.Table.{Table, other}
-use Rattle.probe_frame.specs.Frame.{Frame, frameLine}
+use Rattle.table.specs.Legal.{lentFault}
+use Rattle.table.specs.Slices.{Slices, tableOf, slicesFault}
+use Rattle.probe_frame.specs.Frame.{Frame, frameOf, frameLine}
 use Rattle.wake_log.specs.declared.Answer.{Answer}
 use Rattle.wake_log.specs.Entry.{answerOf}
 use Rattle.probe_rules.specs.declared.Event.{Event}
-use Rattle.probe_rules.specs.declared.Event.the-variants.{Offer, Refusal}
-use Rattle.probe_rules.specs.Rules.{befalls, alter, entryOf, sendable}
+use Rattle.probe_rules.specs.declared.Event.the-variants.{Opening, Offer, Refusal}
+use Rattle.probe_rules.specs.Rules.{befalls, alter, entryOf, sendable, rests}
+use Rattle.probe_rules.specs.Frames.{heardOf}
+use Rattle.probe_checks.specs.Checks.{hearFault, openFault, linkCallFault}
 use Rattle.probe.specs.declared.Kind.{Kind}
 use Rattle.probe.specs.declared.Kind.the-variants as kind
 use Rattle.probe.specs.declared.Asked.{Asked}
@@ -48,3 +54,25 @@ pub record Asks (fault : ℕ) (t : Table) (p : ℕ) (k : Kind) (i : ℕ) (e : Li
 -- whether the end rests the link, or the refusal
 abbrev pub restingOf : ℕ → Bool → Resting
 restingOf fault b = cond (eqb fault 0) (resting.Rests b) (resting.Refused fault)
+
+-- The calls of the end p, over the table in its slices.
+
+-- "Opening: with fewer standing than spare, the dearest untried own link becomes standing."
+abbrev pub Opens : Slices → ℕ → ℕ → Answer → List ℕ → List ℕ → Type 0
+Opens x p free r before after = Befallen (openFault (slicesFault x) (tableOf x) p before free) (tableOf x) p Opening r before after
+
+-- "Offer heard", "Refusal heard": a frame of any bytes
+abbrev pub Hears : Slices → ℕ → List ℕ → ℕ → Answer → List ℕ → List ℕ → Type 0
+Hears x p frame free r before after =
+    Befallen (hearFault (slicesFault x) (tableOf x) p before frame free) (tableOf x) p (heardOf (tableOf x) (frameOf frame)) r before after
+
+-- "Asked for either on a link": 8 where the lent slice has no room for the line comes first
+abbrev pub askFault : Slices → ℕ → ℕ → List ℕ → List ℕ → ℕ
+askFault x p i e out = orElse (lentFault (length out) 15) (linkCallFault (slicesFault x) (tableOf x) p e i)
+
+abbrev pub AsksFor : Slices → ℕ → Kind → ℕ → List ℕ → Asked → List ℕ → List ℕ → Type 0
+AsksFor x p k i e r before after = Asks (askFault x p i e before) (tableOf x) p k i e r before after
+
+-- "A probe rests a link when its own two bytes are both 1."
+abbrev pub whetherRests : Slices → ℕ → List ℕ → ℕ → Resting
+whetherRests x p e i = restingOf (linkCallFault (slicesFault x) (tableOf x) p e i) (rests e i)

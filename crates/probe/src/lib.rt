@@ -1,16 +1,7 @@
 // One end of the bargaining, alone: it opens, hears frames, is asked for frames, and rests links. Links go by their place in the table.
 ghost use mathlib.Core.Path.{_≡_};
-ghost use lib.ListN.{length};
-ghost use Rattle.range.specs.First.{orElse};
-ghost use Rattle.table.specs.Table.{ofSlices};
-ghost use Rattle.table.specs.Slices.{sliceFault, slicesOf};
-ghost use Rattle.probe_frame.specs.Frame.{frameOf};
-ghost use Rattle.probe_rules.specs.declared.Event.the-variants.{Opening};
-ghost use Rattle.probe_rules.specs.Rules.{rests};
-ghost use Rattle.probe_rules.specs.Frames.{heardOf};
-ghost use Rattle.probe_checks.specs.Checks.{hearFault, openFault, linkCallFault};
-ghost use Rattle.probe.specs.Answers.{Befallen, Asks, restingOf};
-ghost use Rattle.table.specs.Legal.{lentFault};
+ghost use Rattle.table.specs.Slices.{slicesOf};
+ghost use Rattle.probe.specs.Answers.{Opens, Hears, AsksFor, whetherRests};
 
 pub mod steps;
 
@@ -46,11 +37,8 @@ pub fn open(
     rec: &mut [u8],
     free: usize,
 ) -> wake_log::Answer
-    ensures { λ r. ⌜ Befallen
-        (openFault (sliceFault 256 2048 (slicesOf number probes links (now (needs .entry)) (now (lows .entry)) (now (highs .entry)) (now (costs .entry))))
-        (ofSlices number probes links (now (needs .entry)) (now (lows .entry)) (now (highs .entry)) (now (costs .entry))) probe (now (rec .entry)) free)
-        (ofSlices number probes links (now (needs .entry)) (now (lows .entry)) (now (highs .entry)) (now (costs .entry))) probe Opening
-        r (now (rec .entry)) (now (rec .exit)) ⌝ }
+    ensures { λ r. let x = slicesOf number probes links (now (needs .entry)) (now (lows .entry)) (now (highs .entry)) (now (costs .entry)) in
+        ⌜ Opens x probe free r (now (rec .entry)) (now (rec .exit)) ⌝ }
 {
     let fault = probe_checks::faults::open_fault(
         probes as usize,
@@ -68,7 +56,6 @@ pub fn open(
     }
     let e = steps::apply(
         probe_rules::Event::Opening,
-        probes as usize,
         links as usize,
         needs,
         lows,
@@ -94,12 +81,8 @@ pub fn hear(
     frame: &[u8],
     free: usize,
 ) -> wake_log::Answer
-    ensures { λ r. ⌜ Befallen
-        (hearFault (sliceFault 256 2048 (slicesOf number probes links (now (needs .entry)) (now (lows .entry)) (now (highs .entry)) (now (costs .entry))))
-        (ofSlices number probes links (now (needs .entry)) (now (lows .entry)) (now (highs .entry)) (now (costs .entry))) probe (now (rec .entry)) (now (frame .entry)) free)
-        (ofSlices number probes links (now (needs .entry)) (now (lows .entry)) (now (highs .entry)) (now (costs .entry))) probe
-        (heardOf (ofSlices number probes links (now (needs .entry)) (now (lows .entry)) (now (highs .entry)) (now (costs .entry))) (frameOf (now (frame .entry))))
-        r (now (rec .entry)) (now (rec .exit)) ⌝ }
+    ensures { λ r. let x = slicesOf number probes links (now (needs .entry)) (now (lows .entry)) (now (highs .entry)) (now (costs .entry)) in
+        ⌜ Hears x probe (now (frame .entry)) free r (now (rec .entry)) (now (rec .exit)) ⌝ }
 {
     let fault = probe_checks::faults::hear_fault(
         number,
@@ -118,17 +101,7 @@ pub fn hear(
         return wake_log::Answer::Refused(fault);
     }
     let event = probe_checks::faults::event_of(links as usize, lows, highs, frame);
-    let e = steps::apply(
-        event,
-        probes as usize,
-        links as usize,
-        needs,
-        lows,
-        highs,
-        costs,
-        probe,
-        rec,
-    );
+    let e = steps::apply(event, links as usize, needs, lows, highs, costs, probe, rec);
     wake_log::Answer::Logged(e)
 }
 
@@ -147,11 +120,8 @@ pub fn ask(
     link: u16,
     out: &mut [u8],
 ) -> Asked
-    ensures { λ r. ⌜ Asks
-        (orElse (lentFault (length (now (out .entry))) 15) (linkCallFault (sliceFault 256 2048 (slicesOf number probes links (now (needs .entry)) (now (lows .entry)) (now (highs .entry)) (now (costs .entry))))
-        (ofSlices number probes links (now (needs .entry)) (now (lows .entry)) (now (highs .entry)) (now (costs .entry))) probe (now (rec .entry)) link))
-        (ofSlices number probes links (now (needs .entry)) (now (lows .entry)) (now (highs .entry)) (now (costs .entry))) probe kind link (now (rec .entry))
-        r (now (out .entry)) (now (out .exit)) ⌝ }
+    ensures { λ r. let x = slicesOf number probes links (now (needs .entry)) (now (lows .entry)) (now (highs .entry)) (now (costs .entry)) in
+        ⌜ AsksFor x probe kind link (now (rec .entry)) r (now (out .entry)) (now (out .exit)) ⌝ }
 {
     if out.len() < 15 {
         return Asked::Refused(8);
@@ -191,10 +161,8 @@ pub fn rests(
     rec: &[u8],
     link: u16,
 ) -> Resting
-    ensures { λ r. ⌜ r ≡ restingOf
-        (linkCallFault (sliceFault 256 2048 (slicesOf number probes links (now (needs .entry)) (now (lows .entry)) (now (highs .entry)) (now (costs .entry))))
-        (ofSlices number probes links (now (needs .entry)) (now (lows .entry)) (now (highs .entry)) (now (costs .entry))) probe (now (rec .entry)) link)
-        (rests (now (rec .entry)) link) ⌝ }
+    ensures { λ r. let x = slicesOf number probes links (now (needs .entry)) (now (lows .entry)) (now (highs .entry)) (now (costs .entry)) in
+        ⌜ r ≡ whetherRests x probe (now (rec .entry)) link ⌝ }
 {
     let fault = probe_checks::faults::link_call_fault(
         probes as usize,

@@ -3,6 +3,7 @@ ghost use mathlib.Core.Path.{_≡_};
 ghost use Prim.Native.Nat.{_+_, _*_, _<_};
 ghost use lib.ListN.{length};
 ghost use Rattle.table.specs.Table.{ofSlices};
+ghost use Rattle.table_links.specs.Order.{OrderedLinks};
 ghost use Rattle.probe_rules.specs.Rules.{befalls, alter, entryOf, sendable, rests};
 ghost use Rattle.probe_rules.specs.Within.{EventWithin, EndReady};
 ghost use Rattle.probe.specs.Answers.{kindOf, askedEvent};
@@ -10,7 +11,6 @@ ghost use Rattle.probe.specs.Answers.{kindOf, askedEvent};
 // Lets the event befall the probe: its record altered, and its entry.
 pub fn apply(
     event: probe_rules::Event,
-    probes: usize,
     links: usize,
     needs: &[u16],
     lows: &[u16],
@@ -19,15 +19,15 @@ pub fn apply(
     probe: u16,
     rec: &mut [u8],
 ) -> wake_log::Entry
-    requires { ⌜ EndReady (ofSlices 0 probes links (now needs) (now lows) (now highs) (now costs)) probe (now rec) (length (now lows)) (length (now highs)) (length (now costs)) × EventWithin links event ⌝ }
-    ensures { λ r. ⌜ (r ≡ entryOf (ofSlices 0 probes links (now (needs .entry)) (now (lows .entry)) (now (highs .entry)) (now (costs .entry))) probe
-        (befalls (ofSlices 0 probes links (now (needs .entry)) (now (lows .entry)) (now (highs .entry)) (now (costs .entry))) probe event (now (rec .entry))))
-        × (now (rec .exit) ≡ alter (befalls (ofSlices 0 probes links (now (needs .entry)) (now (lows .entry)) (now (highs .entry)) (now (costs .entry))) probe event (now (rec .entry))) (now (rec .entry))) ⌝ }
+    requires { let t = ofSlices 0 0 links (now needs) (now lows) (now highs) (now costs) in
+        ⌜ OrderedLinks links (now lows) (now highs) (now costs) × EndReady t probe (now rec) × EventWithin links event ⌝ }
+    ensures { λ r. let t = ofSlices 0 0 links (now (needs .entry)) (now (lows .entry)) (now (highs .entry)) (now (costs .entry)) in
+        let o = befalls t probe event (now (rec .entry)) in
+        ⌜ (r ≡ entryOf t probe o) × (now (rec .exit) ≡ alter o (now (rec .entry))) ⌝ }
 {
     let outcome = probe_rules::decisions::decide(
         event,
         rec,
-        probes,
         links,
         needs,
         lows,

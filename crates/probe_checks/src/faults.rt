@@ -1,11 +1,11 @@
 // The functions, each within the bounds that it asks.
 ghost use mathlib.Core.Path.{_≡_};
 ghost use mathlib.Core.List.{[]};
-ghost use Prim.Native.Nat.{_*_, _<_, _≤_};
+ghost use Prim.Native.Nat.{_/_};
 ghost use lib.ListN.{length};
 ghost use Rattle.range.specs.First.{orElse};
 ghost use Rattle.table.specs.Table.{ofSlices};
-ghost use Rattle.table.specs.Slices.{sliceFault, slicesOf};
+ghost use Rattle.table.specs.Slices.{slicesOf, tableOf, slicesFault};
 ghost use Rattle.probe_frame.specs.Frame.{frameOf, frameFault};
 ghost use Rattle.probe_record.specs.Record.{recordFault};
 ghost use Rattle.probe_rules.specs.Frames.{heardOf};
@@ -72,8 +72,8 @@ pub fn event_of(links: usize, lows: &[u16], highs: &[u16], frame: &[u8]) -> prob
 }
 
 // 25.
-fn untried_fault(event: probe_rules::Event, links: usize, rec: &[u8]) -> u8
-    requires { ⌜ (EventWithin links event) × (2 * links ≤ length (now rec)) ⌝ }
+fn untried_fault(event: probe_rules::Event, rec: &[u8]) -> u8
+    requires { ⌜ EventWithin (length (now rec) / 2) event ⌝ }
     ensures { λ r. ⌜ r ≡ untriedFault event (now (rec .entry)) ⌝ }
 {
     match event {
@@ -99,8 +99,8 @@ fn state_fault(
     probe: usize,
     rec: &[u8],
 ) -> u8
-    ensures { λ r. ⌜ r ≡ orElse (sliceFault 256 2048 (slicesOf 0 probes links (now (needs .entry)) (now (lows .entry)) (now (highs .entry)) (now (costs .entry))))
-        (recordFault (ofSlices 0 probes links (now (needs .entry)) (now (lows .entry)) (now (highs .entry)) (now (costs .entry))) probe (now (rec .entry))) ⌝ }
+    ensures { λ r. let x = slicesOf 0 probes links (now (needs .entry)) (now (lows .entry)) (now (highs .entry)) (now (costs .entry)) in
+        ⌜ r ≡ orElse (slicesFault x) (recordFault (tableOf x) probe (now (rec .entry))) ⌝ }
 {
     let fault = table::checks::slice_fault(256, 2048, probes, links, needs, lows, highs, costs);
     if fault != 0 {
@@ -121,8 +121,8 @@ pub fn open_fault(
     rec: &[u8],
     free: usize,
 ) -> u8
-    ensures { λ r. ⌜ r ≡ openFault (sliceFault 256 2048 (slicesOf 0 probes links (now (needs .entry)) (now (lows .entry)) (now (highs .entry)) (now (costs .entry))))
-        (ofSlices 0 probes links (now (needs .entry)) (now (lows .entry)) (now (highs .entry)) (now (costs .entry))) probe (now (rec .entry)) free ⌝ }
+    ensures { λ r. let x = slicesOf 0 probes links (now (needs .entry)) (now (lows .entry)) (now (highs .entry)) (now (costs .entry)) in
+        ⌜ r ≡ openFault (slicesFault x) (tableOf x) probe (now (rec .entry)) free ⌝ }
 {
     let fault = state_fault(probes, links, needs, lows, highs, costs, probe, rec);
     if fault != 0 {
@@ -151,8 +151,8 @@ pub fn hear_fault(
     frame: &[u8],
     free: usize,
 ) -> u8
-    ensures { λ r. ⌜ r ≡ hearFault (sliceFault 256 2048 (slicesOf 0 probes links (now (needs .entry)) (now (lows .entry)) (now (highs .entry)) (now (costs .entry))))
-        (ofSlices number probes links (now (needs .entry)) (now (lows .entry)) (now (highs .entry)) (now (costs .entry))) probe (now (rec .entry)) (now (frame .entry)) free ⌝ }
+    ensures { λ r. let x = slicesOf number probes links (now (needs .entry)) (now (lows .entry)) (now (highs .entry)) (now (costs .entry)) in
+        ⌜ r ≡ hearFault (slicesFault x) (tableOf x) probe (now (rec .entry)) (now (frame .entry)) free ⌝ }
 {
     let fault = state_fault(probes, links, needs, lows, highs, costs, probe, rec);
     if fault != 0 {
@@ -163,7 +163,7 @@ pub fn hear_fault(
         return heard;
     }
     let event = event_of(links, lows, highs, frame);
-    let untried = untried_fault(event, links, rec);
+    let untried = untried_fault(event, rec);
     if untried != 0 {
         return untried;
     }
@@ -185,8 +185,8 @@ pub fn link_call_fault(
     rec: &[u8],
     link: usize,
 ) -> u8
-    ensures { λ r. ⌜ r ≡ linkCallFault (sliceFault 256 2048 (slicesOf 0 probes links (now (needs .entry)) (now (lows .entry)) (now (highs .entry)) (now (costs .entry))))
-        (ofSlices 0 probes links (now (needs .entry)) (now (lows .entry)) (now (highs .entry)) (now (costs .entry))) probe (now (rec .entry)) link ⌝ }
+    ensures { λ r. let x = slicesOf 0 probes links (now (needs .entry)) (now (lows .entry)) (now (highs .entry)) (now (costs .entry)) in
+        ⌜ r ≡ linkCallFault (slicesFault x) (tableOf x) probe (now (rec .entry)) link ⌝ }
 {
     let fault = state_fault(probes, links, needs, lows, highs, costs, probe, rec);
     if fault != 0 {

@@ -6,10 +6,15 @@ use mathlib.Core.Bool.{Bool, cond}
 use mathlib.Core.List.{List}
 use lib.Dec.{eqb}
 use Rattle.table.specs.Table.{Table as Site}
+use Rattle.table.specs.Slices.{Slices, tableOf, slicesFault}
+use Rattle.probe_frame.specs.Frame.{frameOf}
 use Rattle.wake_log.specs.Entry.{answerOf}
 use Rattle.probe_rules.specs.declared.Event.{Event}
+use Rattle.probe_rules.specs.declared.Event.the-variants.{Opening}
 use Rattle.probe_rules.specs.Rules.{befalls, entryOf, sendable}
-use Rattle.probe.specs.Answers.{Befallen, Asks, askedEvent}
+use Rattle.probe_rules.specs.Frames.{heardOf}
+use Rattle.probe_checks.specs.Checks.{hearFault, openFault}
+use Rattle.probe.specs.Answers.{Befallen, Asks, askedEvent, askFault}
 use Rattle.probe.specs.declared.Kind.{Kind}
 use Rattle.probe.specs.declared.Asked.{Asked}
 use Rattle.probe.specs.declared.Asked.the-variants.{Written, NotNow, Refused as Unasked}
@@ -39,3 +44,15 @@ pub record BefallenPacked (fault : ℕ) (t : Site) (p : ℕ) (event : Event) (r 
 pub record AsksPacked (fault : ℕ) (t : Site) (p : ℕ) (k : Kind) (i : ℕ) (e : List ℕ) (r : ℕ) (before after : List ℕ) : Type 0 where
   pub answer : r ≡ packedAsked (askedOf fault (sendable (askedEvent k i) e))
   pub lent : Asks fault t p k i e (askedOf fault (sendable (askedEvent k i) e)) before after
+
+-- The calls of the end p, over the table in its slices: as `Opens`, `Hears` and `AsksFor`, the answer packed.
+
+abbrev pub OpensPacked : Slices → ℕ → ℕ → ℕ → List ℕ → List ℕ → Type 0
+OpensPacked x p free r before after = BefallenPacked (openFault (slicesFault x) (tableOf x) p before free) (tableOf x) p Opening r before after
+
+abbrev pub HearsPacked : Slices → ℕ → List ℕ → ℕ → ℕ → List ℕ → List ℕ → Type 0
+HearsPacked x p frame free r before after =
+    BefallenPacked (hearFault (slicesFault x) (tableOf x) p before frame free) (tableOf x) p (heardOf (tableOf x) (frameOf frame)) r before after
+
+abbrev pub AsksForPacked : Slices → ℕ → Kind → ℕ → List ℕ → ℕ → List ℕ → List ℕ → Type 0
+AsksForPacked x p k i e r before after = AsksPacked (askFault x p i e before) (tableOf x) p k i e r before after

@@ -1,18 +1,9 @@
 // The library of one end for C and Rust: open, hear, ask, rests.
 ghost use mathlib.Core.Path.{_≡_};
-ghost use lib.ListN.{length};
-ghost use Rattle.range.specs.First.{orElse};
-ghost use Rattle.table.specs.Table.{ofSlices};
-ghost use Rattle.table.specs.Slices.{sliceFault, slicesOf};
-ghost use Rattle.probe_frame.specs.Frame.{frameOf};
-ghost use Rattle.probe_rules.specs.declared.Event.the-variants.{Opening};
-ghost use Rattle.probe_rules.specs.Rules.{rests};
-ghost use Rattle.probe_rules.specs.Frames.{heardOf};
+ghost use Rattle.table.specs.Slices.{slicesOf};
 ghost use Rattle.probe.specs.declared.Kind.the-variants.{Offer, Refusal};
-ghost use Rattle.probe_checks.specs.Checks.{hearFault, openFault, linkCallFault};
-ghost use Rattle.probe.specs.Answers.{restingOf};
-ghost use Rattle.table.specs.Legal.{lentFault};
-ghost use Rattle.probe_exports.specs.Packed.{packedResting, BefallenPacked, AsksPacked, packedAsked};
+ghost use Rattle.probe.specs.Answers.{whetherRests};
+ghost use Rattle.probe_exports.specs.Packed.{packedAsked, packedResting, OpensPacked, HearsPacked, AsksForPacked};
 use packed_answers::ANSWER_BASE;
 use packed_answers::packed_answer;
 use probe::Asked;
@@ -57,11 +48,8 @@ pub extern "C" fn planner_probe_open(
     rec: &mut [u8],
     free: usize,
 ) -> u64
-    ensures { λ r. ⌜ BefallenPacked
-        (openFault (sliceFault 256 2048 (slicesOf number probes links (now (needs .entry)) (now (lows .entry)) (now (highs .entry)) (now (costs .entry))))
-        (ofSlices number probes links (now (needs .entry)) (now (lows .entry)) (now (highs .entry)) (now (costs .entry))) probe (now (rec .entry)) free)
-        (ofSlices number probes links (now (needs .entry)) (now (lows .entry)) (now (highs .entry)) (now (costs .entry))) probe Opening
-        r (now (rec .entry)) (now (rec .exit)) ⌝ }
+    ensures { λ r. let x = slicesOf number probes links (now (needs .entry)) (now (lows .entry)) (now (highs .entry)) (now (costs .entry)) in
+        ⌜ OpensPacked x probe free r (now (rec .entry)) (now (rec .exit)) ⌝ }
 {
     packed_answer(probe::open(
         number,
@@ -92,12 +80,8 @@ pub extern "C" fn planner_probe_hear(
     frame: &[u8],
     free: usize,
 ) -> u64
-    ensures { λ r. ⌜ BefallenPacked
-        (hearFault (sliceFault 256 2048 (slicesOf number probes links (now (needs .entry)) (now (lows .entry)) (now (highs .entry)) (now (costs .entry))))
-        (ofSlices number probes links (now (needs .entry)) (now (lows .entry)) (now (highs .entry)) (now (costs .entry))) probe (now (rec .entry)) (now (frame .entry)) free)
-        (ofSlices number probes links (now (needs .entry)) (now (lows .entry)) (now (highs .entry)) (now (costs .entry))) probe
-        (heardOf (ofSlices number probes links (now (needs .entry)) (now (lows .entry)) (now (highs .entry)) (now (costs .entry))) (frameOf (now (frame .entry))))
-        r (now (rec .entry)) (now (rec .exit)) ⌝ }
+    ensures { λ r. let x = slicesOf number probes links (now (needs .entry)) (now (lows .entry)) (now (highs .entry)) (now (costs .entry)) in
+        ⌜ HearsPacked x probe (now (frame .entry)) free r (now (rec .entry)) (now (rec .exit)) ⌝ }
 {
     packed_answer(probe::hear(
         number,
@@ -129,11 +113,8 @@ pub extern "C" fn planner_probe_ask_offer(
     link: u16,
     out: &mut [u8],
 ) -> u64
-    ensures { λ r. ⌜ AsksPacked
-        (orElse (lentFault (length (now (out .entry))) 15) (linkCallFault (sliceFault 256 2048 (slicesOf number probes links (now (needs .entry)) (now (lows .entry)) (now (highs .entry)) (now (costs .entry))))
-        (ofSlices number probes links (now (needs .entry)) (now (lows .entry)) (now (highs .entry)) (now (costs .entry))) probe (now (rec .entry)) link))
-        (ofSlices number probes links (now (needs .entry)) (now (lows .entry)) (now (highs .entry)) (now (costs .entry))) probe Offer link (now (rec .entry))
-        r (now (out .entry)) (now (out .exit)) ⌝ }
+    ensures { λ r. let x = slicesOf number probes links (now (needs .entry)) (now (lows .entry)) (now (highs .entry)) (now (costs .entry)) in
+        ⌜ AsksForPacked x probe Offer link (now (rec .entry)) r (now (out .entry)) (now (out .exit)) ⌝ }
 {
     packed_asked(probe::ask(
         number,
@@ -166,11 +147,8 @@ pub extern "C" fn planner_probe_ask_refusal(
     link: u16,
     out: &mut [u8],
 ) -> u64
-    ensures { λ r. ⌜ AsksPacked
-        (orElse (lentFault (length (now (out .entry))) 15) (linkCallFault (sliceFault 256 2048 (slicesOf number probes links (now (needs .entry)) (now (lows .entry)) (now (highs .entry)) (now (costs .entry))))
-        (ofSlices number probes links (now (needs .entry)) (now (lows .entry)) (now (highs .entry)) (now (costs .entry))) probe (now (rec .entry)) link))
-        (ofSlices number probes links (now (needs .entry)) (now (lows .entry)) (now (highs .entry)) (now (costs .entry))) probe Refusal link (now (rec .entry))
-        r (now (out .entry)) (now (out .exit)) ⌝ }
+    ensures { λ r. let x = slicesOf number probes links (now (needs .entry)) (now (lows .entry)) (now (highs .entry)) (now (costs .entry)) in
+        ⌜ AsksForPacked x probe Refusal link (now (rec .entry)) r (now (out .entry)) (now (out .exit)) ⌝ }
 {
     packed_asked(probe::ask(
         number,
@@ -202,10 +180,8 @@ pub extern "C" fn planner_probe_rests(
     rec: &[u8],
     link: u16,
 ) -> u64
-    ensures { λ r. ⌜ r ≡ packedResting (restingOf
-        (linkCallFault (sliceFault 256 2048 (slicesOf number probes links (now (needs .entry)) (now (lows .entry)) (now (highs .entry)) (now (costs .entry))))
-        (ofSlices number probes links (now (needs .entry)) (now (lows .entry)) (now (highs .entry)) (now (costs .entry))) probe (now (rec .entry)) link)
-        (rests (now (rec .entry)) link)) ⌝ }
+    ensures { λ r. let x = slicesOf number probes links (now (needs .entry)) (now (lows .entry)) (now (highs .entry)) (now (costs .entry)) in
+        ⌜ r ≡ packedResting (whetherRests x probe (now (rec .entry)) link) ⌝ }
 {
     packed_resting(probe::rests(
         number,

@@ -1,13 +1,6 @@
 // The events of one end with its wake log: a lent slice of entries, and the count of its used ones.
-ghost use Prim.Native.Nat.{_-_};
-ghost use lib.ListN.{length};
-ghost use Rattle.table.specs.Table.{ofSlices};
-ghost use Rattle.table.specs.Slices.{sliceFault, slicesOf};
-ghost use Rattle.probe_frame.specs.Frame.{frameOf};
-ghost use Rattle.probe_rules.specs.declared.Event.the-variants.{Opening};
-ghost use Rattle.probe_rules.specs.Frames.{heardOf};
-ghost use Rattle.probe_checks.specs.Checks.{hearFault, openFault};
-ghost use Rattle.probe_log.specs.Logged.{ToldCall, LogsAtEnd};
+ghost use Rattle.table.specs.Slices.{slicesOf};
+ghost use Rattle.probe_log.specs.Logged.{OpensTold, HearsTold, OpensLogged, HearsLogged};
 use wake_log::storing::Told;
 
 fn open_told(
@@ -23,11 +16,8 @@ fn open_told(
     used: usize,
     room: usize,
 ) -> Told
-    ensures { λ r. ⌜ ToldCall
-        (openFault (sliceFault 256 2048 (slicesOf number probes links (now (needs .entry)) (now (lows .entry)) (now (highs .entry)) (now (costs .entry))))
-        (ofSlices number probes links (now (needs .entry)) (now (lows .entry)) (now (highs .entry)) (now (costs .entry))) probe (now (rec .entry)) (room - used))
-        (ofSlices number probes links (now (needs .entry)) (now (lows .entry)) (now (highs .entry)) (now (costs .entry))) probe Opening
-        used room r (now (rec .entry)) (now (rec .exit)) ⌝ }
+    ensures { λ r. let x = slicesOf number probes links (now (needs .entry)) (now (lows .entry)) (now (highs .entry)) (now (costs .entry)) in
+        ⌜ OpensTold x probe used room r (now (rec .entry)) (now (rec .exit)) ⌝ }
 {
     let answer = probe::open(
         number,
@@ -58,12 +48,8 @@ fn hear_told(
     used: usize,
     room: usize,
 ) -> Told
-    ensures { λ r. ⌜ ToldCall
-        (hearFault (sliceFault 256 2048 (slicesOf number probes links (now (needs .entry)) (now (lows .entry)) (now (highs .entry)) (now (costs .entry))))
-        (ofSlices number probes links (now (needs .entry)) (now (lows .entry)) (now (highs .entry)) (now (costs .entry))) probe (now (rec .entry)) (now (frame .entry)) (room - used))
-        (ofSlices number probes links (now (needs .entry)) (now (lows .entry)) (now (highs .entry)) (now (costs .entry))) probe
-        (heardOf (ofSlices number probes links (now (needs .entry)) (now (lows .entry)) (now (highs .entry)) (now (costs .entry))) (frameOf (now (frame .entry))))
-        used room r (now (rec .entry)) (now (rec .exit)) ⌝ }
+    ensures { λ r. let x = slicesOf number probes links (now (needs .entry)) (now (lows .entry)) (now (highs .entry)) (now (costs .entry)) in
+        ⌜ HearsTold x probe (now (frame .entry)) used room r (now (rec .entry)) (now (rec .exit)) ⌝ }
 {
     let answer = probe::hear(
         number,
@@ -95,11 +81,8 @@ pub fn open_logged(
     log: &mut [wake_log::Entry],
     used: usize,
 ) -> wake_log::Answer
-    ensures { λ r. ⌜ LogsAtEnd
-        (openFault (sliceFault 256 2048 (slicesOf number probes links (now (needs .entry)) (now (lows .entry)) (now (highs .entry)) (now (costs .entry))))
-        (ofSlices number probes links (now (needs .entry)) (now (lows .entry)) (now (highs .entry)) (now (costs .entry))) probe (now (rec .entry)) (length (now (log .entry)) - used))
-        (ofSlices number probes links (now (needs .entry)) (now (lows .entry)) (now (highs .entry)) (now (costs .entry))) probe Opening
-        r (now (rec .entry)) (now (rec .exit)) used (now (log .entry)) (now (log .exit)) ⌝ }
+    ensures { λ r. let x = slicesOf number probes links (now (needs .entry)) (now (lows .entry)) (now (highs .entry)) (now (costs .entry)) in
+        ⌜ OpensLogged x probe r (now (rec .entry)) (now (rec .exit)) used (now (log .entry)) (now (log .exit)) ⌝ }
 {
     let t = open_told(
         number,
@@ -133,12 +116,8 @@ pub fn hear_logged(
     log: &mut [wake_log::Entry],
     used: usize,
 ) -> wake_log::Answer
-    ensures { λ r. ⌜ LogsAtEnd
-        (hearFault (sliceFault 256 2048 (slicesOf number probes links (now (needs .entry)) (now (lows .entry)) (now (highs .entry)) (now (costs .entry))))
-        (ofSlices number probes links (now (needs .entry)) (now (lows .entry)) (now (highs .entry)) (now (costs .entry))) probe (now (rec .entry)) (now (frame .entry)) (length (now (log .entry)) - used))
-        (ofSlices number probes links (now (needs .entry)) (now (lows .entry)) (now (highs .entry)) (now (costs .entry))) probe
-        (heardOf (ofSlices number probes links (now (needs .entry)) (now (lows .entry)) (now (highs .entry)) (now (costs .entry))) (frameOf (now (frame .entry))))
-        r (now (rec .entry)) (now (rec .exit)) used (now (log .entry)) (now (log .exit)) ⌝ }
+    ensures { λ r. let x = slicesOf number probes links (now (needs .entry)) (now (lows .entry)) (now (highs .entry)) (now (costs .entry)) in
+        ⌜ HearsLogged x probe (now (frame .entry)) r (now (rec .entry)) (now (rec .exit)) used (now (log .entry)) (now (log .exit)) ⌝ }
 {
     let t = hear_told(
         number,

@@ -1,22 +1,21 @@
--- The links that the searches answer. Searching in rising order: of two links of equal cost the later is the dearer.
-use Prim.Native.Nat.{ℕ, _<_}
-use mathlib.Core.Path.{_≡_, refl, sym, _∙_}
-use mathlib.Core.Logic.{_⊎_, inl, inr}
-use mathlib.Core.Bool.{Bool, true, false, _&&_, _||_}
+-- The links that the search answers.
+use Prim.Native.Nat.{ℕ, zero, suc, _+_, _*_, _≤_, _<_}
+use mathlib.Core.Path.{_≡_, refl, _∙_, ap}
+use mathlib.Core.Bool.{Bool, true, false, cond, _||_}
 use mathlib.Core.List.{List}
 use native.Mathlib.Nat.{le-refl}
 use native.Mathlib.Omega.{arith}
-use native.Mathlib.Decide.{decLt}
-use lib.Dec.{ltb, leb, eqb}
-use borrow.Author.Tests.{lt-ltb, le-ltb, le-leb, lt-leb, eq-eqb, ne-eqb, leb-true, leb-false}
-use Rattle.range.proofs.Bools.{or-cases, or-false-left, or-false-right}
+use lib.Dec.{leb, eqb}
+use borrow.Author.Tests.{lt-leb, leb-false}
+use Rattle.range.proofs.Bools.{or-false-left, or-false-right}
 use Rattle.range.proofs.Choice.{Best, best-is}
-use Rattle.table.specs.Table.{Table, dearer, cheaper}
-use Rattle.table.specs.Legal.{Legal}
+use Rattle.table.specs.Table.{Table, item, dearer, cheaper}
+use Rattle.table.specs.Legal.{Legal, RisingLinks}
+use Rattle.table.proofs.LegalLaws.{legal-table}
 use Rattle.plan_theory.proofs.Places.{Order, opposite}
 use Rattle.plan_theory.proofs.Order.{dearer-by-place, dearer-order}
-use Rattle.table.proofs.LegalLaws.{legal-table}
-use Rattle.probe_record.specs.Record.{outbound, inbound, ownWith, dearestUntried, cheapestHeld}
+use Rattle.table_links.specs.Order.{dearerAt}
+use Rattle.probe_record.specs.Record.{outbound, inbound, ownWith, dearestUntried, cheapestHeld, sideByte, sideBetter}
 
 module _ (t : Table) (legal : Legal t) (p : ℕ) (e : List ℕ) where
   abbrev order : Order (t .links) (dearer t)
@@ -30,44 +29,30 @@ module _ (t : Table) (legal : Legal t) (p : ℕ) (e : List ℕ) where
       let o = opposite order in
       best-is (cheaper t) (ownWith t p (inbound e) 1) (t .links) (o .irreflexive) (o .transitive) (t .links) (le-refl (t .links))
 
-module _ (t : Table) (legal : Legal t) (k b : ℕ) (l : k < t .links) where
-  later-dearer : b < k → dearer t k b ≡ leb (t .cost b) (t .cost k)
-  later-dearer m = dearer-by-place t (legal-table 256 2048 t legal .order) k b l (omega arith) ∙ rw (lt-ltb b k m) (go (decLt (t .cost b) (t .cost k)) (decLt (t .cost k) (t .cost b)))
+-- the byte that the code reads
+pub side-is : (value : ℕ) (e : List ℕ) (i : ℕ) → value ≤ 1 → item e (2 * i + value) ≡ sideByte value e i
+side-is zero e i l = ap (item e) (omega arith)
+side-is (suc zero) e i l = refl
+side-is (suc (suc n)) e i l = absurd (omega arith)
+
+-- the code's test of a link against the best so far
+module _ (t : Table) (order : RisingLinks t) (value k b : ℕ) (l : k < t .links) where
+  abbrev by-side : Bool
+  by-side = cond (eqb value 1) (dearerAt (t .cost) b k) (dearerAt (t .cost) k b)
+
+  better-is : b < t .links → sideBetter value t k b ≡ by-side
+  better-is m = go (eqb value 1)
     where
-      go : Dec (t .cost b < t .cost k) → Dec (t .cost k < t .cost b) → (ltb (t .cost b) (t .cost k) || (eqb (t .cost k) (t .cost b) && true)) ≡ leb (t .cost b) (t .cost k)
-      go (yes c) d = rw (lt-ltb (t .cost b) (t .cost k) c, le-leb (t .cost b) (t .cost k) (omega arith))
-      go (no c) (yes d) = rw (le-ltb (t .cost b) (t .cost k) (omega arith), lt-leb (t .cost b) (t .cost k) d, ne-eqb (t .cost k) (t .cost b) (λ e. omega arith))
-      go (no c) (no d) = rw (le-ltb (t .cost b) (t .cost k) (omega arith), le-leb (t .cost b) (t .cost k) (omega arith), eq-eqb (t .cost k) (t .cost b) (omega arith))
+      go : (c : Bool) → cond c (cheaper t) (dearer t) k b ≡ cond c (dearerAt (t .cost) b k) (dearerAt (t .cost) k b)
+      go true = dearer-by-place t order b k m l
+      go false = dearer-by-place t order k b l m
 
-  later-cheaper : b < k → dearer t b k ≡ ltb (t .cost k) (t .cost b)
-  later-cheaper m = dearer-by-place t (legal-table 256 2048 t legal .order) b k (omega arith) l ∙ rw (le-ltb k b (omega arith)) (go (eqb (t .cost b) (t .cost k)) (ltb (t .cost k) (t .cost b)))
-    where
-      go : (e c : Bool) → (c || (e && false)) ≡ c
-      go e true = refl
-      go true false = refl
-      go false false = refl
+  pub side-before : (leb (t .links) b || by-side) ≡ true → b < k → sideBetter value t k b ≡ true
+  side-before e m =
+      let below : b < t .links = omega arith in
+      better-is below ∙ (rw (lt-leb (t .links) b below) at e)
 
-  -- what the code's test says of the link k and the best so far
-  pub test-dearer : (r : Bool) → r ≡ (leb (t .links) b || leb (t .cost b) (t .cost k)) → r ≡ true → b < k → dearer t k b ≡ true
-  test-dearer r e f m = later-dearer m ∙ go (or-cases (leb (t .links) b) (leb (t .cost b) (t .cost k)) (sym e ∙ f))
-    where
-      go : (leb (t .links) b ≡ true) ⊎ (leb (t .cost b) (t .cost k) ≡ true) → leb (t .cost b) (t .cost k) ≡ true
-      go (inl a) = let c = leb-true (t .links) b a in absurd (omega arith)
-      go (inr a) = a
-
-  pub test-not-dearer : (r : Bool) → r ≡ (leb (t .links) b || leb (t .cost b) (t .cost k)) → r ≡ false → (b < t .links → b < k) → (b < t .links) × (dearer t k b ≡ false)
-  test-not-dearer r e f w =
-      let below : b < t .links = leb-false (t .links) b (or-false-left (leb (t .links) b) (leb (t .cost b) (t .cost k)) (sym e ∙ f)) in
-      (below, later-dearer (w below) ∙ or-false-right (leb (t .links) b) (leb (t .cost b) (t .cost k)) (sym e ∙ f))
-
-  pub test-cheaper : (r : Bool) → r ≡ (leb (t .links) b || ltb (t .cost k) (t .cost b)) → r ≡ true → b < k → dearer t b k ≡ true
-  test-cheaper r e f m = later-cheaper m ∙ go (or-cases (leb (t .links) b) (ltb (t .cost k) (t .cost b)) (sym e ∙ f))
-    where
-      go : (leb (t .links) b ≡ true) ⊎ (ltb (t .cost k) (t .cost b) ≡ true) → ltb (t .cost k) (t .cost b) ≡ true
-      go (inl a) = let c = leb-true (t .links) b a in absurd (omega arith)
-      go (inr a) = a
-
-  pub test-not-cheaper : (r : Bool) → r ≡ (leb (t .links) b || ltb (t .cost k) (t .cost b)) → r ≡ false → (b < t .links → b < k) → (b < t .links) × (dearer t b k ≡ false)
-  test-not-cheaper r e f w =
-      let below : b < t .links = leb-false (t .links) b (or-false-left (leb (t .links) b) (ltb (t .cost k) (t .cost b)) (sym e ∙ f)) in
-      (below, later-cheaper (w below) ∙ or-false-right (leb (t .links) b) (ltb (t .cost k) (t .cost b)) (sym e ∙ f))
+  pub side-behind : (leb (t .links) b || by-side) ≡ false → (b < t .links) × (sideBetter value t k b ≡ false)
+  side-behind e =
+      let below : b < t .links = leb-false (t .links) b (or-false-left (leb (t .links) b) by-side e) in
+      (below, better-is below ∙ or-false-right (leb (t .links) b) by-side e)

@@ -8,10 +8,8 @@ use native.Mathlib.Omega.{arith}
 use lib.Dec.{ltb, eqb}
 use borrow.Author.Tests.{ltb-true}
 use Rattle.range.proofs.Bools.{and-left, and-right, decided}
-use Rattle.table.specs.Legal.{Legal}
-use Rattle.table.proofs.LegalLaws.{legal-table}
 use Rattle.table.specs.Table.{Table, ofSlices, spare, dearer}
-use Rattle.probe_record.specs.Record.{outbound, inbound, standing, held, dearestUntried, cheapestHeld}
+use Rattle.probe_record.specs.Record.{outbound, inbound, standing, held, dearestUntried, cheapestHeld, bestOwn}
 use Rattle.probe_rules.specs.declared.Event.{Event}
 use Rattle.probe_rules.specs.declared.Event.the-variants.{Opening, Offer, Refusal}
 use Rattle.probe_rules.specs.declared.Outcome.{Outcome}
@@ -53,10 +51,10 @@ within-wider n m (Refused i) l w = omega arith
 within-wider n m (RefusalLearnt i) l w = omega arith
 within-wider n m (NoChange i) l w = omega arith
 
-pub few-links : (t : Table) → Legal t → t .links ≤ 65536
-few-links t legal =
-    let s = legal-table 256 2048 t legal .size in
-    omega (arith, s .within)
+pub event-wider : (n m : ℕ) (v : Event) → n ≤ m → EventWithin n v → EventWithin m v
+event-wider n m Opening l w = tt
+event-wider n m (Offer i) l w = omega arith
+event-wider n m (Refusal i) l w = omega arith
 
 -- what the entry and the outcome take from the table
 module _ (number probes links : ℕ) (needs lows highs costs : List ℕ) (p : ℕ) where
@@ -72,8 +70,14 @@ module _ (number probes links : ℕ) (needs lows highs costs : List ℕ) (p : �
   entry-same (RefusalLearnt i) = refl
   entry-same (NoChange i) = refl
 
-  pub befalls-same : (event : Event) (e : List ℕ) → befalls (ofSlices 0 probes links needs lows highs costs) p event e ≡ befalls table p event e
+  pub befalls-same : (event : Event) (e : List ℕ) → befalls (ofSlices 0 0 links needs lows highs costs) p event e ≡ befalls table p event e
   unfolding dearer
   befalls-same Opening e = refl
   befalls-same (Offer i) e = refl
   befalls-same (Refusal i) e = refl
+
+-- the best own link does not hang on the needs
+pub best-same : (value links : ℕ) (needs lows highs costs : List ℕ) (p : ℕ) (e : List ℕ)
+    → bestOwn value (ofSlices 0 0 links [] lows highs costs) p e ≡ bestOwn value (ofSlices 0 0 links needs lows highs costs) p e
+unfolding dearer
+best-same value links needs lows highs costs p e = refl

@@ -6,7 +6,6 @@ use mathlib.Core.List.{List}
 use lib.ListN.{length}
 use Rattle.range.specs.First.{first}
 use Rattle.table.specs.Table.{Table, touches}
-use Rattle.table.specs.Legal.{Legal}
 use Rattle.probe_record.specs.Record.{byteFault}
 use Rattle.probe_rules.specs.declared.Event.{Event}
 use Rattle.probe_rules.specs.declared.Event.the-variants.{Opening, Offer, Refusal}
@@ -46,11 +45,7 @@ OwnOutcome t p (Refused i) = OwnLink t p i
 OwnOutcome t p (RefusalLearnt i) = OwnLink t p i
 OwnOutcome t p (NoChange i) = Unit
 
--- a legal table in slices of these lengths, and a record that 21 lets pass
-pub record EndReady (t : Table) (p : ℕ) (e : List ℕ) (lows highs costs : ℕ) : Type 0 where
-  pub legal : Legal t
-  pub in-lows : t .links ≤ lows
-  pub in-highs : t .links ≤ highs
-  pub in-costs : t .links ≤ costs
+-- a record with room for the links, that 21 lets pass
+pub record EndReady (t : Table) (p : ℕ) (e : List ℕ) : Type 0 where
   pub room : 2 * t .links ≤ length e
   pub bytes : first (byteFault t p e) (t .links) ≡ 0

@@ -2,8 +2,8 @@
 use table_links::order::dearer;
 ghost use mathlib.Core.Path.{_≡_};
 ghost use Prim.Native.Nat.{_<_};
-ghost use lib.ListN.{length};
 ghost use Rattle.table.specs.Table.{ofSlices};
+ghost use Rattle.table_links.specs.Order.{OrderedLinks};
 ghost use Rattle.probe_rules.specs.Rules.{opening, offer, befalls};
 ghost use Rattle.probe_rules.specs.Within.{EventWithin, EndReady};
 use super::Event;
@@ -11,7 +11,6 @@ use super::Outcome;
 
 fn decide_opening(
     rec: &[u8],
-    probes: usize,
     links: usize,
     needs: &[u16],
     lows: &[u16],
@@ -19,23 +18,16 @@ fn decide_opening(
     costs: &[u16],
     probe: usize,
 ) -> Outcome
-    requires { ⌜ EndReady (ofSlices 0 probes links (now needs) (now lows) (now highs) (now costs)) probe (now rec) (length (now lows)) (length (now highs)) (length (now costs)) ⌝ }
-    ensures { λ r. ⌜ r ≡ opening (ofSlices 0 probes links (now (needs .entry)) (now (lows .entry)) (now (highs .entry)) (now (costs .entry))) probe (now (rec .entry)) ⌝ }
+    requires { let t = ofSlices 0 0 links (now needs) (now lows) (now highs) (now costs) in
+        ⌜ OrderedLinks links (now lows) (now highs) (now costs) × EndReady t probe (now rec) ⌝ }
+    ensures { λ r. let t = ofSlices 0 0 links (now (needs .entry)) (now (lows .entry)) (now (highs .entry)) (now (costs .entry)) in
+        ⌜ r ≡ opening t probe (now (rec .entry)) ⌝ }
 {
     let spare = table_links::spares::spare(links, needs, lows, highs, probe);
     if spare <= probe_record::counts::ones(rec, links, 0) {
         return Outcome::NothingToOpen;
     }
-    let i = probe_record::search::dearest_untried(
-        rec,
-        probes,
-        links,
-        needs,
-        lows,
-        highs,
-        costs,
-        probe,
-    );
+    let i = probe_record::search::best_own(0, rec, links, lows, highs, costs, probe);
     if links <= i {
         return Outcome::NothingToOpen;
     }
@@ -44,7 +36,6 @@ fn decide_opening(
 
 fn decide_offer(
     rec: &[u8],
-    probes: usize,
     links: usize,
     needs: &[u16],
     lows: &[u16],
@@ -53,23 +44,16 @@ fn decide_offer(
     probe: usize,
     i: usize,
 ) -> Outcome
-    requires { ⌜ EndReady (ofSlices 0 probes links (now needs) (now lows) (now highs) (now costs)) probe (now rec) (length (now lows)) (length (now highs)) (length (now costs)) × (i < links) ⌝ }
-    ensures { λ r. ⌜ r ≡ offer (ofSlices 0 probes links (now (needs .entry)) (now (lows .entry)) (now (highs .entry)) (now (costs .entry))) probe (now (rec .entry)) i ⌝ }
+    requires { let t = ofSlices 0 0 links (now needs) (now lows) (now highs) (now costs) in
+        ⌜ OrderedLinks links (now lows) (now highs) (now costs) × EndReady t probe (now rec) × (i < links) ⌝ }
+    ensures { λ r. let t = ofSlices 0 0 links (now (needs .entry)) (now (lows .entry)) (now (highs .entry)) (now (costs .entry)) in
+        ⌜ r ≡ offer t probe (now (rec .entry)) i ⌝ }
 {
     let spare = table_links::spares::spare(links, needs, lows, highs, probe);
     if probe_record::counts::ones(rec, links, 1) < spare {
         return Outcome::Taken(i);
     }
-    let displaced = probe_record::search::cheapest_held(
-        rec,
-        probes,
-        links,
-        needs,
-        lows,
-        highs,
-        costs,
-        probe,
-    );
+    let displaced = probe_record::search::best_own(1, rec, links, lows, highs, costs, probe);
     if links <= displaced {
         return Outcome::Refused(i);
     }
@@ -83,7 +67,6 @@ fn decide_offer(
 pub fn decide(
     event: Event,
     rec: &[u8],
-    probes: usize,
     links: usize,
     needs: &[u16],
     lows: &[u16],
@@ -91,16 +74,18 @@ pub fn decide(
     costs: &[u16],
     probe: usize,
 ) -> Outcome
-    requires { ⌜ EndReady (ofSlices 0 probes links (now needs) (now lows) (now highs) (now costs)) probe (now rec) (length (now lows)) (length (now highs)) (length (now costs)) × EventWithin links event ⌝ }
-    ensures { λ r. ⌜ r ≡ befalls (ofSlices 0 probes links (now (needs .entry)) (now (lows .entry)) (now (highs .entry)) (now (costs .entry))) probe event (now (rec .entry)) ⌝ }
+    requires { let t = ofSlices 0 0 links (now needs) (now lows) (now highs) (now costs) in
+        ⌜ OrderedLinks links (now lows) (now highs) (now costs) × EndReady t probe (now rec) × EventWithin links event ⌝ }
+    ensures { λ r. let t = ofSlices 0 0 links (now (needs .entry)) (now (lows .entry)) (now (highs .entry)) (now (costs .entry)) in
+        ⌜ r ≡ befalls t probe event (now (rec .entry)) ⌝ }
 {
     match event {
-        Event::Opening => decide_opening(rec, probes, links, needs, lows, highs, costs, probe),
+        Event::Opening => decide_opening(rec, links, needs, lows, highs, costs, probe),
         Event::Offer(i) => {
             if rec[2 * i + 1] != 0 {
                 return Outcome::NoChange(i);
             }
-            decide_offer(rec, probes, links, needs, lows, highs, costs, probe, i)
+            decide_offer(rec, links, needs, lows, highs, costs, probe, i)
         }
         Event::Refusal(i) => {
             if rec[2 * i] == 2 {

@@ -6,9 +6,13 @@ use mathlib.Core.Bool.{cond}
 use mathlib.Core.List.{List, _∷_, _++_}
 use lib.Dec.{eqb}
 use lib.ListN.{length, drop}
+use Rattle.range.specs.First.{orElse}
 use Rattle.table.specs.Table.{item}
-use Rattle.script_theory.specs.Script.{Script}
+use Rattle.table.specs.Legal.{lentFault}
+use Rattle.table.specs.Slices.{Slices}
+use Rattle.script_theory.specs.Script.{Script, afterPiece}
 use Rattle.script_steps.specs.declared.Progress.{Progress}
+use Rattle.script_output.specs.Handling.{before, pieceCallFault}
 use Rattle.packed_answers.specs.Packed.{packedOutput, printedOf}
 
 -- the three numbers of a script's progress: entries used, bytes held, changes
@@ -22,3 +26,8 @@ pub record PiecePacked (fault : ℕ) (q : Script) (r : ℕ) (rec rec′ line lin
   pub record-after : rec′ ≡ cond (eqb fault 0) (q .bytes) rec
   pub line-after : line′ ≡ cond (eqb fault 0) (q .held ++ drop (length (q .held)) line) line
   pub out-after : out′ ≡ cond (eqb fault 0) (q .out ++ drop (length (q .out)) out) out
+
+abbrev pub HandlesPiecePacked : Slices → List ℕ → ℕ → List ℕ → List ℕ → List ℕ → List ℕ → List ℕ → List ℕ → List ℕ → List ℕ → Type 0
+HandlesPiecePacked x piece r rec rec′ line line′ numbers numbers′ out out′ =
+    PiecePacked (orElse (lentFault (length numbers) 3) (pieceCallFault x (progressOf numbers) piece rec line out))
+    (afterPiece x 1024 (before (progressOf numbers) rec line) piece) r rec rec′ line line′ numbers numbers′ out out′

@@ -1,15 +1,9 @@
 // The library of scripts for C and Rust: whole, in pieces, and the end.
-ghost use mathlib.Core.Bool.{cond};
-ghost use Prim.Native.Nat.{_+_, _*_};
-ghost use lib.Dec.{ltb};
-ghost use lib.ListN.{length, take};
-ghost use Rattle.range.specs.First.{orElse};
-ghost use Rattle.table.specs.Table.{item};
 ghost use Rattle.table.specs.Slices.{slicesOf};
-ghost use Rattle.script_theory.specs.Script.{afterPiece, endText, scriptOutput};
-ghost use Rattle.script_output.specs.Handling.{callFault, pieceFault, before};
+ghost use Rattle.script_theory.specs.Script.{endText, scriptOutput};
+ghost use Rattle.script_output.specs.Handling.{endCallFault, textCallFault};
 ghost use Rattle.packed_answers.specs.Packed.{PrintsPacked};
-ghost use Rattle.script_exports.specs.Packed.{PiecePacked, progressOf};
+ghost use Rattle.script_exports.specs.Packed.{HandlesPiecePacked};
 use packed_answers::ANSWER_BASE;
 use packed_answers::printed::packed_output;
 use script_output::Handling;
@@ -18,8 +12,7 @@ use script_steps::Progress;
 // `script_output::script_text`, its answer packed.
 #[no_mangle]
 pub extern "C" fn planner_script_text(text: &[u8], out: &mut [u8]) -> u64
-    ensures { λ r. ⌜ PrintsPacked (cond (ltb (length (now (out .entry))) (5 * length (now (text .entry)) + 5)) 8 0) (scriptOutput (now (text .entry)))
-        r (now (out .entry)) (now (out .exit)) ⌝ }
+    ensures { λ r. ⌜ PrintsPacked (textCallFault (now (text .entry)) (now (out .entry))) (scriptOutput (now (text .entry))) r (now (out .entry)) (now (out .exit)) ⌝ }
 {
     packed_output(script_output::script_text(text, out))
 }
@@ -40,13 +33,9 @@ pub extern "C" fn planner_script_piece(
     piece: &[u8],
     out: &mut [u8],
 ) -> u64
-    ensures { λ r. ⌜ PiecePacked
-        (orElse (cond (ltb (length (now (numbers .entry))) 3) 8 0)
-        (callFault (pieceFault (length (now (line .entry))) (length (now (out .entry))) (length (take (item (now (numbers .entry)) 1) (take 16 (now (line .entry))))) (length (now (piece .entry))))
-        (slicesOf number probes links (now (needs .entry)) (now (lows .entry)) (now (highs .entry)) (now (costs .entry))) (now (rec .entry))))
-        (afterPiece (slicesOf number probes links (now (needs .entry)) (now (lows .entry)) (now (highs .entry)) (now (costs .entry))) 1024
-        (before (progressOf (now (numbers .entry))) (now (rec .entry)) (now (line .entry))) (now (piece .entry)))
-        r (now (rec .entry)) (now (rec .exit)) (now (line .entry)) (now (line .exit)) (now (numbers .entry)) (now (numbers .exit)) (now (out .entry)) (now (out .exit)) ⌝ }
+    ensures { λ r. let x = slicesOf number probes links (now (needs .entry)) (now (lows .entry)) (now (highs .entry)) (now (costs .entry)) in
+        ⌜ HandlesPiecePacked x (now (piece .entry)) r (now (rec .entry)) (now (rec .exit)) (now (line .entry)) (now (line .exit))
+        (now (numbers .entry)) (now (numbers .exit)) (now (out .entry)) (now (out .exit)) ⌝ }
 {
     if numbers.len() < 3 {
         return 8;
@@ -99,10 +88,8 @@ pub extern "C" fn planner_script_end(
     changed: u32,
     out: &mut [u8],
 ) -> u64
-    ensures { λ r. ⌜ PrintsPacked
-        (callFault (cond (ltb (length (now (out .entry))) 16) 8 0) (slicesOf number probes links (now (needs .entry)) (now (lows .entry)) (now (highs .entry)) (now (costs .entry))) (now (rec .entry)))
-        (endText (slicesOf number probes links (now (needs .entry)) (now (lows .entry)) (now (highs .entry)) (now (costs .entry))) (now (rec .entry)) held changed)
-        r (now (out .entry)) (now (out .exit)) ⌝ }
+    ensures { λ r. let x = slicesOf number probes links (now (needs .entry)) (now (lows .entry)) (now (highs .entry)) (now (costs .entry)) in
+        ⌜ PrintsPacked (endCallFault x (now (rec .entry)) (now (out .entry))) (endText x (now (rec .entry)) held changed) r (now (out .entry)) (now (out .exit)) ⌝ }
 {
     let progress = Progress {
         used: 0,

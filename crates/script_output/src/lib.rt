@@ -3,13 +3,13 @@ use output::Output;
 use script_steps::Progress;
 ghost use mathlib.Core.Path.{_≡_};
 ghost use mathlib.Core.Bool.{cond};
-ghost use Prim.Native.Nat.{ℕ, _+_, _*_};
+ghost use Prim.Native.Nat.{ℕ};
 ghost use lib.Dec.{ltb};
-ghost use lib.ListN.{length, take};
+ghost use lib.ListN.{length};
 ghost use Rattle.output.specs.Output.{Prints};
 ghost use Rattle.table.specs.Slices.{slicesOf};
-ghost use Rattle.script_theory.specs.Script.{afterPiece, endText, scriptOutput};
-ghost use Rattle.script_output.specs.Handling.{callFault, pieceFault, before, Handles};
+ghost use Rattle.script_theory.specs.Script.{endText, scriptOutput};
+ghost use Rattle.script_output.specs.Handling.{callFault, pieceFault, HandlesPiece, endCallFault, textCallFault};
 
 // A piece's answer: the length printed and how far the script has come, or the number of the refusal.
 pub enum Handling {
@@ -87,12 +87,8 @@ pub fn script_piece(
     piece: &[u8],
     out: &mut [u8],
 ) -> Handling
-    ensures { λ r. ⌜ Handles
-        (callFault (pieceFault (length (now (line .entry))) (length (now (out .entry))) (length (take (progress .held) (take 16 (now (line .entry))))) (length (now (piece .entry))))
-        (slicesOf number probes links (now (needs .entry)) (now (lows .entry)) (now (highs .entry)) (now (costs .entry))) (now (rec .entry)))
-        (afterPiece (slicesOf number probes links (now (needs .entry)) (now (lows .entry)) (now (highs .entry)) (now (costs .entry))) 1024
-        (before progress (now (rec .entry)) (now (line .entry))) (now (piece .entry)))
-        r (now (rec .entry)) (now (rec .exit)) (now (line .entry)) (now (line .exit)) (now (out .entry)) (now (out .exit)) ⌝ }
+    ensures { λ r. let x = slicesOf number probes links (now (needs .entry)) (now (lows .entry)) (now (highs .entry)) (now (costs .entry)) in
+        ⌜ HandlesPiece x progress (now (piece .entry)) r (now (rec .entry)) (now (rec .exit)) (now (line .entry)) (now (line .exit)) (now (out .entry)) (now (out .exit)) ⌝ }
 {
     let begun = begun(progress);
     let short = piece_fault(line.len(), out.len(), begun.held, piece);
@@ -137,11 +133,8 @@ pub fn script_end(
     progress: Progress,
     out: &mut [u8],
 ) -> Output
-    ensures { λ r. ⌜ Prints
-        (callFault (cond (ltb (length (now (out .entry))) 16) 8 0)
-        (slicesOf number probes links (now (needs .entry)) (now (lows .entry)) (now (highs .entry)) (now (costs .entry))) (now (rec .entry)))
-        (endText (slicesOf number probes links (now (needs .entry)) (now (lows .entry)) (now (highs .entry)) (now (costs .entry))) (now (rec .entry)) (progress .held) (progress .changed))
-        r (now (out .entry)) (now (out .exit)) ⌝ }
+    ensures { λ r. let x = slicesOf number probes links (now (needs .entry)) (now (lows .entry)) (now (highs .entry)) (now (costs .entry)) in
+        ⌜ Prints (endCallFault x (now (rec .entry)) (now (out .entry))) (endText x (now (rec .entry)) (progress .held) (progress .changed)) r (now (out .entry)) (now (out .exit)) ⌝ }
 {
     if out.len() < 16 {
         return Output::Refused(8);
@@ -166,8 +159,7 @@ pub fn script_end(
 
 // Prints what a whole text prints: a table and, behind its closing line, the script.
 pub fn script_text(text: &[u8], out: &mut [u8]) -> Output
-    ensures { λ r. ⌜ Prints (cond (ltb (length (now (out .entry))) (5 * length (now (text .entry)) + 5)) 8 0) (scriptOutput (now (text .entry)))
-        r (now (out .entry)) (now (out .exit)) ⌝ }
+    ensures { λ r. ⌜ Prints (textCallFault (now (text .entry)) (now (out .entry))) (scriptOutput (now (text .entry))) r (now (out .entry)) (now (out .exit)) ⌝ }
 {
     if out.len() / 5 < text.len() + 1 {
         return Output::Refused(8);

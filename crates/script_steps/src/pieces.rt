@@ -59,11 +59,12 @@ fn answer_line(
     out: &mut [u8],
     place: Place,
 ) -> Place
-    requires { ⌜ (slicesFault (slicesOf number probes links (now needs) (now lows) (now highs) (now costs)) ≡ 0)
-        × (fleetFault (tableOf (slicesOf number probes links (now needs) (now lows) (now highs) (now costs))) (now rec) ≡ 0)
+    requires { let x = slicesOf number probes links (now needs) (now lows) (now highs) (now costs) in
+        ⌜ (slicesFault x ≡ 0) × (fleetFault (tableOf x) (now rec) ≡ 0)
         × (place .at + 5 * length (now line) ≤ length (now out)) × (5 ≤ 5 * length (now line)) ⌝ }
-    ensures { λ r. ⌜ Buffered (afterLine (slicesOf number probes links (now (needs .entry)) (now (lows .entry)) (now (highs .entry)) (now (costs .entry)))
-        1024 (underWay (place .progress) (now (rec .entry)) []) (now (line .entry))) (place .at) r (now (rec .exit)) [] (now (out .entry)) (now (out .exit)) ⌝ }
+    ensures { λ r. let x = slicesOf number probes links (now (needs .entry)) (now (lows .entry)) (now (highs .entry)) (now (costs .entry)) in
+        ⌜ Buffered (afterLine x 1024 (underWay (place .progress) (now (rec .entry)) []) (now (line .entry)))
+        (place .at) r (now (rec .exit)) [] (now (out .entry)) (now (out .exit)) ⌝ }
 {
     let progress = place.progress;
     let answer = fleet::steps::handle_line(
@@ -114,11 +115,12 @@ fn take_byte(
     out: &mut [u8],
     place: Place,
 ) -> Place
-    requires { ⌜ (slicesFault (slicesOf number probes links (now needs) (now lows) (now highs) (now costs)) ≡ 0)
-        × (fleetFault (tableOf (slicesOf number probes links (now needs) (now lows) (now highs) (now costs))) (now rec) ≡ 0)
+    requires { let x = slicesOf number probes links (now needs) (now lows) (now highs) (now costs) in
+        ⌜ (slicesFault x ≡ 0) × (fleetFault (tableOf x) (now rec) ≡ 0)
         × (place .progress .held ≤ 16) × (length (now line) ≡ 17) × (place .at + 5 * (place .progress .held + 1) ≤ length (now out)) ⌝ }
-    ensures { λ r. ⌜ Buffered (afterByte (slicesOf number probes links (now (needs .entry)) (now (lows .entry)) (now (highs .entry)) (now (costs .entry)))
-        1024 (underWay (place .progress) (now (rec .entry)) (now (line .entry))) byte) (place .at) r (now (rec .exit)) (now (line .exit)) (now (out .entry)) (now (out .exit)) ⌝ }
+    ensures { λ r. let x = slicesOf number probes links (now (needs .entry)) (now (lows .entry)) (now (highs .entry)) (now (costs .entry)) in
+        ⌜ Buffered (afterByte x 1024 (underWay (place .progress) (now (rec .entry)) (now (line .entry))) byte)
+        (place .at) r (now (rec .exit)) (now (line .exit)) (now (out .entry)) (now (out .exit)) ⌝ }
 {
     let progress = place.progress;
     let held = progress.held as usize;
@@ -163,11 +165,12 @@ pub fn take_piece(
     piece: &[u8],
     out: &mut [u8],
 ) -> Place
-    requires { ⌜ (slicesFault (slicesOf number probes links (now needs) (now lows) (now highs) (now costs)) ≡ 0)
-        × (fleetFault (tableOf (slicesOf number probes links (now needs) (now lows) (now highs) (now costs))) (now rec) ≡ 0)
+    requires { let x = slicesOf number probes links (now needs) (now lows) (now highs) (now costs) in
+        ⌜ (slicesFault x ≡ 0) × (fleetFault (tableOf x) (now rec) ≡ 0)
         × (progress .held ≤ 16) × (length (now line) ≡ 17) × (5 * (progress .held + length (now piece)) ≤ length (now out)) ⌝ }
-    ensures { λ r. ⌜ Buffered (afterPiece (slicesOf number probes links (now (needs .entry)) (now (lows .entry)) (now (highs .entry)) (now (costs .entry)))
-        1024 (underWay progress (now (rec .entry)) (now (line .entry))) (now (piece .entry))) 0 r (now (rec .exit)) (now (line .exit)) (now (out .entry)) (now (out .exit))
+    ensures { λ r. let x = slicesOf number probes links (now (needs .entry)) (now (lows .entry)) (now (highs .entry)) (now (costs .entry)) in
+        ⌜ Buffered (afterPiece x 1024 (underWay progress (now (rec .entry)) (now (line .entry))) (now (piece .entry)))
+        0 r (now (rec .exit)) (now (line .exit)) (now (out .entry)) (now (out .exit))
         × (r .at + 5 * r .progress .held ≤ 5 * (progress .held + length (now (piece .entry)))) × (r .progress .held ≤ 16) ⌝ }
 {
     let mut place = Place { at: 0, progress };
@@ -240,11 +243,11 @@ pub fn print_script(
     text: &[u8],
     out: &mut [u8],
 ) -> usize
-    requires { ⌜ (slicesFault (slicesOf number probes links (now needs) (now lows) (now highs) (now costs)) ≡ 0) × (5 * length (now text) + 16 ≤ length (now out)) ⌝ }
-    ensures { λ r. ⌜ (now (out .exit) ≡ sets (now (out .entry)) 0
-        (scriptText (slicesOf number probes links (now (needs .entry)) (now (lows .entry)) (now (highs .entry)) (now (costs .entry))) 1024 (now (text .entry))))
-        × (r ≡ length (scriptText (slicesOf number probes links (now (needs .entry)) (now (lows .entry)) (now (highs .entry)) (now (costs .entry))) 1024 (now (text .entry))))
-        × (r ≤ length (now (out .entry))) ⌝ }
+    requires { let x = slicesOf number probes links (now needs) (now lows) (now highs) (now costs) in
+        ⌜ (slicesFault x ≡ 0) × (5 * length (now text) + 16 ≤ length (now out)) ⌝ }
+    ensures { λ r. let x = slicesOf number probes links (now (needs .entry)) (now (lows .entry)) (now (highs .entry)) (now (costs .entry)) in
+        let printed = scriptText x 1024 (now (text .entry)) in
+        ⌜ (now (out .exit) ≡ sets (now (out .entry)) 0 printed) × (r ≡ length printed) × (r ≤ length (now (out .entry))) ⌝ }
 {
     let mut bytes = [0u8; 8192];
     let mut line = [0u8; 17];

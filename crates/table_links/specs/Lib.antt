@@ -1,1 +1,2 @@
 pub mod RisingSlices
+pub mod Order

@@ -1,31 +1,11 @@
-// The functions, each within the bounds that it asks.
+// The order of the links in slices: in a legal table the later of two links of equal cost is the dearer.
 ghost use mathlib.Core.Path.{_≡_};
-ghost use mathlib.Core.Bool.{_||_, _&&_};
+ghost use mathlib.Core.Bool.{cond, _||_, _&&_};
 ghost use Prim.Native.Nat.{_<_, _≤_};
 ghost use lib.Dec.{ltb, leb, eqb};
 ghost use lib.ListN.{length};
 ghost use Rattle.table.specs.Table.{item};
-
-// Whether the link k goes before the best so far, among links in rising order; `best` is `links` where there is none yet.
-pub fn dearer_later(costs: &[u16], links: usize, k: usize, best: usize) -> bool
-    requires { ⌜ (links ≤ length (now costs)) × (k < links) ⌝ }
-    ensures { λ r. ⌜ r ≡ (leb links best || leb (item (now (costs .entry)) best) (item (now (costs .entry)) k)) ⌝ }
-{
-    if links <= best {
-        return true;
-    }
-    costs[best] <= costs[k]
-}
-
-pub fn cheaper_later(costs: &[u16], links: usize, k: usize, best: usize) -> bool
-    requires { ⌜ (links ≤ length (now costs)) × (k < links) ⌝ }
-    ensures { λ r. ⌜ r ≡ (leb links best || ltb (item (now (costs .entry)) k) (item (now (costs .entry)) best)) ⌝ }
-{
-    if links <= best {
-        return true;
-    }
-    costs[k] < costs[best]
-}
+ghost use Rattle.table_links.specs.Order.{dearerAt};
 
 // Whether the link i is dearer than the link j.
 pub fn dearer(costs: &[u16], i: usize, j: usize) -> bool
@@ -39,4 +19,19 @@ pub fn dearer(costs: &[u16], i: usize, j: usize) -> bool
         return false;
     }
     j < i
+}
+
+// Whether the link k goes before the best so far, as the cheapest or as the dearest; `best` is `links` where there is none yet.
+pub fn goes_before(cheapest: bool, costs: &[u16], links: usize, k: usize, best: usize) -> bool
+    requires { ⌜ (links ≤ length (now costs)) × (k < links) ⌝ }
+    ensures { λ r. let cost = item (now (costs .entry)) in
+        ⌜ r ≡ (leb links best || cond cheapest (dearerAt cost best k) (dearerAt cost k best)) ⌝ }
+{
+    if links <= best {
+        return true;
+    }
+    if cheapest {
+        return dearer(costs, best, k);
+    }
+    dearer(costs, k, best)
 }

@@ -8,6 +8,7 @@ use Rattle.table.specs.Slices.{sliceFault, slicesOf}
 use Rattle.table.proofs.Slices.{legal-slices}
 use Rattle.table_links.proofs.Search.{ordered}
 use Rattle.probe_rules.specs.Frames.{heardOf}
+use Rattle.table_links.proofs.OrderedLinks.{ordered-links}
 use Rattle.probe_rules.proofs.Ready.{ready}
 use Rattle.probe_frame.specs.Frame.{frameOf}
 use Rattle.probe_checks.proofs.Accepted.{hear-parts, heard-frame, heard-within}
@@ -36,7 +37,7 @@ apply-requires c κs =
     let t : Table = ofSlices (a .number) (a .probes) (a .links) (a .needs .now) (a .lows .now) (a .highs .now) (a .costs .now) in
     let s = sliceFault 256 2048 (slicesOf 0 (a .probes) (a .links) (a .needs .now) (a .lows .now) (a .highs .now) (a .costs .now)) in
     let p = hear-parts s t (a .probe) (a .rec .now) (a .frame .now) (a .free) (sym (c .before .before .before .hear-fault .ensures) ∙ c .before .before .if1 .left) in
-    (ready 0 (a .probes) (a .links) (a .needs .now) (a .lows .now) (a .highs .now) (a .costs .now) (a .probe) (a .rec .now) (legal-slices 256 2048 (slicesOf 0 (a .probes) (a .links) (a .needs .now) (a .lows .now) (a .highs .now) (a .costs .now)) (p .0)) (p .1), rw (c .before .event-of .ensures) (heard-within t (a .probe) (a .frame .now) (p .2)))
+    (ordered-links (slicesOf 0 (a .probes) (a .links) (a .needs .now) (a .lows .now) (a .highs .now) (a .costs .now)) (legal-slices 256 2048 (slicesOf 0 (a .probes) (a .links) (a .needs .now) (a .lows .now) (a .highs .now) (a .costs .now)) (p .0)), ready 0 (a .probes) (a .links) (a .needs .now) (a .lows .now) (a .highs .now) (a .costs .now) (a .probe) (a .rec .now) (p .1), rw (c .before .event-of .ensures) (heard-within t (a .probe) (a .frame .now) (p .2)))
 
 same-length-2 : tie.Need-same-length-2
 same-length-2 c = search needs

@@ -7,6 +7,7 @@ use Rattle.table.specs.Table.{Table, ofSlices}
 use Rattle.table.specs.Slices.{sliceFault, slicesOf}
 use Rattle.table.proofs.Slices.{legal-slices}
 use Rattle.probe_rules.specs.declared.Event.the-variants.{Opening}
+use Rattle.table_links.proofs.OrderedLinks.{ordered-links}
 use Rattle.probe_rules.proofs.Ready.{ready}
 use Rattle.probe_checks.specs.Checks.{openFault}
 use Rattle.probe_checks.proofs.Accepted.{open-parts}
@@ -29,7 +30,7 @@ apply-requires c κs =
     let t : Table = ofSlices 0 (a .probes) (a .links) (a .needs .now) (a .lows .now) (a .highs .now) (a .costs .now) in
     let s = sliceFault 256 2048 (slicesOf 0 (a .probes) (a .links) (a .needs .now) (a .lows .now) (a .highs .now) (a .costs .now)) in
     let p = open-parts s t (a .probe) (a .rec .now) (a .free) (sym (c .before .before .open-fault .ensures) ∙ c .before .if1 .left) in
-    (ready 0 (a .probes) (a .links) (a .needs .now) (a .lows .now) (a .highs .now) (a .costs .now) (a .probe) (a .rec .now) (legal-slices 256 2048 (slicesOf 0 (a .probes) (a .links) (a .needs .now) (a .lows .now) (a .highs .now) (a .costs .now)) (p .0)) (p .1), tt)
+    (ordered-links (slicesOf 0 (a .probes) (a .links) (a .needs .now) (a .lows .now) (a .highs .now) (a .costs .now)) (legal-slices 256 2048 (slicesOf 0 (a .probes) (a .links) (a .needs .now) (a .lows .now) (a .highs .now) (a .costs .now)) (p .0)), ready 0 (a .probes) (a .links) (a .needs .now) (a .lows .now) (a .highs .now) (a .costs .now) (a .probe) (a .rec .now) (p .1), tt)
 
 same-length-2 : tie.Need-same-length-2
 same-length-2 c = search needs

@@ -22,14 +22,15 @@ enum-known-event c = search needs
 out-byte-requires : tie.Need-out-byte-requires
 out-byte-requires c κs =
     let p = c .before .before .before .before .before .before .pre in
-    let w = rw (c .before .event .given .1) at (p .0) in
-    (omega (arith, p .2), omega (arith, p .3), omega (arith, p .4), omega (arith, p .1))
+    let is = c .before .event .given .1 in
+    let w = rw is at (p .3) in
+    (rw is at (p .0), rw is at (p .1), rw is at (p .2), omega arith)
 
 returns : tie.Need-returns
-returns c =
+returns c links v =
     let a = c .before .before .before .before .before .before .before .before .args in
-    let w = rw (c .before .before .before .event .given .1) at (c .before .before .before .before .before .before .before .before .pre .0) in
-    let b = out-is (table (a .links) (a .lows .now) (a .highs .now)) (a .from) (a .rec .now) _ w in
+    let w = rw (c .before .before .before .event .given .1) at v in
+    let b = out-is (table links (a .lows .now) (a .highs .now)) (a .from) (a .rec .now) _ w in
     rw (c .before .before .before .event .given .1, b ∙ sym (c .before .out-byte .ensures), eq-eqb _ _ (c .if1 .taken))
 
 enum-known-event-2 : tie.Need-enum-known-event-2
@@ -38,31 +39,32 @@ enum-known-event-2 c = search needs
 in-byte-requires : tie.Need-in-byte-requires
 in-byte-requires c κs =
     let p = c .before .before .before .before .before .before .pre in
-    let w = rw (c .before .event2 .given .1) at (p .0) in
-    (omega (arith, p .2), omega (arith, p .3), omega (arith, p .4), omega (arith, p .1))
+    let is = c .before .event2 .given .1 in
+    let w = rw is at (p .3) in
+    (rw is at (p .0), rw is at (p .1), rw is at (p .2), omega arith)
 
 returns-2 : tie.Need-returns-2
-returns-2 c =
+returns-2 c links v =
     let a = c .before .before .before .before .before .before .before .before .args in
-    let w = rw (c .before .before .before .event2 .given .1) at (c .before .before .before .before .before .before .before .before .pre .0) in
-    let b = in-is (table (a .links) (a .lows .now) (a .highs .now)) (a .from) (a .rec .now) _ w in
+    let w = rw (c .before .before .before .event2 .given .1) at v in
+    let b = in-is (table links (a .lows .now) (a .highs .now)) (a .from) (a .rec .now) _ w in
     rw (c .before .before .before .event2 .given .1, b ∙ sym (c .before .in-byte .ensures), eq-eqb _ _ (c .if2 .taken))
 
 returns-3 : tie.Need-returns-3
-returns-3 c = rw (c .enum-told .given .1)
+returns-3 c links v = rw (c .enum-told .given .1)
 
 returns-4 : tie.Need-returns-4
-returns-4 c =
+returns-4 c links v =
     let a = c .before .before .before .before .before .before .before .before .args in
-    let w = rw (c .before .before .before .event .given .1) at (c .before .before .before .before .before .before .before .before .pre .0) in
-    let b = out-is (table (a .links) (a .lows .now) (a .highs .now)) (a .from) (a .rec .now) _ w in
+    let w = rw (c .before .before .before .event .given .1) at v in
+    let b = out-is (table links (a .lows .now) (a .highs .now)) (a .from) (a .rec .now) _ w in
     rw (c .before .before .before .event .given .1, b ∙ sym (c .before .out-byte .ensures), ne-eqb _ _ (c .if1 .left))
 
 returns-5 : tie.Need-returns-5
-returns-5 c =
+returns-5 c links v =
     let a = c .before .before .before .before .before .before .before .before .args in
-    let w = rw (c .before .before .before .event2 .given .1) at (c .before .before .before .before .before .before .before .before .pre .0) in
-    let b = in-is (table (a .links) (a .lows .now) (a .highs .now)) (a .from) (a .rec .now) _ w in
+    let w = rw (c .before .before .before .event2 .given .1) at v in
+    let b = in-is (table links (a .lows .now) (a .highs .now)) (a .from) (a .rec .now) _ w in
     rw (c .before .before .before .event2 .given .1, b ∙ sym (c .before .in-byte .ensures), ne-eqb _ _ (c .if2 .left))
 
 pub unsent-fault-spec : {M : Type 1} → statement M

@@ -11,7 +11,6 @@ use Rattle.probe_rules.specs.declared.Outcome.{Outcome}
 use Rattle.probe_rules.specs.Rules.{befalls, entryOf}
 use Rattle.probe_rules.proofs.OutcomeLaws.{befalls-within, within-wider, entry-same}
 use Rattle.fleet_theory.specs.Fleet.{own, alterFleet}
-use Rattle.table.proofs.LegalLaws.{legal-table}
 
 decide-requires : tie.Need-decide-requires
 decide-requires c κs = search needs
@@ -20,22 +19,20 @@ alter-fleet-requires : tie.Need-alter-fleet-requires
 alter-fleet-requires c κs =
     let a = c .before .before .before .before .before .before .before .before .args in
     let p = c .before .before .before .before .before .before .before .before .pre in
-    let t : Table = (ofSlices 0 (a .probes) (a .links) (a .needs .now) (a .lows .now) (a .highs .now) (a .costs .now)) in
+    let t : Table = ofSlices 0 0 (a .links) (a .needs .now) (a .lows .now) (a .highs .now) (a .costs .now) in
     let o : Outcome = befalls t (a .probe) (a .event) (own t (a .probe) (a .rec .now)) in
-    let w = befalls-within t (a .probe) (a .event) (own t (a .probe) (a .rec .now)) (p .1) in
-    let s = legal-table 256 2048 t (p .0 .legal) .size in
-    let l : a .links ≤ length (a .rec .now) / 4 = omega (arith, p .0 .long) in
-    rw (c .before .decide .ensures) (within-wider (a .links) (length (a .rec .now) / 4) o l w, within-wider (a .links) (length (a .lows .now)) o (p .0 .in-lows) w, within-wider (a .links) 65536 o (omega (arith, s .within)) w)
+    let w = befalls-within t (a .probe) (a .event) (own t (a .probe) (a .rec .now)) (p .2) in
+    let l : a .links ≤ length (a .rec .now) / 4 = omega (arith, p .1) in
+    rw (c .before .decide .ensures) (within-wider (a .links) (length (a .rec .now) / 4) o l w, within-wider (a .links) (length (a .lows .now)) o (p .0 .in-lows) w, within-wider (a .links) 65536 o (omega (arith, p .0 .few)) w)
 
 entry-of-requires : tie.Need-entry-of-requires
 entry-of-requires c κs =
     let a = c .before .before .before .before .before .before .before .before .before .before .before .args in
     let p = c .before .before .before .before .before .before .before .before .before .before .before .pre in
-    let t : Table = (ofSlices 0 (a .probes) (a .links) (a .needs .now) (a .lows .now) (a .highs .now) (a .costs .now)) in
+    let t : Table = ofSlices 0 0 (a .links) (a .needs .now) (a .lows .now) (a .highs .now) (a .costs .now) in
     let o : Outcome = befalls t (a .probe) (a .event) (own t (a .probe) (a .rec .now)) in
-    let w = befalls-within t (a .probe) (a .event) (own t (a .probe) (a .rec .now)) (p .1) in
-    let s = legal-table 256 2048 t (p .0 .legal) .size in
-    rw (c .before .before .before .before .decide .ensures) (within-wider (a .links) 65536 o (omega (arith, s .within)) w, within-wider (a .links) (length (a .lows .now)) o (p .0 .in-lows) w, within-wider (a .links) (length (a .highs .now)) o (p .0 .in-highs) w)
+    let w = befalls-within t (a .probe) (a .event) (own t (a .probe) (a .rec .now)) (p .2) in
+    rw (c .before .before .before .before .decide .ensures) (within-wider (a .links) 65536 o (omega (arith, p .0 .few)) w, within-wider (a .links) (length (a .lows .now)) o (p .0 .in-lows) w, within-wider (a .links) (length (a .highs .now)) o (p .0 .in-highs) w)
 
 same-length : tie.Need-same-length
 same-length c = search needs
@@ -43,9 +40,9 @@ same-length c = search needs
 returns : tie.Need-returns
 returns c =
     let a = c .before .before .before .before .before .before .before .before .before .before .before .before .args in
-    let t : Table = (ofSlices 0 (a .probes) (a .links) (a .needs .now) (a .lows .now) (a .highs .now) (a .costs .now)) in
+    let t : Table = ofSlices 0 0 (a .links) (a .needs .now) (a .lows .now) (a .highs .now) (a .costs .now) in
     let o = c .before .before .before .before .before .decide .ensures in
-    (c .entry-of .ensures ∙ entry-same 0 (a .probes) (a .links) (a .needs .now) (a .lows .now) (a .highs .now) (a .costs .now) (a .probe) (c .before .before .before .before .before .decide .result) ∙ ap (entryOf t (a .probe)) o, c .before .before .before .alter-fleet .ensures ∙ ap (λ (k : Outcome). alterFleet t (a .probe) k (a .rec .now)) o)
+    (c .entry-of .ensures ∙ entry-same 0 0 (a .links) (a .needs .now) (a .lows .now) (a .highs .now) (a .costs .now) (a .probe) (c .before .before .before .before .before .decide .result) ∙ ap (entryOf t (a .probe)) o, c .before .before .before .alter-fleet .ensures ∙ ap (λ (k : Outcome). alterFleet t (a .probe) k (a .rec .now)) o)
 
 pub apply-spec : {M : Type 1} → statement M
 apply-spec =

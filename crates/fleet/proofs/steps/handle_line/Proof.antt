@@ -1,88 +1,162 @@
 -- `fleet::steps::handle_line` meets its contract.
+-- The places: at-start, the start; at-check, the line checked; at-test, the test of its fault; at-event, what it says; at-field, who sent it; at-unsent, 27 found; at-sent, its test.
 use borrow.Author.Needs.{needs}
 use Rattle.fleet.proofs.steps.handle_line.Statement.{statement}
 use Rattle.fleet.proofs.steps.handle_line.Tie as tie
+use Prim.Native.Nat.{_/_, _≤_}
 use mathlib.Core.Path.{sym, _∙_}
 use native.Mathlib.Omega.{arith}
+use lib.ListN.{length}
 use Rattle.table.specs.Table.{ofSlices}
+use Rattle.table.specs.Slices.{slicesOf}
 use Rattle.table.proofs.Slices.{legal-slices}
 use Rattle.table_links.proofs.Search.{ordered}
+use Rattle.table_links.proofs.OrderedLinks.{ordered-links}
+use Rattle.probe_rules.proofs.OutcomeLaws.{event-wider}
 use Rattle.fleet_state.proofs.CheckLaws.{fleet-good}
-use Rattle.fleet.proofs.Checks.{checked, line-frame, line-within, line-to}
+use Rattle.fleet.proofs.Checks.{line-frame, line-within, line-to}
 use Rattle.fleet.proofs.Calls.{event-of, unsent-is, line-refused, unsent-refused, full-refused, line-accepted}
-use Rattle.table.specs.Slices.{slicesOf}
 
 check-line-requires : tie.Need-check-line-requires
 check-line-requires c κs =
-    let a = c .before .before .before .before .before .before .args in
-    ordered 256 2048 (a .number) (a .probes) (a .links) (a .needs .now) (a .lows .now) (a .highs .now) (a .costs .now) (c .before .before .before .before .before .before .pre .0)
+    let at-start = c .before .before .before .before .before .before in
+    let a = at-start .args in
+    ordered 256 2048 (a .number) (a .probes) (a .links) (a .needs .now) (a .lows .now) (a .highs .now) (a .costs .now) (at-start .pre .0)
 
 returns : tie.Need-returns
 returns c =
-    let a = c .before .before .before .before .before .before .before .before .before .args in
-    line-refused (a .number) (a .probes) (a .links) (a .needs .now) (a .lows .now) (a .highs .now) (a .costs .now) (a .used) (a .room) (a .line .now) (a .rec .now) (c .before .before .before .before .before .before .before .before .before .pre .0) (c .before .before .before .before .before .before .before .before .before .pre .1) _ (c .before .before .check-line .ensures .0) (c .if1 .taken)
+    let at-check = c .before .before in
+    let at-start = at-check .before .before .before .before .before .before .before in
+    let a = at-start .args in
+    line-refused (a .number) (a .probes) (a .links) (a .needs .now) (a .lows .now) (a .highs .now) (a .costs .now) (a .used) (a .room) (a .line .now) (a .rec .now) (at-start .pre .0) (at-start .pre .1) _ (at-check .check-line .ensures .0) (c .if1 .taken)
 
 line-event-requires : tie.Need-line-event-requires
 line-event-requires c κs =
-    let a = c .before .before .before .before .before .before .before .before .before .args in
-    line-frame (ofSlices (a .number) (a .probes) (a .links) (a .needs .now) (a .lows .now) (a .highs .now) (a .costs .now)) (a .line .now) (sym (c .before .before .check-line .ensures .0) ∙ c .if1 .left)
+    let at-check = c .before .before in
+    let a = at-check .before .before .before .before .before .before .before .args in
+    line-frame (ofSlices (a .number) (a .probes) (a .links) (a .needs .now) (a .lows .now) (a .highs .now) (a .costs .now)) (a .line .now) (sym (at-check .check-line .ensures .0) ∙ c .if1 .left)
 
 field-requires : tie.Need-field-requires
 field-requires c κs =
-    let a = c .before .before .before .before .before .before .before .before .before .before .args in
-    (line-frame (ofSlices (a .number) (a .probes) (a .links) (a .needs .now) (a .lows .now) (a .highs .now) (a .costs .now)) (a .line .now) (sym (c .before .before .before .check-line .ensures .0) ∙ c .before .if1 .left), search needs, search needs)
+    let at-test = c .before in
+    let at-check = at-test .before .before in
+    let a = at-check .before .before .before .before .before .before .before .args in
+    (line-frame (ofSlices (a .number) (a .probes) (a .links) (a .needs .now) (a .lows .now) (a .highs .now) (a .costs .now)) (a .line .now) (sym (at-check .check-line .ensures .0) ∙ at-test .if1 .left), search needs, search needs)
 
 unsent-fault-requires : tie.Need-unsent-fault-requires
 unsent-fault-requires c κs =
-    let a = c .before .before .before .before .before .before .before .before .before .before .before .before .args in
-    let g = legal-slices 256 2048 (slicesOf (a .number) (a .probes) (a .links) (a .needs .now) (a .lows .now) (a .highs .now) (a .costs .now)) (c .before .before .before .before .before .before .before .before .before .before .before .before .pre .0) in
-    let f = fleet-good (ofSlices (a .number) (a .probes) (a .links) (a .needs .now) (a .lows .now) (a .highs .now) (a .costs .now)) (a .rec .now) (c .before .before .before .before .before .before .before .before .before .before .before .before .pre .1) in
-    (rw (event-of (a .number) (a .probes) (a .links) (a .needs .now) (a .lows .now) (a .highs .now) (a .costs .now) (a .line .now) _ _ (c .before .before .line-event .ensures) (c .before .before .before .before .before .check-line .ensures .1 (c .before .before .before .if1 .left))) (line-within (ofSlices (a .number) (a .probes) (a .links) (a .needs .now) (a .lows .now) (a .highs .now) (a .costs .now)) (a .line .now) (sym (c .before .before .before .before .before .check-line .ensures .0) ∙ c .before .before .before .if1 .left)), omega (arith, f .0), g .in-lows, g .in-highs, omega (arith, g .within))
+    let at-event = c .before .before in
+    let at-test = at-event .before in
+    let at-check = at-test .before .before in
+    let at-start = at-check .before .before .before .before .before .before .before in
+    let a = at-start .args in
+    let passed = sym (at-check .check-line .ensures .0) ∙ at-test .if1 .left in
+    let says = event-of (a .number) (a .probes) (a .links) (a .needs .now) (a .lows .now) (a .highs .now) (a .costs .now) (a .line .now) _ _ (at-event .line-event .ensures) (at-check .check-line .ensures .1 (at-test .if1 .left)) in
+    let g = legal-slices 256 2048 (slicesOf (a .number) (a .probes) (a .links) (a .needs .now) (a .lows .now) (a .highs .now) (a .costs .now)) (at-start .pre .0) in
+    let f = fleet-good (ofSlices (a .number) (a .probes) (a .links) (a .needs .now) (a .lows .now) (a .highs .now) (a .costs .now)) (a .rec .now) (at-start .pre .1) in
+    let v = at-event .line-event .result in
+    let w = rw (← says) at (line-within (ofSlices (a .number) (a .probes) (a .links) (a .needs .now) (a .lows .now) (a .highs .now) (a .costs .now)) (a .line .now) passed) in
+    let room : a .links ≤ length (a .rec .now) / 4 = omega (arith, f .0) in
+    (event-wider (a .links) (length (a .lows .now)) v (g .in-lows) w, event-wider (a .links) (length (a .highs .now)) v (g .in-highs) w, event-wider (a .links) 65536 v (omega (arith, g .within)) w, event-wider (a .links) (length (a .rec .now) / 4) v room w)
 
 same-length : tie.Need-same-length
 same-length c = search needs
 
 returns-2 : tie.Need-returns-2
 returns-2 c =
-    let a = c .before .before .before .before .before .before .before .before .before .before .before .before .before .before .args in
-    unsent-refused (a .number) (a .probes) (a .links) (a .needs .now) (a .lows .now) (a .highs .now) (a .costs .now) (a .used) (a .room) (a .line .now) (a .rec .now) (c .before .before .before .before .before .before .before .before .before .before .before .before .before .before .pre .0) (c .before .before .before .before .before .before .before .before .before .before .before .before .before .before .pre .1) (sym (c .before .before .before .before .before .before .before .check-line .ensures .0) ∙ c .before .before .before .before .before .if1 .left) _ (unsent-is (a .number) (a .probes) (a .links) (a .needs .now) (a .lows .now) (a .highs .now) (a .costs .now) (a .used) (a .room) (a .line .now) (a .rec .now) _ _ _ (event-of (a .number) (a .probes) (a .links) (a .needs .now) (a .lows .now) (a .highs .now) (a .costs .now) (a .line .now) _ _ (c .before .before .before .before .line-event .ensures) (c .before .before .before .before .before .before .before .check-line .ensures .1 (c .before .before .before .before .before .if1 .left))) (c .before .before .before .field .ensures) (c .before .unsent-fault .ensures)) (c .if2 .taken)
+    let at-unsent = c .before in
+    let at-field = at-unsent .before .before in
+    let at-event = at-field .before in
+    let at-test = at-event .before in
+    let at-check = at-test .before .before in
+    let at-start = at-check .before .before .before .before .before .before .before in
+    let a = at-start .args in
+    let passed = sym (at-check .check-line .ensures .0) ∙ at-test .if1 .left in
+    let says = event-of (a .number) (a .probes) (a .links) (a .needs .now) (a .lows .now) (a .highs .now) (a .costs .now) (a .line .now) _ _ (at-event .line-event .ensures) (at-check .check-line .ensures .1 (at-test .if1 .left)) in
+    let u = unsent-is (a .number) (a .probes) (a .links) (a .needs .now) (a .lows .now) (a .highs .now) (a .costs .now) (a .used) (a .room) (a .line .now) (a .rec .now) _ _ _ says (at-field .field .ensures) (line-within (ofSlices (a .number) (a .probes) (a .links) (a .needs .now) (a .lows .now) (a .highs .now) (a .costs .now)) (a .line .now) passed) (at-unsent .unsent-fault .ensures (a .links)) in
+    unsent-refused (a .number) (a .probes) (a .links) (a .needs .now) (a .lows .now) (a .highs .now) (a .costs .now) (a .used) (a .room) (a .line .now) (a .rec .now) (at-start .pre .0) (at-start .pre .1) passed _ u (c .if2 .taken)
 
 same-length-2 : tie.Need-same-length-2
 same-length-2 c = search needs
 
 returns-3 : tie.Need-returns-3
 returns-3 c =
-    let a = c .before .before .before .before .before .before .before .before .before .before .before .before .before .before .before .args in
-    let u = unsent-is (a .number) (a .probes) (a .links) (a .needs .now) (a .lows .now) (a .highs .now) (a .costs .now) (a .used) (a .room) (a .line .now) (a .rec .now) _ _ _ (event-of (a .number) (a .probes) (a .links) (a .needs .now) (a .lows .now) (a .highs .now) (a .costs .now) (a .line .now) _ _ (c .before .before .before .before .before .line-event .ensures) (c .before .before .before .before .before .before .before .before .check-line .ensures .1 (c .before .before .before .before .before .before .if1 .left))) (c .before .before .before .before .field .ensures) (c .before .before .unsent-fault .ensures) in
-    full-refused (a .number) (a .probes) (a .links) (a .needs .now) (a .lows .now) (a .highs .now) (a .costs .now) (a .used) (a .room) (a .line .now) (a .rec .now) (c .before .before .before .before .before .before .before .before .before .before .before .before .before .before .before .pre .0) (c .before .before .before .before .before .before .before .before .before .before .before .before .before .before .before .pre .1) (sym (c .before .before .before .before .before .before .before .before .check-line .ensures .0) ∙ c .before .before .before .before .before .before .if1 .left) (sym u ∙ c .before .if2 .left) (c .if3 .taken)
+    let at-sent = c .before in
+    let at-unsent = at-sent .before in
+    let at-field = at-unsent .before .before in
+    let at-event = at-field .before in
+    let at-test = at-event .before in
+    let at-check = at-test .before .before in
+    let at-start = at-check .before .before .before .before .before .before .before in
+    let a = at-start .args in
+    let passed = sym (at-check .check-line .ensures .0) ∙ at-test .if1 .left in
+    let says = event-of (a .number) (a .probes) (a .links) (a .needs .now) (a .lows .now) (a .highs .now) (a .costs .now) (a .line .now) _ _ (at-event .line-event .ensures) (at-check .check-line .ensures .1 (at-test .if1 .left)) in
+    let u = unsent-is (a .number) (a .probes) (a .links) (a .needs .now) (a .lows .now) (a .highs .now) (a .costs .now) (a .used) (a .room) (a .line .now) (a .rec .now) _ _ _ says (at-field .field .ensures) (line-within (ofSlices (a .number) (a .probes) (a .links) (a .needs .now) (a .lows .now) (a .highs .now) (a .costs .now)) (a .line .now) passed) (at-unsent .unsent-fault .ensures (a .links)) in
+    full-refused (a .number) (a .probes) (a .links) (a .needs .now) (a .lows .now) (a .highs .now) (a .costs .now) (a .used) (a .room) (a .line .now) (a .rec .now) (at-start .pre .0) (at-start .pre .1) passed (sym u ∙ at-sent .if2 .left) (c .if3 .taken)
 
 field-requires-2 : tie.Need-field-requires-2
 field-requires-2 c κs =
-    let a = c .before .before .before .before .before .before .before .before .before .before .before .before .before .before .before .args in
-    (line-frame (ofSlices (a .number) (a .probes) (a .links) (a .needs .now) (a .lows .now) (a .highs .now) (a .costs .now)) (a .line .now) (sym (c .before .before .before .before .before .before .before .before .check-line .ensures .0) ∙ c .before .before .before .before .before .before .if1 .left), search needs, search needs)
+    let at-unsent = c .before .before in
+    let at-field = at-unsent .before .before in
+    let at-event = at-field .before in
+    let at-test = at-event .before in
+    let at-check = at-test .before .before in
+    let at-start = at-check .before .before .before .before .before .before .before in
+    let a = at-start .args in
+    let passed = sym (at-check .check-line .ensures .0) ∙ at-test .if1 .left in
+    (line-frame (ofSlices (a .number) (a .probes) (a .links) (a .needs .now) (a .lows .now) (a .highs .now) (a .costs .now)) (a .line .now) passed, search needs, search needs)
 
 cast-apply : tie.Need-cast-apply
 cast-apply c =
-    let a = c .before .before .before .before .before .before .before .before .before .before .before .before .before .before .before .before .args in
-    let g = legal-slices 256 2048 (slicesOf (a .number) (a .probes) (a .links) (a .needs .now) (a .lows .now) (a .highs .now) (a .costs .now)) (c .before .before .before .before .before .before .before .before .before .before .before .before .before .before .before .before .pre .0) in
-    let l = line-to (ofSlices (a .number) (a .probes) (a .links) (a .needs .now) (a .lows .now) (a .highs .now) (a .costs .now)) (a .line .now) (sym (c .before .before .before .before .before .before .before .before .before .check-line .ensures .0) ∙ c .before .before .before .before .before .before .before .if1 .left) (g .legal) in
+    let at-unsent = c .before .before .before in
+    let at-field = at-unsent .before .before in
+    let at-event = at-field .before in
+    let at-test = at-event .before in
+    let at-check = at-test .before .before in
+    let at-start = at-check .before .before .before .before .before .before .before in
+    let a = at-start .args in
+    let passed = sym (at-check .check-line .ensures .0) ∙ at-test .if1 .left in
+    let g = legal-slices 256 2048 (slicesOf (a .number) (a .probes) (a .links) (a .needs .now) (a .lows .now) (a .highs .now) (a .costs .now)) (at-start .pre .0) in
+    let l = line-to (ofSlices (a .number) (a .probes) (a .links) (a .needs .now) (a .lows .now) (a .highs .now) (a .costs .now)) (a .line .now) passed (g .legal) in
     let e = c .field2 .ensures in
     omega (arith, g .few)
 
 apply-requires : tie.Need-apply-requires
 apply-requires c κs =
-    let a = c .before .before .before .before .before .before .before .before .before .before .before .before .before .before .before .before .before .args in
-    let g = legal-slices 256 2048 (slicesOf (a .number) (a .probes) (a .links) (a .needs .now) (a .lows .now) (a .highs .now) (a .costs .now)) (c .before .before .before .before .before .before .before .before .before .before .before .before .before .before .before .before .before .pre .0) in
-    (checked (a .number) (a .probes) (a .links) (a .needs .now) (a .lows .now) (a .highs .now) (a .costs .now) (a .rec .now) g (c .before .before .before .before .before .before .before .before .before .before .before .before .before .before .before .before .before .pre .1), rw (event-of (a .number) (a .probes) (a .links) (a .needs .now) (a .lows .now) (a .highs .now) (a .costs .now) (a .line .now) _ _ (c .before .before .before .before .before .before .before .line-event .ensures) (c .before .before .before .before .before .before .before .before .before .before .check-line .ensures .1 (c .before .before .before .before .before .before .before .before .if1 .left))) (line-within (ofSlices (a .number) (a .probes) (a .links) (a .needs .now) (a .lows .now) (a .highs .now) (a .costs .now)) (a .line .now) (sym (c .before .before .before .before .before .before .before .before .before .before .check-line .ensures .0) ∙ c .before .before .before .before .before .before .before .before .if1 .left)))
+    let at-unsent = c .before .before .before .before in
+    let at-field = at-unsent .before .before in
+    let at-event = at-field .before in
+    let at-test = at-event .before in
+    let at-check = at-test .before .before in
+    let at-start = at-check .before .before .before .before .before .before .before in
+    let a = at-start .args in
+    let passed = sym (at-check .check-line .ensures .0) ∙ at-test .if1 .left in
+    let says = event-of (a .number) (a .probes) (a .links) (a .needs .now) (a .lows .now) (a .highs .now) (a .costs .now) (a .line .now) _ _ (at-event .line-event .ensures) (at-check .check-line .ensures .1 (at-test .if1 .left)) in
+    let g = legal-slices 256 2048 (slicesOf (a .number) (a .probes) (a .links) (a .needs .now) (a .lows .now) (a .highs .now) (a .costs .now)) (at-start .pre .0) in
+    let f = fleet-good (ofSlices (a .number) (a .probes) (a .links) (a .needs .now) (a .lows .now) (a .highs .now) (a .costs .now)) (a .rec .now) (at-start .pre .1) in
+    (ordered-links (slicesOf (a .number) (a .probes) (a .links) (a .needs .now) (a .lows .now) (a .highs .now) (a .costs .now)) g, f .0, rw says (line-within (ofSlices (a .number) (a .probes) (a .links) (a .needs .now) (a .lows .now) (a .highs .now) (a .costs .now)) (a .line .now) passed))
 
 same-length-3 : tie.Need-same-length-3
 same-length-3 c = search needs
 
 returns-4 : tie.Need-returns-4
 returns-4 c =
-    let a = c .before .before .before .before .before .before .before .before .before .before .before .before .before .before .before .before .before .before .before .before .args in
-    let u = unsent-is (a .number) (a .probes) (a .links) (a .needs .now) (a .lows .now) (a .highs .now) (a .costs .now) (a .used) (a .room) (a .line .now) (a .rec .now) _ _ _ (event-of (a .number) (a .probes) (a .links) (a .needs .now) (a .lows .now) (a .highs .now) (a .costs .now) (a .line .now) _ _ (c .before .before .before .before .before .before .before .before .before .before .line-event .ensures) (c .before .before .before .before .before .before .before .before .before .before .before .before .before .check-line .ensures .1 (c .before .before .before .before .before .before .before .before .before .before .before .if1 .left))) (c .before .before .before .before .before .before .before .before .before .field .ensures) (c .before .before .before .before .before .before .before .unsent-fault .ensures) in
-    line-accepted (a .number) (a .probes) (a .links) (a .needs .now) (a .lows .now) (a .highs .now) (a .costs .now) (a .used) (a .room) (a .line .now) (a .rec .now) (c .before .before .before .before .before .before .before .before .before .before .before .before .before .before .before .before .before .before .before .before .pre .0) (c .before .before .before .before .before .before .before .before .before .before .before .before .before .before .before .before .before .before .before .before .pre .1) (sym (c .before .before .before .before .before .before .before .before .before .before .before .before .before .check-line .ensures .0) ∙ c .before .before .before .before .before .before .before .before .before .before .before .if1 .left) (sym u ∙ c .before .before .before .before .before .before .if2 .left) (c .before .before .before .before .before .if3 .left) _ _ (rw (c .before .before .before .before .field2 .ensures, (event-of (a .number) (a .probes) (a .links) (a .needs .now) (a .lows .now) (a .highs .now) (a .costs .now) (a .line .now) _ _ (c .before .before .before .before .before .before .before .before .before .before .line-event .ensures) (c .before .before .before .before .before .before .before .before .before .before .before .before .before .check-line .ensures .1 (c .before .before .before .before .before .before .before .before .before .before .before .if1 .left)))) at (c .before .before .apply .ensures .0), rw (c .before .before .before .before .field2 .ensures, (event-of (a .number) (a .probes) (a .links) (a .needs .now) (a .lows .now) (a .highs .now) (a .costs .now) (a .line .now) _ _ (c .before .before .before .before .before .before .before .before .before .before .line-event .ensures) (c .before .before .before .before .before .before .before .before .before .before .before .before .before .check-line .ensures .1 (c .before .before .before .before .before .before .before .before .before .before .before .if1 .left)))) at (c .before .before .apply .ensures .1))
+    let at-apply = c .before .before in
+    let at-to = at-apply .before .before in
+    let at-room = at-to .before in
+    let at-sent = at-room .before in
+    let at-unsent = at-sent .before in
+    let at-field = at-unsent .before .before in
+    let at-event = at-field .before in
+    let at-test = at-event .before in
+    let at-check = at-test .before .before in
+    let at-start = at-check .before .before .before .before .before .before .before in
+    let a = at-start .args in
+    let passed = sym (at-check .check-line .ensures .0) ∙ at-test .if1 .left in
+    let says = event-of (a .number) (a .probes) (a .links) (a .needs .now) (a .lows .now) (a .highs .now) (a .costs .now) (a .line .now) _ _ (at-event .line-event .ensures) (at-check .check-line .ensures .1 (at-test .if1 .left)) in
+    let u = unsent-is (a .number) (a .probes) (a .links) (a .needs .now) (a .lows .now) (a .highs .now) (a .costs .now) (a .used) (a .room) (a .line .now) (a .rec .now) _ _ _ says (at-field .field .ensures) (line-within (ofSlices (a .number) (a .probes) (a .links) (a .needs .now) (a .lows .now) (a .highs .now) (a .costs .now)) (a .line .now) passed) (at-unsent .unsent-fault .ensures (a .links)) in
+    let done = at-apply .apply .ensures in
+    line-accepted (a .number) (a .probes) (a .links) (a .needs .now) (a .lows .now) (a .highs .now) (a .costs .now) (a .used) (a .room) (a .line .now) (a .rec .now) (at-start .pre .0) (at-start .pre .1) passed (sym u ∙ at-sent .if2 .left) (at-room .if3 .left) _ _ (rw (at-to .field2 .ensures, says) at (done .0), rw (at-to .field2 .ensures, says) at (done .1))
 
 pub handle-line-spec : {M : Type 1} → statement M
 handle-line-spec =

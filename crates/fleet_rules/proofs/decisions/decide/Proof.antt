@@ -7,7 +7,6 @@ use native.Mathlib.Omega.{arith}
 use borrow.Author.Tests.{eq-eqb, ne-eqb}
 use Rattle.table.specs.Table.{Table, ofSlices}
 use Rattle.fleet_theory.proofs.Own.{out-is, in-is}
-use Rattle.table.proofs.LegalLaws.{legal-table}
 
 enum-told : tie.Need-enum-told
 enum-told c = search needs
@@ -22,19 +21,21 @@ in-byte-requires : tie.Need-in-byte-requires
 in-byte-requires c κs =
     let a = c .before .before .before .before .before .before .before .before .args in
     let p = c .before .before .before .before .before .before .before .before .pre in
-    let w = rw (c .before .event .given .1) at (p .1) in
-    let z = legal-table 256 2048 (ofSlices 0 (a .probes) (a .links) (a .needs .now) (a .lows .now) (a .highs .now) (a .costs .now)) (p .0 .legal) .size .within in
-    (omega (arith, p .0 .in-lows), omega (arith, p .0 .in-highs), omega arith, omega (arith, p .0 .long))
+    let w = rw (c .before .event .given .1) at (p .2) in
+    let z = p .0 .few in
+    (omega (arith, p .0 .in-lows), omega (arith, p .0 .in-highs), omega arith, omega (arith, p .1))
 
 returns : tie.Need-returns
 returns c =
     let a = c .before .before .before .before .before .before .before .before .before .before .args in
-    let t : Table = (ofSlices 0 (a .probes) (a .links) (a .needs .now) (a .lows .now) (a .highs .now) (a .costs .now)) in
-    let w = rw (c .before .before .before .event .given .1) at (c .before .before .before .before .before .before .before .before .before .before .pre .1) in
+    let t : Table = (ofSlices 0 0 (a .links) (a .needs .now) (a .lows .now) (a .highs .now) (a .costs .now)) in
+    let w = rw (c .before .before .before .event .given .1) at (c .before .before .before .before .before .before .before .before .before .before .pre .2) in
     rw (c .before .before .before .event .given .1, in-is t (a .probe) (a .rec .now) _ w ∙ sym (c .before .in-byte .ensures), ne-eqb _ _ (c .if1 .taken))
 
 decide-offer-requires : tie.Need-decide-offer-requires
-decide-offer-requires c κs = (c .before .before .before .before .before .before .before .before .before .before .pre .0, rw (c .before .before .before .event .given .1) at (c .before .before .before .before .before .before .before .before .before .before .pre .1))
+decide-offer-requires c κs =
+    let p = c .before .before .before .before .before .before .before .before .before .before .pre in
+    (p .0, p .1, rw (c .before .before .before .event .given .1) at (p .2))
 
 enum-known-event-2 : tie.Need-enum-known-event-2
 enum-known-event-2 c = search needs
@@ -43,15 +44,15 @@ out-byte-requires : tie.Need-out-byte-requires
 out-byte-requires c κs =
     let a = c .before .before .before .before .before .before .before .before .args in
     let p = c .before .before .before .before .before .before .before .before .pre in
-    let w = rw (c .before .event2 .given .1) at (p .1) in
-    let z = legal-table 256 2048 (ofSlices 0 (a .probes) (a .links) (a .needs .now) (a .lows .now) (a .highs .now) (a .costs .now)) (p .0 .legal) .size .within in
-    (omega (arith, p .0 .in-lows), omega (arith, p .0 .in-highs), omega arith, omega (arith, p .0 .long))
+    let w = rw (c .before .event2 .given .1) at (p .2) in
+    let z = p .0 .few in
+    (omega (arith, p .0 .in-lows), omega (arith, p .0 .in-highs), omega arith, omega (arith, p .1))
 
 returns-2 : tie.Need-returns-2
 returns-2 c =
     let a = c .before .before .before .before .before .before .before .before .before .before .args in
-    let t : Table = (ofSlices 0 (a .probes) (a .links) (a .needs .now) (a .lows .now) (a .highs .now) (a .costs .now)) in
-    let w = rw (c .before .before .before .event2 .given .1) at (c .before .before .before .before .before .before .before .before .before .before .pre .1) in
+    let t : Table = (ofSlices 0 0 (a .links) (a .needs .now) (a .lows .now) (a .highs .now) (a .costs .now)) in
+    let w = rw (c .before .before .before .event2 .given .1) at (c .before .before .before .before .before .before .before .before .before .before .pre .2) in
     rw (c .before .before .before .event2 .given .1, out-is t (a .probe) (a .rec .now) _ w ∙ sym (c .before .out-byte .ensures), eq-eqb _ _ (c .if2 .taken))
 
 returns-3 : tie.Need-returns-3
@@ -60,15 +61,15 @@ returns-3 c = rw (c .before .enum-told .given .1) (c .decide-opening .ensures)
 returns-4 : tie.Need-returns-4
 returns-4 c =
     let a = c .before .before .before .before .before .before .before .before .before .before .before .args in
-    let t : Table = (ofSlices 0 (a .probes) (a .links) (a .needs .now) (a .lows .now) (a .highs .now) (a .costs .now)) in
-    let w = rw (c .before .before .before .before .event .given .1) at (c .before .before .before .before .before .before .before .before .before .before .before .pre .1) in
+    let t : Table = (ofSlices 0 0 (a .links) (a .needs .now) (a .lows .now) (a .highs .now) (a .costs .now)) in
+    let w = rw (c .before .before .before .before .event .given .1) at (c .before .before .before .before .before .before .before .before .before .before .before .pre .2) in
     rw (c .before .before .before .before .event .given .1, in-is t (a .probe) (a .rec .now) _ w ∙ sym (c .before .before .in-byte .ensures), eq-eqb _ _ (c .before .if1 .left)) (c .decide-offer .ensures)
 
 returns-5 : tie.Need-returns-5
 returns-5 c =
     let a = c .before .before .before .before .before .before .before .before .before .before .args in
-    let t : Table = (ofSlices 0 (a .probes) (a .links) (a .needs .now) (a .lows .now) (a .highs .now) (a .costs .now)) in
-    let w = rw (c .before .before .before .event2 .given .1) at (c .before .before .before .before .before .before .before .before .before .before .pre .1) in
+    let t : Table = (ofSlices 0 0 (a .links) (a .needs .now) (a .lows .now) (a .highs .now) (a .costs .now)) in
+    let w = rw (c .before .before .before .event2 .given .1) at (c .before .before .before .before .before .before .before .before .before .before .pre .2) in
     rw (c .before .before .before .event2 .given .1, out-is t (a .probe) (a .rec .now) _ w ∙ sym (c .before .out-byte .ensures), ne-eqb _ _ (c .if2 .left))
 
 pub decide-spec : {M : Type 1} → statement M

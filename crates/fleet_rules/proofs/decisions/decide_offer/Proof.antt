@@ -6,8 +6,8 @@ use mathlib.Core.Path.{sym, _∙_}
 use native.Mathlib.Omega.{arith}
 use Rattle.table.specs.Table.{Table, ofSlices}
 use Rattle.plan_theory.proofs.Order.{dearer-by-place}
-use Rattle.table.proofs.LegalLaws.{legal-table}
 use Rattle.fleet_theory.specs.Fleet.{own}
+use Rattle.fleet_rules.proofs.Passing.{surveyed-same}
 use Rattle.fleet_rules.proofs.Outcomes.{offer-taken, offer-none, offer-displacing, offer-refused}
 
 survey-requires : tie.Need-survey-requires
@@ -19,35 +19,35 @@ spare-of-requires c κs = search needs
 returns : tie.Need-returns
 returns c =
     let a = c .before .before .before .before .before .before .before .before .before .args in
-    let t : Table = (ofSlices 0 (a .probes) (a .links) (a .needs .now) (a .lows .now) (a .highs .now) (a .costs .now)) in
-    offer-taken t (a .probe) (own t (a .probe) (a .rec .now)) (c .before .before .before .survey .result) _ (c .before .before .spare-of .ensures) (c .before .before .before .survey .ensures) (a .i) (c .if1 .taken)
+    let t : Table = (ofSlices 0 0 (a .links) (a .needs .now) (a .lows .now) (a .highs .now) (a .costs .now)) in
+    offer-taken t (a .probe) (own t (a .probe) (a .rec .now)) (c .before .before .before .survey .result) _ (c .before .before .spare-of .ensures) (surveyed-same 1 (a .links) (a .needs .now) (a .lows .now) (a .highs .now) (a .costs .now) (a .probe) (a .rec .now) _ (c .before .before .before .survey .ensures)) (a .i) (c .if1 .taken)
 
 returns-2 : tie.Need-returns-2
 returns-2 c =
     let a = c .before .before .before .before .before .before .before .before .before .before .args in
-    let t : Table = (ofSlices 0 (a .probes) (a .links) (a .needs .now) (a .lows .now) (a .highs .now) (a .costs .now)) in
-    offer-none t (a .probe) (own t (a .probe) (a .rec .now)) (c .before .before .before .before .survey .result) _ (c .before .before .before .spare-of .ensures) (c .before .before .before .before .survey .ensures) (a .i) (c .before .if1 .left) (c .if2 .taken)
+    let t : Table = (ofSlices 0 0 (a .links) (a .needs .now) (a .lows .now) (a .highs .now) (a .costs .now)) in
+    offer-none t (a .probe) (own t (a .probe) (a .rec .now)) (c .before .before .before .before .survey .result) _ (c .before .before .before .spare-of .ensures) (surveyed-same 1 (a .links) (a .needs .now) (a .lows .now) (a .highs .now) (a .costs .now) (a .probe) (a .rec .now) _ (c .before .before .before .before .survey .ensures)) (a .i) (c .before .if1 .left) (c .if2 .taken)
 
 dearer-requires : tie.Need-dearer-requires
 dearer-requires c κs =
     let p = c .before .before .before .before .before .before .before .before .before .before .pre in
-    (omega (arith, p .0 .in-costs, p .1), omega (arith, p .0 .in-costs, c .if2 .left))
+    (omega (arith, p .0 .in-costs, p .2), omega (arith, p .0 .in-costs, c .if2 .left))
 
 returns-3 : tie.Need-returns-3
 returns-3 c =
     let a = c .before .before .before .before .before .before .before .before .before .before .before .before .args in
     let p = c .before .before .before .before .before .before .before .before .before .before .before .before .pre in
-    let t : Table = (ofSlices 0 (a .probes) (a .links) (a .needs .now) (a .lows .now) (a .highs .now) (a .costs .now)) in
-    let d = dearer-by-place t (legal-table 256 2048 t (p .0 .legal) .order) (a .i) _ (p .1) (c .before .before .if2 .left) ∙ sym (c .before .dearer .ensures) ∙ c .if3 .taken in
-    offer-displacing t (a .probe) (own t (a .probe) (a .rec .now)) (c .before .before .before .before .before .before .survey .result) _ (c .before .before .before .before .before .spare-of .ensures) (c .before .before .before .before .before .before .survey .ensures) (a .i) (c .before .before .before .if1 .left) (c .before .before .if2 .left) d
+    let t : Table = (ofSlices 0 0 (a .links) (a .needs .now) (a .lows .now) (a .highs .now) (a .costs .now)) in
+    let d = dearer-by-place t (record { rising = p .0 .order .rising }) (a .i) _ (p .2) (c .before .before .if2 .left) ∙ sym (c .before .dearer .ensures) ∙ c .if3 .taken in
+    offer-displacing t (a .probe) (own t (a .probe) (a .rec .now)) (c .before .before .before .before .before .before .survey .result) _ (c .before .before .before .before .before .spare-of .ensures) (surveyed-same 1 (a .links) (a .needs .now) (a .lows .now) (a .highs .now) (a .costs .now) (a .probe) (a .rec .now) _ (c .before .before .before .before .before .before .survey .ensures)) (a .i) (c .before .before .before .if1 .left) (c .before .before .if2 .left) d
 
 returns-4 : tie.Need-returns-4
 returns-4 c =
     let a = c .before .before .before .before .before .before .before .before .before .before .before .before .args in
     let p = c .before .before .before .before .before .before .before .before .before .before .before .before .pre in
-    let t : Table = (ofSlices 0 (a .probes) (a .links) (a .needs .now) (a .lows .now) (a .highs .now) (a .costs .now)) in
-    let d = dearer-by-place t (legal-table 256 2048 t (p .0 .legal) .order) (a .i) _ (p .1) (c .before .before .if2 .left) ∙ sym (c .before .dearer .ensures) ∙ c .if3 .left in
-    offer-refused t (a .probe) (own t (a .probe) (a .rec .now)) (c .before .before .before .before .before .before .survey .result) _ (c .before .before .before .before .before .spare-of .ensures) (c .before .before .before .before .before .before .survey .ensures) (a .i) (c .before .before .before .if1 .left) (c .before .before .if2 .left) d
+    let t : Table = (ofSlices 0 0 (a .links) (a .needs .now) (a .lows .now) (a .highs .now) (a .costs .now)) in
+    let d = dearer-by-place t (record { rising = p .0 .order .rising }) (a .i) _ (p .2) (c .before .before .if2 .left) ∙ sym (c .before .dearer .ensures) ∙ c .if3 .left in
+    offer-refused t (a .probe) (own t (a .probe) (a .rec .now)) (c .before .before .before .before .before .before .survey .result) _ (c .before .before .before .before .before .spare-of .ensures) (surveyed-same 1 (a .links) (a .needs .now) (a .lows .now) (a .highs .now) (a .costs .now) (a .probe) (a .rec .now) _ (c .before .before .before .before .before .before .survey .ensures)) (a .i) (c .before .before .before .if1 .left) (c .before .before .if2 .left) d
 
 pub decide-offer-spec : {M : Type 1} → statement M
 decide-offer-spec =

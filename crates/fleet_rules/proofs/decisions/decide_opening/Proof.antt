@@ -4,6 +4,7 @@ use Rattle.fleet_rules.proofs.decisions.decide_opening.Statement.{state
 use Rattle.fleet_rules.proofs.decisions.decide_opening.Tie as tie
 use Rattle.table.specs.Table.{Table, ofSlices}
 use Rattle.fleet_theory.specs.Fleet.{own}
+use Rattle.fleet_rules.proofs.Passing.{surveyed-same}
 use Rattle.fleet_rules.proofs.Outcomes.{opening-full, opening-none, opening-one}
 
 survey-requires : tie.Need-survey-requires
@@ -15,20 +16,20 @@ spare-of-requires c κs = search needs
 returns : tie.Need-returns
 returns c =
     let a = c .before .before .before .before .before .before .before .before .before .args in
-    let t : Table = (ofSlices 0 (a .probes) (a .links) (a .needs .now) (a .lows .now) (a .highs .now) (a .costs .now)) in
-    opening-full t (a .probe) (own t (a .probe) (a .rec .now)) (c .before .before .before .survey .result) _ (c .before .before .spare-of .ensures) (c .before .before .before .survey .ensures) (c .if1 .taken)
+    let t : Table = (ofSlices 0 0 (a .links) (a .needs .now) (a .lows .now) (a .highs .now) (a .costs .now)) in
+    opening-full t (a .probe) (own t (a .probe) (a .rec .now)) (c .before .before .before .survey .result) _ (c .before .before .spare-of .ensures) (surveyed-same 0 (a .links) (a .needs .now) (a .lows .now) (a .highs .now) (a .costs .now) (a .probe) (a .rec .now) _ (c .before .before .before .survey .ensures)) (c .if1 .taken)
 
 returns-2 : tie.Need-returns-2
 returns-2 c =
     let a = c .before .before .before .before .before .before .before .before .before .before .before .args in
-    let t : Table = (ofSlices 0 (a .probes) (a .links) (a .needs .now) (a .lows .now) (a .highs .now) (a .costs .now)) in
-    opening-none t (a .probe) (own t (a .probe) (a .rec .now)) (c .before .before .before .before .before .survey .result) _ (c .before .before .before .before .spare-of .ensures) (c .before .before .before .before .before .survey .ensures) (c .before .before .if1 .left) (c .if2 .taken)
+    let t : Table = (ofSlices 0 0 (a .links) (a .needs .now) (a .lows .now) (a .highs .now) (a .costs .now)) in
+    opening-none t (a .probe) (own t (a .probe) (a .rec .now)) (c .before .before .before .before .before .survey .result) _ (c .before .before .before .before .spare-of .ensures) (surveyed-same 0 (a .links) (a .needs .now) (a .lows .now) (a .highs .now) (a .costs .now) (a .probe) (a .rec .now) _ (c .before .before .before .before .before .survey .ensures)) (c .before .before .if1 .left) (c .if2 .taken)
 
 returns-3 : tie.Need-returns-3
 returns-3 c =
     let a = c .before .before .before .before .before .before .before .before .before .before .before .args in
-    let t : Table = (ofSlices 0 (a .probes) (a .links) (a .needs .now) (a .lows .now) (a .highs .now) (a .costs .now)) in
-    opening-one t (a .probe) (own t (a .probe) (a .rec .now)) (c .before .before .before .before .before .survey .result) _ (c .before .before .before .before .spare-of .ensures) (c .before .before .before .before .before .survey .ensures) (c .before .before .if1 .left) (c .if2 .left)
+    let t : Table = (ofSlices 0 0 (a .links) (a .needs .now) (a .lows .now) (a .highs .now) (a .costs .now)) in
+    opening-one t (a .probe) (own t (a .probe) (a .rec .now)) (c .before .before .before .before .before .survey .result) _ (c .before .before .before .before .spare-of .ensures) (surveyed-same 0 (a .links) (a .needs .now) (a .lows .now) (a .highs .now) (a .costs .now) (a .probe) (a .rec .now) _ (c .before .before .before .before .before .survey .ensures)) (c .before .before .if1 .left) (c .if2 .left)
 
 pub decide-opening-spec : {M : Type 1} → statement M
 decide-opening-spec =

@@ -12,19 +12,17 @@ in-byte-requires : tie.Need-in-byte-requires
 in-byte-requires c κs = search needs
 
 returns : tie.Need-returns
-returns c =
+returns c links l =
     let a = c .before .before .before .before .before .args in
-    let l = c .before .before .before .before .before .pre .0 in
-    rw (eq-eqb _ _ (c .before .if1 .taken)) (c .in-byte .ensures ∙ sym (in-is (ofSlices 0 0 (a .links) [] (a .lows .now) (a .highs .now) []) (a .probe) (a .rec .now) (a .k) l))
+    rw (eq-eqb _ _ (c .before .if1 .taken)) (c .in-byte .ensures ∙ sym (in-is (ofSlices 0 0 links [] (a .lows .now) (a .highs .now) []) (a .probe) (a .rec .now) (a .k) l))
 
 out-byte-requires : tie.Need-out-byte-requires
 out-byte-requires c κs = search needs
 
 returns-2 : tie.Need-returns-2
-returns-2 c =
+returns-2 c links l =
     let a = c .before .before .before .before .before .args in
-    let l = c .before .before .before .before .before .pre .0 in
-    rw (ne-eqb _ _ (c .before .if1 .left)) (c .out-byte .ensures ∙ sym (out-is (ofSlices 0 0 (a .links) [] (a .lows .now) (a .highs .now) []) (a .probe) (a .rec .now) (a .k) l))
+    rw (ne-eqb _ _ (c .before .if1 .left)) (c .out-byte .ensures ∙ sym (out-is (ofSlices 0 0 links [] (a .lows .now) (a .highs .now) []) (a .probe) (a .rec .now) (a .k) l))
 
 pub side-byte-spec : {M : Type 1} → statement M
 side-byte-spec = tie.close (tie.spec in-byte-requires returns out-byte-requires returns-2)

@@ -1,33 +1,35 @@
 -- `fleet_rules::decisions::survey` meets its contract.
+-- Invariant: the numbers are those of the first i links. Measure: the links left.
 use borrow.Author.Needs.{needs}
 use Rattle.fleet_rules.proofs.decisions.survey.Statement.{statement}
 use Rattle.fleet_rules.proofs.decisions.survey.Tie as tie
 use Prim.Native.Nat.{ℕ, _+_, _-_, _≤_}
 use mathlib.Core.Path.{refl, sym, _∙_, ap}
 use mathlib.Core.Bool.{Bool, cond, _||_}
-use mathlib.Core.List.{List}
+use mathlib.Core.List.{List, []}
 use native.Mathlib.Omega.{arith}
-use lib.Dec.{ltb, leb, eqb}
+use lib.Dec.{leb, eqb}
 use borrow.Author.Tests.{not-true, not-false}
 use Rattle.table.specs.Table.{Table, item, ofSlices}
 use Rattle.fleet_theory.specs.Fleet.{own}
 use Rattle.fleet_theory.proofs.Own.{own-same}
-use Rattle.fleet_rules.specs.Survey.{sideByte, sideBetter}
-use Rattle.fleet_rules.proofs.Passing.{one-most, Passing, passing-start, passing-skip, passing-own, passing-all, side-before, side-behind}
-use Rattle.table.proofs.LegalLaws.{legal-table}
+use Rattle.table_links.specs.Order.{dearerAt}
+use Rattle.probe_record.specs.Record.{sideByte, sideBetter}
+use Rattle.probe_record.proofs.SearchLaws.{side-before, side-behind}
+use Rattle.fleet_rules.proofs.Passing.{one-most, Passing, passing-start, passing-skip, passing-own, passing-all}
 
 abbrev Inv-loop : tie.InvT-loop
-Inv-loop value rec probes links needs lows highs costs probe s₀ i₀ s i =
-    let t : Table = (ofSlices 0 probes links needs lows highs costs) in
+Inv-loop value rec links lows highs costs probe s₀ i₀ s i =
+    let t : Table = ofSlices 0 0 links [] lows highs costs in
     (i ≤ links) × Passing t probe (sideByte value (own t probe rec)) (sideBetter value t) value i s
 
 abbrev μ-loop : tie.MeasureT-loop
-μ-loop value rec probes links needs lows highs costs probe s₀ i₀ s i = links - i
+μ-loop value rec links lows highs costs probe s₀ i₀ s i = links - i
 
 loop-holds : tie.Need-loop-holds Inv-loop μ-loop
 loop-holds c =
-    let a = c .before .before .before .before .before .args in
-    let t : Table = (ofSlices 0 (a .probes) (a .links) (a .needs .now) (a .lows .now) (a .highs .now) (a .costs .now)) in
+    let a = c .before .before .before .before .args in
+    let t : Table = ofSlices 0 0 (a .links) [] (a .lows .now) (a .highs .now) (a .costs .now) in
     (omega arith, passing-start t (a .probe) (sideByte (a .value) (own t (a .probe) (a .rec .now))) (sideBetter (a .value) t) (a .value))
 
 add-i : tie.Need-add-i Inv-loop μ-loop
@@ -41,34 +43,34 @@ loop-less c = search needs
 
 loop-again : tie.Need-loop-again Inv-loop μ-loop
 loop-again c =
-    let a = c .before .before .before .before .before .before .before .before .before .args in
-    let t : Table = (ofSlices 0 (a .probes) (a .links) (a .needs .now) (a .lows .now) (a .highs .now) (a .costs .now)) in
+    let a = c .before .before .before .before .before .before .before .before .args in
+    let t : Table = ofSlices 0 0 (a .links) [] (a .lows .now) (a .highs .now) (a .costs .now) in
     let l = c .before .before .before .loop in
     let w = c .before .before .loop-test .taken in
     (omega arith, passing-skip t (a .probe) (sideByte (a .value) (own t (a .probe) (a .rec .now))) (sideBetter (a .value) t) (a .value) (l .i) (l .s) (sym (c .before .touches .ensures) ∙ not-true _ (c .if1 .taken)) (l .inv .1))
 
 side-byte-requires : tie.Need-side-byte-requires Inv-loop μ-loop
 side-byte-requires c κs =
-    let a = c .before .before .before .before .before .before .before .before .before .args in
-    let p = c .before .before .before .before .before .before .before .before .before .pre in
+    let a = c .before .before .before .before .before .before .before .before .args in
+    let p = c .before .before .before .before .before .before .before .before .pre in
     let w = c .before .before .loop-test .taken in
-    let z = legal-table 256 2048 (ofSlices 0 (a .probes) (a .links) (a .needs .now) (a .lows .now) (a .highs .now) (a .costs .now)) (p .legal) .size .within in
-    (w, z, p .in-lows, p .in-highs, p .long)
+    let z = p .0 .few in
+    (omega (arith, p .0 .in-lows), omega (arith, p .0 .in-highs), omega arith, omega (arith, p .1))
 
-add-t16 : tie.Need-add-t16 Inv-loop μ-loop
-add-t16 c =
+add-t14 : tie.Need-add-t14 Inv-loop μ-loop
+add-t14 c =
     let g = c .before .before .before .before .before .loop .inv .1 .few-links in
-    omega (arith, c .before .before .before .before .loop-test .taken, c .before .before .before .before .before .before .before .before .before .before .before .fits .links)
+    omega (arith, c .before .before .before .before .loop-test .taken, c .before .before .before .before .before .before .before .before .before .before .fits .links)
 
 one-if-requires : tie.Need-one-if-requires Inv-loop μ-loop
 one-if-requires c κs = search needs
 
-add-t18 : tie.Need-add-t18 Inv-loop μ-loop
-add-t18 c =
+add-t16 : tie.Need-add-t16 Inv-loop μ-loop
+add-t16 c =
     let g = c .before .before .before .before .before .before .before .loop .inv .1 .few-ones in
     let o = c .before .one-if .ensures in
     let m = one-most (eqb (c .before .before .before .side-byte .result) 1) in
-    omega (arith, c .before .before .before .before .before .before .loop-test .taken, c .before .before .before .before .before .before .before .before .before .before .before .before .before .fits .links)
+    omega (arith, c .before .before .before .before .before .before .loop-test .taken, c .before .before .before .before .before .before .before .before .before .before .before .before .fits .links)
 
 best-with-requires : tie.Need-best-with-requires Inv-loop μ-loop
 best-with-requires c κs = search needs
@@ -78,21 +80,21 @@ loop-less-2 c = search needs
 
 loop-again-2 : tie.Need-loop-again-2 Inv-loop μ-loop
 loop-again-2 c =
-    let a = c .before .before .before .before .before .before .before .before .before .before .before .before .before .before .args in
-    let t : Table = (ofSlices 0 (a .probes) (a .links) (a .needs .now) (a .lows .now) (a .highs .now) (a .costs .now)) in
+    let a = c .before .before .before .before .before .before .before .before .before .before .before .before .before .args in
+    let t : Table = ofSlices 0 0 (a .links) [] (a .lows .now) (a .highs .now) (a .costs .now) in
     let l = c .before .before .before .before .before .before .before .before .loop in
     let w = c .before .before .before .before .before .before .before .loop-test .taken in
-    let p = c .before .before .before .before .before .before .before .before .before .before .before .before .before .before .pre in
+    let p = c .before .before .before .before .before .before .before .before .before .before .before .before .before .pre in
     let k = l .i in
     let b = l .s .best in
-    let test : Bool = (leb (a .links) b || cond (eqb (a .value) 1) (ltb (item (a .costs .now) k) (item (a .costs .now) b)) (leb (item (a .costs .now) b) (item (a .costs .now) k))) in
-    let same = own-same 0 (a .probes) (a .links) (a .needs .now) (a .lows .now) (a .highs .now) (a .costs .now) (a .probe) (a .rec .now) in
-    (omega arith, passing-own t (a .probe) (sideByte (a .value) (own t (a .probe) (a .rec .now))) (sideBetter (a .value) t) (a .value) k (l .s) w (sym (c .before .before .before .before .before .before .touches .ensures) ∙ not-false _ (c .before .before .before .before .before .if1 .left)) (c .before .before .before .before .side-byte .result) (ap (λ (e : List ℕ). sideByte (a .value) e k) (sym same) ∙ sym (c .before .before .before .before .side-byte .ensures)) test (side-before t (p .legal) (a .value) k b w) (λ e. side-behind t (p .legal) (a .value) k b w e (l .inv .1 .found .within)) (l .inv .1) _ _ _ refl (ap (λ (z : ℕ). l .s .count + z) (c .before .before .one-if .ensures)) (c .best-with .ensures))
+    let test : Bool = (leb (a .links) b || cond (eqb (a .value) 1) (dearerAt (item (a .costs .now)) b k) (dearerAt (item (a .costs .now)) k b)) in
+    let same = own-same 0 0 (a .links) [] (a .lows .now) (a .highs .now) (a .costs .now) (a .probe) (a .rec .now) in
+    (omega arith, passing-own t (a .probe) (sideByte (a .value) (own t (a .probe) (a .rec .now))) (sideBetter (a .value) t) (a .value) k (l .s) w (sym (c .before .before .before .before .before .before .touches .ensures) ∙ not-false _ (c .before .before .before .before .before .if1 .left)) (c .before .before .before .before .side-byte .result) (ap (λ (e : List ℕ). sideByte (a .value) e k) (sym same) ∙ sym (c .before .before .before .before .side-byte .ensures (a .links) w)) test (side-before t (p .0 .order) (a .value) k b w) (side-behind t (p .0 .order) (a .value) k b w) (l .inv .1) _ _ _ refl (ap (λ (z : ℕ). l .s .count + z) (c .before .before .one-if .ensures)) (c .best-with .ensures))
 
 returns : tie.Need-returns Inv-loop μ-loop
 returns c =
-    let a = c .before .before .before .before .before .before .before .args in
-    let t : Table = (ofSlices 0 (a .probes) (a .links) (a .needs .now) (a .lows .now) (a .highs .now) (a .costs .now)) in
+    let a = c .before .before .before .before .before .before .args in
+    let t : Table = ofSlices 0 0 (a .links) [] (a .lows .now) (a .highs .now) (a .costs .now) in
     let l = c .before .loop in
     passing-all t (a .probe) (sideByte (a .value) (own t (a .probe) (a .rec .now))) (sideBetter (a .value) t) (a .value) (l .i) (l .s) (omega (arith, l .inv .0, c .loop-test .left)) (l .inv .1)
 
@@ -108,9 +110,9 @@ survey-spec =
     loop-less
     loop-again
     side-byte-requires
-    add-t16
+    add-t14
     one-if-requires
-    add-t18
+    add-t16
     best-with-requires
     loop-less-2
     loop-again-2

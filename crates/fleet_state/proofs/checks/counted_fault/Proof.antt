@@ -34,6 +34,9 @@ mul-if1 c = search needs
 shared-slice-read-if1 : tie.Need-shared-slice-read-if1 Inv-loop μ-loop
 shared-slice-read-if1 c = search needs
 
+cast-if1 : tie.Need-cast-if1 Inv-loop μ-loop
+cast-if1 c = omega (arith, c .shared-slice-known5 .given (c .before .before .before .loop .v) .fits)
+
 returns : tie.Need-returns Inv-loop μ-loop
 returns c =
     let l = c .before .before .before .before .loop in
@@ -47,6 +50,9 @@ mul-if2 c = search needs
 
 shared-slice-read-if2 : tie.Need-shared-slice-read-if2 Inv-loop μ-loop
 shared-slice-read-if2 c = search needs
+
+cast-if2 : tie.Need-cast-if2 Inv-loop μ-loop
+cast-if2 c = omega (arith, c .shared-slice-known6 .given (c .before .before .before .before .before .loop .v) .fits)
 
 returns-2 : tie.Need-returns-2 Inv-loop μ-loop
 returns-2 c =
@@ -83,9 +89,11 @@ counted-fault-spec =
     spare-at-requires
     mul-if1
     shared-slice-read-if1
+    cast-if1
     returns
     mul-if2
     shared-slice-read-if2
+    cast-if2
     returns-2
     add-v
     loop-less

@@ -63,7 +63,7 @@ counted-fault-requires c κs =
     let d : length (c .before .before .before .before .before .before .before .before .before .before .count-degrees .last .0) ≡ 256 = c .before .before .before .before .before .before .before .before .before .before .count-degrees .kept .0 in
     let e : length (c .before .before .before .before .before .before .before .count-bytes .last .0) ≡ 256 = c .before .before .before .before .before .before .before .count-bytes .kept .0 in
     let f : length (c .before .before .before .before .count-bytes2 .last .0) ≡ 256 = c .before .before .before .before .count-bytes2 .kept .0 in
-    (p .in-needs, omega (arith, s .few), omega (arith, s .few), omega (arith, s .few))
+    (omega (arith, s .few), omega (arith, s .few), omega (arith, s .few))
 
 returns : tie.Need-returns
 returns c =

@@ -75,7 +75,7 @@ none-opens-requires c κs =
     let d : length (c .before .before .before .before .before .before .before .before .before .before .count-degrees .last .0) ≡ 256 = c .before .before .before .before .before .before .before .before .before .before .count-degrees .kept .0 in
     let e : length (c .before .before .before .before .before .before .before .count-bytes .last .0) ≡ 256 = c .before .before .before .before .before .before .before .count-bytes .kept .0 in
     let f : length (c .before .before .before .before .count-bytes2 .last .0) ≡ 256 = c .before .before .before .before .count-bytes2 .kept .0 in
-    (p .in-needs, omega (arith, s .few), omega (arith, s .few), omega (arith, s .few))
+    (omega (arith, s .few), omega (arith, s .few), omega (arith, s .few))
 
 returns-2 : tie.Need-returns-2
 returns-2 c =

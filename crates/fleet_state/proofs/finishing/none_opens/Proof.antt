@@ -40,6 +40,9 @@ mul-if1 c = search needs
 shared-slice-read-if1 : tie.Need-shared-slice-read-if1 Inv-loop μ-loop
 shared-slice-read-if1 c = search needs
 
+cast-if1 : tie.Need-cast-if1 Inv-loop μ-loop
+cast-if1 c = omega (arith, c .shared-slice-known5 .given (c .before .before .before .loop .v) .fits)
+
 loop-less : tie.Need-loop-less Inv-loop μ-loop
 loop-less c = search needs
 
@@ -87,6 +90,7 @@ none-opens-spec =
     spare-at-requires
     mul-if1
     shared-slice-read-if1
+    cast-if1
     loop-less
     loop-again
     mul-if2

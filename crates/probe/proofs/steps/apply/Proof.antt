@@ -7,7 +7,7 @@ use Prim.Native.Nat.{_/_, _≤_}
 use native.Mathlib.Omega.{arith}
 use lib.ListN.{length}
 use Rattle.table.specs.Table.{Table, ofSlices}
-use Rattle.probe_rules.proofs.OutcomeLaws.{few-links, befalls-within, within-wider, entry-same}
+use Rattle.probe_rules.proofs.OutcomeLaws.{befalls-within, within-wider, entry-same}
 use Rattle.probe_rules.specs.declared.Outcome.{Outcome}
 use Rattle.probe_rules.specs.Rules.{befalls, alter}
 
@@ -18,9 +18,9 @@ alter-requires : tie.Need-alter-requires
 alter-requires c κs =
     let a = c .before .before .before .before .before .before .before .before .args in
     let p = c .before .before .before .before .before .before .before .before .pre in
-    let t : Table = ofSlices 0 (a .probes) (a .links) (a .needs .now) (a .lows .now) (a .highs .now) (a .costs .now) in
-    let w = befalls-within t (a .probe) (a .event) (a .rec .now) (p .1) in
-    let r = p .0 .room in
+    let t : Table = ofSlices 0 0 (a .links) (a .needs .now) (a .lows .now) (a .highs .now) (a .costs .now) in
+    let w = befalls-within t (a .probe) (a .event) (a .rec .now) (p .2) in
+    let r = p .1 .room in
     let l : a .links ≤ length (a .rec .now) / 2 = omega arith in
     rw (c .before .decide .ensures) (within-wider (a .links) (length (a .rec .now) / 2) (befalls t (a .probe) (a .event) (a .rec .now)) l w)
 
@@ -28,9 +28,9 @@ entry-of-requires : tie.Need-entry-of-requires
 entry-of-requires c κs =
     let a = c .before .before .before .before .before .before .before .before .before .before .before .args in
     let p = c .before .before .before .before .before .before .before .before .before .before .before .pre in
-    let t : Table = ofSlices 0 (a .probes) (a .links) (a .needs .now) (a .lows .now) (a .highs .now) (a .costs .now) in
-    let w = befalls-within t (a .probe) (a .event) (a .rec .now) (p .1) in
-    let few : a .links ≤ 65536 = few-links t (p .0 .legal) in
+    let t : Table = ofSlices 0 0 (a .links) (a .needs .now) (a .lows .now) (a .highs .now) (a .costs .now) in
+    let w = befalls-within t (a .probe) (a .event) (a .rec .now) (p .2) in
+    let few : a .links ≤ 65536 = omega (arith, p .0 .few) in
     rw (c .before .before .before .before .decide .ensures) (within-wider (a .links) 65536 (befalls t (a .probe) (a .event) (a .rec .now)) few w, within-wider (a .links) (length (a .lows .now)) (befalls t (a .probe) (a .event) (a .rec .now)) (p .0 .in-lows) w, within-wider (a .links) (length (a .highs .now)) (befalls t (a .probe) (a .event) (a .rec .now)) (p .0 .in-highs) w)
 
 same-length : tie.Need-same-length
@@ -39,9 +39,9 @@ same-length c = search needs
 returns : tie.Need-returns
 returns c =
     let a = c .before .before .before .before .before .before .before .before .before .before .before .before .args in
-    let t : Table = ofSlices 0 (a .probes) (a .links) (a .needs .now) (a .lows .now) (a .highs .now) (a .costs .now) in
+    let t : Table = ofSlices 0 0 (a .links) (a .needs .now) (a .lows .now) (a .highs .now) (a .costs .now) in
     let e = rw (c .before .before .before .before .before .decide .ensures) at (c .entry-of .ensures) in
-    (e ∙ entry-same 0 (a .probes) (a .links) (a .needs .now) (a .lows .now) (a .highs .now) (a .costs .now) (a .probe) (befalls t (a .probe) (a .event) (a .rec .now)), c .before .before .before .alter .ensures ∙ ap (λ (o : Outcome). alter o (a .rec .now)) (c .before .before .before .before .before .decide .ensures))
+    (e ∙ entry-same 0 0 (a .links) (a .needs .now) (a .lows .now) (a .highs .now) (a .costs .now) (a .probe) (befalls t (a .probe) (a .event) (a .rec .now)), c .before .before .before .alter .ensures ∙ ap (λ (o : Outcome). alter o (a .rec .now)) (c .before .before .before .before .before .decide .ensures))
 
 pub apply-spec : {M : Type 1} → statement M
 apply-spec =

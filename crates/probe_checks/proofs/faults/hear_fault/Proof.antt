@@ -1,5 +1,7 @@
 -- `probe_checks::faults::hear_fault` meets its contract.
-use Prim.Native.Nat.{ℕ}
+use Prim.Native.Nat.{ℕ, _/_, _≤_}
+use lib.ListN.{length}
+use Rattle.probe_rules.proofs.OutcomeLaws.{event-wider}
 use Rattle.probe_checks.proofs.Accepted.{hear-early, hear-late, heard-frame, heard-within}
 use Rattle.range.specs.First.{orElse}
 use Rattle.probe_record.specs.Record.{recordFault}
@@ -57,7 +59,9 @@ untried-fault-requires c κs =
     let a = c .before .before .before .before .before .before .before .before .before .before .before .args in
     let z : orElse (sliceFault 256 2048 (slicesOf 0 (a .probes) (a .links) (a .needs .now) (a .lows .now) (a .highs .now) (a .costs .now))) (recordFault (ofSlices (a .number) (a .probes) (a .links) (a .needs .now) (a .lows .now) (a .highs .now) (a .costs .now)) (a .probe) (a .rec .now)) ≡ 0 = sym (c .before .before .before .before .state-fault .ensures) ∙ c .before .before .before .if1 .left in
     let t : Table = ofSlices (a .number) (a .probes) (a .links) (a .needs .now) (a .lows .now) (a .highs .now) (a .costs .now) in
-    (rw (c .event-of .ensures) (heard-within t (a .probe) (a .frame .now) (sym (c .before .before .heard-fault .ensures) ∙ c .before .if2 .left)), (let r = record-good t (a .probe) (a .rec .now) (or-right (sliceFault 256 2048 (slicesOf 0 (a .probes) (a .links) (a .needs .now) (a .lows .now) (a .highs .now) (a .costs .now))) (recordFault t (a .probe) (a .rec .now)) z) in omega (arith, r .0)))
+    let r = record-good t (a .probe) (a .rec .now) (or-right (sliceFault 256 2048 (slicesOf 0 (a .probes) (a .links) (a .needs .now) (a .lows .now) (a .highs .now) (a .costs .now))) (recordFault t (a .probe) (a .rec .now)) z) in
+    let room : a .links ≤ length (a .rec .now) / 2 = omega (arith, r .0) in
+    event-wider (a .links) (length (a .rec .now) / 2) (c .event-of .result) room (rw (c .event-of .ensures) (heard-within t (a .probe) (a .frame .now) (sym (c .before .before .heard-fault .ensures) ∙ c .before .if2 .left)))
 
 returns-3 : tie.Need-returns-3
 unfolding heardFault

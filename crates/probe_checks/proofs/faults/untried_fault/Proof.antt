@@ -16,13 +16,13 @@ enum-known-event c = search needs
 
 mul-if1 : tie.Need-mul-if1
 mul-if1 c =
-    let w = rw (c .before .event .given .1) at (c .before .before .before .pre .0) in
-    let r = c .before .before .before .pre .1 in omega arith
+    let w = rw (c .before .event .given .1) at (c .before .before .before .pre) in
+    omega arith
 
 shared-slice-read-if1 : tie.Need-shared-slice-read-if1
 shared-slice-read-if1 c =
-    let w = rw (c .before .before .event .given .1) at (c .before .before .before .before .pre .0) in
-    let r = c .before .before .before .before .pre .1 in omega arith
+    let w = rw (c .before .before .event .given .1) at (c .before .before .before .before .pre) in
+    omega arith
 
 returns : tie.Need-returns
 returns c = rw (c .before .before .before .event .given .1, eq-eqb _ _ (c .if1 .taken))

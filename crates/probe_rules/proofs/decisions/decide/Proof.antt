@@ -9,44 +9,46 @@ enum-told : tie.Need-enum-told
 enum-told c = search needs
 
 decide-opening-requires : tie.Need-decide-opening-requires
-decide-opening-requires c κs = c .before .before .before .before .before .before .before .pre .0
+decide-opening-requires c κs = search needs
 
 enum-known-event : tie.Need-enum-known-event
 enum-known-event c = search needs
 
 mul-if1 : tie.Need-mul-if1
 mul-if1 c =
-    let w = rw (c .before .event .given .1) at (c .before .before .before .before .before .before .before .before .pre .1) in
-    let r = c .before .before .before .before .before .before .before .before .pre .0 .room in omega arith
+    let w = rw (c .before .event .given .1) at (c .before .before .before .before .before .before .before .before .pre .2) in
+    let r = c .before .before .before .before .before .before .before .before .pre .1 .room in omega arith
 
 add-if1 : tie.Need-add-if1
 add-if1 c =
-    let w = rw (c .before .event .given .1) at (c .before .before .before .before .before .before .before .before .pre .1) in
-    let r = c .before .before .before .before .before .before .before .before .pre .0 .room in omega arith
+    let w = rw (c .before .event .given .1) at (c .before .before .before .before .before .before .before .before .pre .2) in
+    let r = c .before .before .before .before .before .before .before .before .pre .1 .room in omega arith
 
 shared-slice-read-if1 : tie.Need-shared-slice-read-if1
 shared-slice-read-if1 c =
-    let w = rw (c .before .before .event .given .1) at (c .before .before .before .before .before .before .before .before .before .pre .1) in
-    let r = c .before .before .before .before .before .before .before .before .before .pre .0 .room in omega arith
+    let w = rw (c .before .before .event .given .1) at (c .before .before .before .before .before .before .before .before .before .pre .2) in
+    let r = c .before .before .before .before .before .before .before .before .before .pre .1 .room in omega arith
 
 returns : tie.Need-returns
 returns c = rw (c .before .before .before .event .given .1, ne-eqb _ _ (c .if1 .taken))
 
 decide-offer-requires : tie.Need-decide-offer-requires
-decide-offer-requires c κs = (c .before .before .before .before .before .before .before .before .before .before .pre .0, rw (c .before .before .before .event .given .1) at (c .before .before .before .before .before .before .before .before .before .before .pre .1))
+decide-offer-requires c κs =
+    let p = c .before .before .before .before .before .before .before .before .before .before .pre in
+    (p .0, p .1, rw (c .before .before .before .event .given .1) at (p .2))
 
 enum-known-event-2 : tie.Need-enum-known-event-2
 enum-known-event-2 c = search needs
 
 mul-if2 : tie.Need-mul-if2
 mul-if2 c =
-    let w = rw (c .before .event2 .given .1) at (c .before .before .before .before .before .before .before .before .pre .1) in
-    let r = c .before .before .before .before .before .before .before .before .pre .0 .room in omega arith
+    let w = rw (c .before .event2 .given .1) at (c .before .before .before .before .before .before .before .before .pre .2) in
+    let r = c .before .before .before .before .before .before .before .before .pre .1 .room in omega arith
 
 shared-slice-read-if2 : tie.Need-shared-slice-read-if2
 shared-slice-read-if2 c =
-    let w = rw (c .before .before .event2 .given .1) at (c .before .before .before .before .before .before .before .before .before .pre .1) in
-    let r = c .before .before .before .before .before .before .before .before .before .pre .0 .room in omega arith
+    let w = rw (c .before .before .event2 .given .1) at (c .before .before .before .before .before .before .before .before .before .pre .2) in
+    let r = c .before .before .before .before .before .before .before .before .before .pre .1 .room in omega arith
 
 returns-2 : tie.Need-returns-2
 returns-2 c = rw (c .before .before .before .event2 .given .1, eq-eqb _ _ (c .if2 .taken))

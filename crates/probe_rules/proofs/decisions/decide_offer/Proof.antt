@@ -7,7 +7,7 @@ use borrow.Author.Tests.{lt-ltb, le-ltb}
 use Rattle.table.specs.Table.{Table, ofSlices}
 use Rattle.probe_record.proofs.Bytes.{ones-held}
 use Rattle.plan_theory.proofs.Order.{dearer-by-place}
-use Rattle.table.proofs.LegalLaws.{legal-table}
+use Rattle.probe_rules.proofs.OutcomeLaws.{best-same}
 
 spare-requires : tie.Need-spare-requires
 spare-requires c κs = search needs
@@ -18,17 +18,17 @@ ones-requires c κs = search needs
 returns : tie.Need-returns
 returns c =
     let a = c .before .before .before .before .before .before .before .before .args in
-    let t : Table = ofSlices 0 (a .probes) (a .links) (a .needs .now) (a .lows .now) (a .highs .now) (a .costs .now) in
-    rw (← ones-held t (a .probe) (a .rec .now) (c .before .before .before .before .before .before .before .before .pre .0 .bytes), ← c .before .ones .ensures .0, ← c .before .before .spare .ensures, lt-ltb _ _ (c .if1 .taken))
+    let t : Table = ofSlices 0 0 (a .links) (a .needs .now) (a .lows .now) (a .highs .now) (a .costs .now) in
+    rw (← ones-held t (a .probe) (a .rec .now) (c .before .before .before .before .before .before .before .before .pre .1 .bytes), ← c .before .ones .ensures .0, ← c .before .before .spare .ensures, lt-ltb _ _ (c .if1 .taken))
 
-cheapest-held-requires : tie.Need-cheapest-held-requires
-cheapest-held-requires c κs = search needs
+best-own-requires : tie.Need-best-own-requires
+best-own-requires c κs = search needs
 
 returns-2 : tie.Need-returns-2
 returns-2 c =
     let a = c .before .before .before .before .before .before .before .before .before .before .args in
-    let t : Table = ofSlices 0 (a .probes) (a .links) (a .needs .now) (a .lows .now) (a .highs .now) (a .costs .now) in
-    rw (← ones-held t (a .probe) (a .rec .now) (c .before .before .before .before .before .before .before .before .before .before .pre .0 .bytes), ← c .before .before .before .ones .ensures .0, ← c .before .before .before .before .spare .ensures, le-ltb _ _ (c .before .before .if1 .left), ← c .before .cheapest-held .ensures, le-ltb _ _ (c .if2 .taken))
+    let t : Table = ofSlices 0 0 (a .links) (a .needs .now) (a .lows .now) (a .highs .now) (a .costs .now) in
+    rw (← ones-held t (a .probe) (a .rec .now) (c .before .before .before .before .before .before .before .before .before .before .pre .1 .bytes), ← c .before .before .before .ones .ensures .0, ← c .before .before .before .before .spare .ensures, le-ltb _ _ (c .before .before .if1 .left), sym (c .before .best-own .ensures ∙ best-same 1 (a .links) (a .needs .now) (a .lows .now) (a .highs .now) (a .costs .now) (a .probe) (a .rec .now)), le-ltb _ _ (c .if2 .taken))
 
 dearer-requires : tie.Need-dearer-requires
 dearer-requires c κs = search needs
@@ -36,16 +36,16 @@ dearer-requires c κs = search needs
 returns-3 : tie.Need-returns-3
 returns-3 c =
     let a = c .before .before .before .before .before .before .before .before .before .before .before .before .args in
-    let t : Table = ofSlices 0 (a .probes) (a .links) (a .needs .now) (a .lows .now) (a .highs .now) (a .costs .now) in
-    let d = dearer-by-place t (legal-table 256 2048 t (c .before .before .before .before .before .before .before .before .before .before .before .before .pre .0 .legal) .order) (a .i) _ (c .before .before .before .before .before .before .before .before .before .before .before .before .pre .1) (c .before .before .if2 .left) ∙ sym (c .before .dearer .ensures) ∙ c .if3 .taken in
-    rw (← ones-held t (a .probe) (a .rec .now) (c .before .before .before .before .before .before .before .before .before .before .before .before .pre .0 .bytes), ← c .before .before .before .before .before .ones .ensures .0, ← c .before .before .before .before .before .before .spare .ensures, le-ltb _ _ (c .before .before .before .before .if1 .left), ← c .before .before .before .cheapest-held .ensures, lt-ltb _ _ (c .before .before .if2 .left), d)
+    let t : Table = ofSlices 0 0 (a .links) (a .needs .now) (a .lows .now) (a .highs .now) (a .costs .now) in
+    let d = dearer-by-place t (record { rising = c .before .before .before .before .before .before .before .before .before .before .before .before .pre .0 .order .rising }) (a .i) _ (c .before .before .before .before .before .before .before .before .before .before .before .before .pre .2) (c .before .before .if2 .left) ∙ sym (c .before .dearer .ensures) ∙ c .if3 .taken in
+    rw (← ones-held t (a .probe) (a .rec .now) (c .before .before .before .before .before .before .before .before .before .before .before .before .pre .1 .bytes), ← c .before .before .before .before .before .ones .ensures .0, ← c .before .before .before .before .before .before .spare .ensures, le-ltb _ _ (c .before .before .before .before .if1 .left), sym (c .before .before .before .best-own .ensures ∙ best-same 1 (a .links) (a .needs .now) (a .lows .now) (a .highs .now) (a .costs .now) (a .probe) (a .rec .now)), lt-ltb _ _ (c .before .before .if2 .left), d)
 
 returns-4 : tie.Need-returns-4
 returns-4 c =
     let a = c .before .before .before .before .before .before .before .before .before .before .before .before .args in
-    let t : Table = ofSlices 0 (a .probes) (a .links) (a .needs .now) (a .lows .now) (a .highs .now) (a .costs .now) in
-    let d = dearer-by-place t (legal-table 256 2048 t (c .before .before .before .before .before .before .before .before .before .before .before .before .pre .0 .legal) .order) (a .i) _ (c .before .before .before .before .before .before .before .before .before .before .before .before .pre .1) (c .before .before .if2 .left) ∙ sym (c .before .dearer .ensures) ∙ c .if3 .left in
-    rw (← ones-held t (a .probe) (a .rec .now) (c .before .before .before .before .before .before .before .before .before .before .before .before .pre .0 .bytes), ← c .before .before .before .before .before .ones .ensures .0, ← c .before .before .before .before .before .before .spare .ensures, le-ltb _ _ (c .before .before .before .before .if1 .left), ← c .before .before .before .cheapest-held .ensures, lt-ltb _ _ (c .before .before .if2 .left), d)
+    let t : Table = ofSlices 0 0 (a .links) (a .needs .now) (a .lows .now) (a .highs .now) (a .costs .now) in
+    let d = dearer-by-place t (record { rising = c .before .before .before .before .before .before .before .before .before .before .before .before .pre .0 .order .rising }) (a .i) _ (c .before .before .before .before .before .before .before .before .before .before .before .before .pre .2) (c .before .before .if2 .left) ∙ sym (c .before .dearer .ensures) ∙ c .if3 .left in
+    rw (← ones-held t (a .probe) (a .rec .now) (c .before .before .before .before .before .before .before .before .before .before .before .before .pre .1 .bytes), ← c .before .before .before .before .before .ones .ensures .0, ← c .before .before .before .before .before .before .spare .ensures, le-ltb _ _ (c .before .before .before .before .if1 .left), sym (c .before .before .before .best-own .ensures ∙ best-same 1 (a .links) (a .needs .now) (a .lows .now) (a .highs .now) (a .costs .now) (a .probe) (a .rec .now)), lt-ltb _ _ (c .before .before .if2 .left), d)
 
 pub decide-offer-spec : {M : Type 1} → statement M
 decide-offer-spec =
@@ -54,7 +54,7 @@ decide-offer-spec =
     spare-requires
     ones-requires
     returns
-    cheapest-held-requires
+    best-own-requires
     returns-2
     dearer-requires
     returns-3

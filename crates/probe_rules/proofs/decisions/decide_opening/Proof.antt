@@ -2,9 +2,11 @@
 use borrow.Author.Needs.{needs}
 use Rattle.probe_rules.proofs.decisions.decide_opening.Statement.{statement}
 use Rattle.probe_rules.proofs.decisions.decide_opening.Tie as tie
+use mathlib.Core.Path.{sym, _∙_}
 use borrow.Author.Tests.{lt-ltb, le-ltb}
 use Rattle.table.specs.Table.{Table, ofSlices}
 use Rattle.probe_record.proofs.Bytes.{ones-standing}
+use Rattle.probe_rules.proofs.OutcomeLaws.{best-same}
 
 spare-requires : tie.Need-spare-requires
 spare-requires c κs = search needs
@@ -15,25 +17,25 @@ ones-requires c κs = search needs
 returns : tie.Need-returns
 returns c =
     let a = c .before .before .before .before .before .before .before .before .args in
-    let t : Table = ofSlices 0 (a .probes) (a .links) (a .needs .now) (a .lows .now) (a .highs .now) (a .costs .now) in
-    rw (← ones-standing t (a .probe) (a .rec .now) (c .before .before .before .before .before .before .before .before .pre .bytes), ← c .before .ones .ensures .0, ← c .before .before .spare .ensures, le-ltb _ _ (c .if1 .taken))
+    let t : Table = ofSlices 0 0 (a .links) (a .needs .now) (a .lows .now) (a .highs .now) (a .costs .now) in
+    rw (← ones-standing t (a .probe) (a .rec .now) (c .before .before .before .before .before .before .before .before .pre .1 .bytes), ← c .before .ones .ensures .0, ← c .before .before .spare .ensures, le-ltb _ _ (c .if1 .taken))
 
-dearest-untried-requires : tie.Need-dearest-untried-requires
-dearest-untried-requires c κs = search needs
+best-own-requires : tie.Need-best-own-requires
+best-own-requires c κs = search needs
 
 returns-2 : tie.Need-returns-2
 returns-2 c =
     let a = c .before .before .before .before .before .before .before .before .before .before .args in
-    let t : Table = ofSlices 0 (a .probes) (a .links) (a .needs .now) (a .lows .now) (a .highs .now) (a .costs .now) in
-    rw (← ones-standing t (a .probe) (a .rec .now) (c .before .before .before .before .before .before .before .before .before .before .pre .bytes), ← c .before .before .before .ones .ensures .0, ← c .before .before .before .before .spare .ensures, lt-ltb _ _ (c .before .before .if1 .left), ← c .before .dearest-untried .ensures, le-ltb _ _ (c .if2 .taken))
+    let t : Table = ofSlices 0 0 (a .links) (a .needs .now) (a .lows .now) (a .highs .now) (a .costs .now) in
+    rw (← ones-standing t (a .probe) (a .rec .now) (c .before .before .before .before .before .before .before .before .before .before .pre .1 .bytes), ← c .before .before .before .ones .ensures .0, ← c .before .before .before .before .spare .ensures, lt-ltb _ _ (c .before .before .if1 .left), sym (c .before .best-own .ensures ∙ best-same 0 (a .links) (a .needs .now) (a .lows .now) (a .highs .now) (a .costs .now) (a .probe) (a .rec .now)), le-ltb _ _ (c .if2 .taken))
 
 returns-3 : tie.Need-returns-3
 returns-3 c =
     let a = c .before .before .before .before .before .before .before .before .before .before .args in
-    let t : Table = ofSlices 0 (a .probes) (a .links) (a .needs .now) (a .lows .now) (a .highs .now) (a .costs .now) in
-    rw (← ones-standing t (a .probe) (a .rec .now) (c .before .before .before .before .before .before .before .before .before .before .pre .bytes), ← c .before .before .before .ones .ensures .0, ← c .before .before .before .before .spare .ensures, lt-ltb _ _ (c .before .before .if1 .left), ← c .before .dearest-untried .ensures, lt-ltb _ _ (c .if2 .left))
+    let t : Table = ofSlices 0 0 (a .links) (a .needs .now) (a .lows .now) (a .highs .now) (a .costs .now) in
+    rw (← ones-standing t (a .probe) (a .rec .now) (c .before .before .before .before .before .before .before .before .before .before .pre .1 .bytes), ← c .before .before .before .ones .ensures .0, ← c .before .before .before .before .spare .ensures, lt-ltb _ _ (c .before .before .if1 .left), sym (c .before .best-own .ensures ∙ best-same 0 (a .links) (a .needs .now) (a .lows .now) (a .highs .now) (a .costs .now) (a .probe) (a .rec .now)), lt-ltb _ _ (c .if2 .left))
 
 pub decide-opening-spec : {M : Type 1} → statement M
 decide-opening-spec =
     tie.close
-    (tie.spec spare-requires ones-requires returns dearest-untried-requires returns-2 returns-3)
+    (tie.spec spare-requires ones-requires returns best-own-requires returns-2 returns-3)
