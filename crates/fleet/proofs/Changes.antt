@@ -17,7 +17,7 @@ use Rattle.range.proofs.Choice.{Best, nobody, chosen, best-is}
 use Rattle.range.proofs.Sums.{sum-same, sum-add, sum-one, none-count}
 use Rattle.table.specs.Table.{Table, item, touches, spare, dearer, cheaper}
 use Rattle.table.specs.Legal.{Legal}
-use Rattle.plan_theory.proofs.Places.{opposite}
+use Rattle.plan_theory.proofs.Places.{reversed}
 use Rattle.plan_theory.proofs.Order.{dearer-order}
 use Rattle.table.proofs.LegalLaws.{legal-table}
 use Rattle.probe_record.specs.Record.{outbound, inbound, ownWith, standing, held, dearestUntried, cheapestHeld}
@@ -55,7 +55,7 @@ NewBytes e (NoChange i) = Unit
 module _ (t : Table) (legal : Legal t) (p : ℕ) (e : List ℕ) where
   cheapest : Best (cheaper t) (ownWith t p (inbound e) 1) (t .links) (t .links) (cheapestHeld t p e)
   cheapest =
-      let o = opposite (dearer-order t (legal-table 256 2048 t legal .order)) in
+      let o = reversed (dearer-order t (legal-table 256 2048 t legal .order)) in
       best-is (cheaper t) (ownWith t p (inbound e) 1) (t .links) (o .irreflexive) (o .transitive) (t .links) (le-refl (t .links))
 
   befalls-new : (v : Event) → NewBytes e (befalls t p v e)

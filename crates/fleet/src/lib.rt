@@ -1,6 +1,4 @@
-// A fleet of ends: its record, driven by lines. Links go by their place in the table.
-// A line to a fleet: its checks, and what it says.
-// Laws of a fleet on any record: it stays usable, and an event alters as many bytes as its entry says. No function of its own.
+// A fleet of ends: its record, driven by lines. Links go by their place in the table. Beside the calls, laws on any record: it stays usable, and an event alters as many bytes as its entry says.
 ghost use mathlib.Core.Path.{_≡_};
 ghost use Rattle.table.specs.Slices.{slicesOf};
 ghost use Rattle.fleet.specs.Answers.{Handled, whetherFinished, changesOf};

@@ -1,4 +1,4 @@
-// The functions, each within the bounds that it asks.
+// A line to a fleet: its checks, and what it says.
 use super::Ends;
 ghost use mathlib.Core.Path.{_≡_};
 ghost use mathlib.Core.Bool.{false, cond};

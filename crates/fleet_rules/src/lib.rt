@@ -1,5 +1,4 @@
-// What befalls an end of a fleet, found in one pass over the links.
-// The ends' own bytes in the fleet's record: where they stand, their reading and their change.
+// The rules of the ends in a fleet's record: where an end's own bytes stand, and what befalls it, found in one pass over the links.
 
 pub mod decisions;
 pub mod own_bytes;

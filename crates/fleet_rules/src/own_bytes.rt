@@ -1,4 +1,4 @@
-// The functions, each within the bounds that it asks.
+// An end's own bytes in the fleet's record: where they stand, their reading and their change.
 ghost use mathlib.Core.Path.{_≡_};
 ghost use mathlib.Core.Bool.{cond};
 ghost use mathlib.Core.List.{[]};

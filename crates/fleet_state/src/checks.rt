@@ -1,4 +1,4 @@
-// The functions, each within the bounds that it asks.
+// 20, 21 and 22 of a fleet's record.
 ghost use mathlib.Core.Path.{_≡_};
 ghost use mathlib.Core.List.{[]};
 ghost use Prim.Native.Nat.{_*_, _-_, _<_, _≤_};
@@ -27,7 +27,7 @@ fn bytes_fault(rec: &[u8], n: usize) -> u8
 }
 
 // 22, by the probes' counts.
-fn counted_fault(
+fn over_spare_fault(
     probes: usize,
     needs: &[u16],
     degrees: &[u16],
@@ -70,7 +70,7 @@ fn spares_fault(
     table::degrees::count_degrees(&mut degrees, links, lows, highs);
     super::counts::count_bytes(&mut standing, rec, links, lows, highs, 0, 2, 1);
     super::counts::count_bytes(&mut held, rec, links, lows, highs, 3, 1, 1);
-    counted_fault(probes, needs, &degrees, &standing, &held)
+    over_spare_fault(probes, needs, &degrees, &standing, &held)
 }
 
 // 20, 21, 22.

@@ -1,4 +1,4 @@
-// The functions, each within the bounds that it asks.
+// Counts by probe: the links whose byte for it has a value.
 ghost use mathlib.Core.Path.{_≡_};
 ghost use mathlib.Core.Bool.{cond};
 ghost use Prim.Native.Nat.{ℕ, _+_, _*_, _-_, _<_, _≤_};

@@ -1,4 +1,4 @@
-// The functions, each within the bounds that it asks.
+// Whether a fleet is finished.
 ghost use mathlib.Core.Path.{_≡_};
 ghost use mathlib.Core.Bool.{_||_};
 ghost use mathlib.Core.List.{List};

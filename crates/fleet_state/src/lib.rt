@@ -1,6 +1,4 @@
-// The checks of a fleet's record.
-// Counts by probe of a fleet's record: the links whose byte for it has a value, and its spare.
-// Whether a fleet is finished.
+// What a fleet's record says as a whole: whether it is usable, and whether the fleet is finished.
 
 pub mod checks;
 pub mod counts;

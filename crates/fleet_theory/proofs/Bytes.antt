@@ -14,7 +14,7 @@ use Rattle.plan_theory.proofs.Plan.{touches-low, touches-high}
 use Rattle.probe_rules.specs.declared.Outcome.{Outcome}
 use Rattle.probe_rules.specs.declared.Outcome.the-variants.{Opened, NothingToOpen, Taken, TakenDisplacing, Refused, RefusalLearnt, NoChange}
 use Rattle.probe_rules.specs.Within.{OwnLink, OwnOutcome}
-use Rattle.fleet_theory.proofs.EndState.{store, Same}
+use Rattle.fleet_theory.proofs.EndState.{store, SameBytes}
 use Rattle.fleet_theory.specs.Fleet.{outAt, inAt, alterFleet}
 use Rattle.fleet_theory.proofs.Own.{outOf, inOf, out-reads, in-reads, out-not-in, set-other, set-own}
 
@@ -86,25 +86,25 @@ length-altered t p (Refused i) r = length-set r (inAt t p i) 2
 length-altered t p (RefusalLearnt i) r = length-set r (outAt t p i) 2
 length-altered t p (NoChange i) r = refl
 
-store-same : {b b′ : ℕ → ℕ → ℕ} (p i v : ℕ) → Same b b′ → Same (store b p i v) (store b′ p i v)
+store-same : {b b′ : ℕ → ℕ → ℕ} (p i v : ℕ) → SameBytes b b′ → SameBytes (store b p i v) (store b′ p i v)
 unfolding store
 store-same p i v e q j = rw (e q j)
 
 module _ (t : Table) (p : ℕ) where
-  pub out-set : (r : List ℕ) (i v : ℕ) → length r ≡ 4 * t .links → OwnLink t p i → Same (outOf t (set r (outAt t p i) v)) (store (outOf t r) p i v)
+  pub out-set : (r : List ℕ) (i v : ℕ) → length r ≡ 4 * t .links → OwnLink t p i → SameBytes (outOf t (set r (outAt t p i) v)) (store (outOf t r) p i v)
   out-set r i v = set-own t (outAt t) (outOf t) (out-reads t) r p i v
 
-  pub out-in-set : (r : List ℕ) (i v : ℕ) → OwnLink t p i → Same (outOf t (set r (inAt t p i) v)) (outOf t r)
+  pub out-in-set : (r : List ℕ) (i v : ℕ) → OwnLink t p i → SameBytes (outOf t (set r (inAt t p i) v)) (outOf t r)
   out-in-set r i v a = set-other t (outAt t) (outOf t) (out-reads t) r (inAt t p i) v (λ q j b. out-not-in t q j p i b a)
 
-  pub in-set : (r : List ℕ) (i v : ℕ) → length r ≡ 4 * t .links → OwnLink t p i → Same (inOf t (set r (inAt t p i) v)) (store (inOf t r) p i v)
+  pub in-set : (r : List ℕ) (i v : ℕ) → length r ≡ 4 * t .links → OwnLink t p i → SameBytes (inOf t (set r (inAt t p i) v)) (store (inOf t r) p i v)
   in-set r i v = set-own t (inAt t) (inOf t) (in-reads t) r p i v
 
-  pub in-out-set : (r : List ℕ) (i v : ℕ) → OwnLink t p i → Same (inOf t (set r (outAt t p i) v)) (inOf t r)
+  pub in-out-set : (r : List ℕ) (i v : ℕ) → OwnLink t p i → SameBytes (inOf t (set r (outAt t p i) v)) (inOf t r)
   in-out-set r i v a = set-other t (inAt t) (inOf t) (in-reads t) r (outAt t p i) v (λ q j b e. out-not-in t p i q j a b (sym e))
 
   module _ (r : List ℕ) (long : length r ≡ 4 * t .links) where
-    pub altered-out : (o : Outcome) → OwnOutcome t p o → Same (outOf t (alterFleet t p o r)) (storedOut p o (outOf t r))
+    pub altered-out : (o : Outcome) → OwnOutcome t p o → SameBytes (outOf t (alterFleet t p o r)) (storedOut p o (outOf t r))
     altered-out (Opened i) a = out-set r i 1 long a
     altered-out NothingToOpen a = λ q j. refl
     altered-out (Taken i) a = out-in-set r i 1 a
@@ -113,7 +113,7 @@ module _ (t : Table) (p : ℕ) where
     altered-out (RefusalLearnt i) a = out-set r i 2 long a
     altered-out (NoChange i) a = λ q j. refl
 
-    pub altered-in : (o : Outcome) → OwnOutcome t p o → Same (inOf t (alterFleet t p o r)) (storedIn p o (inOf t r))
+    pub altered-in : (o : Outcome) → OwnOutcome t p o → SameBytes (inOf t (alterFleet t p o r)) (storedIn p o (inOf t r))
     altered-in (Opened i) a = in-out-set r i 1 a
     altered-in NothingToOpen a = λ q j. refl
     altered-in (Taken i) a = in-set r i 1 long a

@@ -13,14 +13,14 @@ use Rattle.range.proofs.Counts.{count-except, count-swap}
 use Rattle.table.specs.Table.{Table, touches, spare}
 use Rattle.table.specs.Legal.{LegalTable}
 use Rattle.plan_theory.specs.Criterion.{Across, up, down}
-use Rattle.fleet_theory.proofs.EndState.{onesAt, store, Same}
+use Rattle.fleet_theory.proofs.EndState.{onesAt, store, SameBytes}
 
 -- the byte of q on j, where the byte of p on i is stored
 pub data Cell (b b′ : ℕ → ℕ → ℕ) (p i v q j : ℕ) : Type 0 where
   here : q ≡ p → j ≡ i → b′ q j ≡ v → Cell b b′ p i v q j
   there : (q ≡ p → j ≡ i → ⊥) → b′ q j ≡ b q j → Cell b b′ p i v q j
 
-pub cell : (b b′ : ℕ → ℕ → ℕ) (p i v : ℕ) → Same b′ (store b p i v) → (q j : ℕ) → Cell b b′ p i v q j
+pub cell : (b b′ : ℕ → ℕ → ℕ) (p i v : ℕ) → SameBytes b′ (store b p i v) → (q j : ℕ) → Cell b b′ p i v q j
 unfolding store
 cell b b′ p i v s q j = go (ℕ-discrete q p) (ℕ-discrete j i)
   where
@@ -29,15 +29,15 @@ cell b b′ p i v s q j = go (ℕ-discrete q p) (ℕ-discrete j i)
     go (yes e) (no f) = there (λ x y. f y) (s q j ∙ rw (eq-eqb q p e, ne-eqb j i f))
     go (no e) d = there (λ x y. e x) (s q j ∙ rw (ne-eqb q p e))
 
-pub stored : (b b′ : ℕ → ℕ → ℕ) (p i v : ℕ) → Same b′ (store b p i v) → b′ p i ≡ v
-stored b b′ p i v s = go (cell b b′ p i v s p i)
+pub storedByte : (b b′ : ℕ → ℕ → ℕ) (p i v : ℕ) → SameBytes b′ (store b p i v) → b′ p i ≡ v
+storedByte b b′ p i v s = go (cell b b′ p i v s p i)
   where
     go : Cell b b′ p i v p i → b′ p i ≡ v
     go (here x y e) = e
     go (there d e) = absurd (d refl refl)
 
 -- a byte that is not the one stored was there before
-pub before-store : (b b′ : ℕ → ℕ → ℕ) (p i u : ℕ) → Same b′ (store b p i u) → (q j v : ℕ) → (v ≡ u → ⊥) → b′ q j ≡ v → b q j ≡ v
+pub before-store : (b b′ : ℕ → ℕ → ℕ) (p i u : ℕ) → SameBytes b′ (store b p i u) → (q j v : ℕ) → (v ≡ u → ⊥) → b′ q j ≡ v → b q j ≡ v
 before-store b b′ p i u s q j v d e = go (cell b b′ p i u s q j)
   where
     go : Cell b b′ p i u q j → b q j ≡ v
@@ -50,7 +50,7 @@ pub data Swap (b b′ : ℕ → ℕ → ℕ) (p i c q j : ℕ) : Type 0 where
   new : q ≡ p → j ≡ i → b′ q j ≡ 1 → Swap b b′ p i c q j
   old : (q ≡ p → j ≡ c → ⊥) → (q ≡ p → j ≡ i → ⊥) → b′ q j ≡ b q j → Swap b b′ p i c q j
 
-pub swap : (b b′ : ℕ → ℕ → ℕ) (p i c : ℕ) → Same b′ (store (store b p i 1) p c 2) → (q j : ℕ) → Swap b b′ p i c q j
+pub swap : (b b′ : ℕ → ℕ → ℕ) (p i c : ℕ) → SameBytes b′ (store (store b p i 1) p c 2) → (q j : ℕ) → Swap b b′ p i c q j
 swap b b′ p i c s q j = go (cell (store b p i 1) b′ p c 2 s q j) (cell b (store b p i 1) p i 1 (λ x y. refl) q j)
   where
     go : Cell (store b p i 1) b′ p c 2 q j → Cell b (store b p i 1) p i 1 q j → Swap b b′ p i c q j
@@ -116,11 +116,11 @@ module _ (t : Table) (b b′ : ℕ → ℕ → ℕ) where
       let c = fits q in
       omega arith
 
-  pub fits-same : Same b′ b → WithinSpares t b → WithinSpares t b′
+  pub fits-same : SameBytes b′ b → WithinSpares t b → WithinSpares t b′
   fits-same s = fits-fewer (λ q j e. sym (s q j) ∙ e)
 
   -- p has room for one more
-  pub fits-more : (p i : ℕ) → i < t .links → Same b′ (store b p i 1) → onesAt t b p < spare t p → WithinSpares t b → WithinSpares t b′
+  pub fits-more : (p i : ℕ) → i < t .links → SameBytes b′ (store b p i 1) → onesAt t b p < spare t p → WithinSpares t b → WithinSpares t b′
   fits-more p i l s room fits q = go (ℕ-discrete q p)
     where
       was : (j : ℕ) → (q ≡ p → j ≡ i → ⊥) → b′ q j ≡ 1 → b q j ≡ 1
@@ -141,7 +141,7 @@ module _ (t : Table) (b b′ : ℕ → ℕ → ℕ) where
           omega arith
 
   -- the link i comes for the link c
-  pub fits-swap : (p i c : ℕ) → i < t .links → c < t .links → touches t p c ≡ true → b p i ≡ 0 → b p c ≡ 1 → Same b′ (store (store b p i 1) p c 2) → WithinSpares t b
+  pub fits-swap : (p i c : ℕ) → i < t .links → c < t .links → touches t p c ≡ true → b p i ≡ 0 → b p c ≡ 1 → SameBytes b′ (store (store b p i 1) p c 2) → WithinSpares t b
       → WithinSpares t b′
   fits-swap p i c li lc at z e s fits q = let a = few (ℕ-discrete q p) in let d = fits q in omega arith
     where
@@ -162,7 +162,7 @@ module _ (t : Table) (b b′ : ℕ → ℕ → ℕ) where
 
 -- and p has as many links with the byte 1 as before
 pub swap-many : (t : Table) (b b′ : ℕ → ℕ → ℕ) (p i c : ℕ) → i < t .links → c < t .links → touches t p i ≡ true → b p i ≡ 0 → b p c ≡ 1
-    → Same b′ (store (store b p i 1) p c 2) → onesAt t b p ≤ onesAt t b′ p
+    → SameBytes b′ (store (store b p i 1) p c 2) → onesAt t b p ≤ onesAt t b′ p
 swap-many t b b′ p i c li lc at z e s =
     ones-swap t b′ b p c i lc li (λ j d h. stays j d h (swap b b′ p i c s p j)) (λ y. omega arith) at (taken (swap b b′ p i c s p i))
   where

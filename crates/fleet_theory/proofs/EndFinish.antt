@@ -18,11 +18,11 @@ use Rattle.plan_theory.proofs.Order.{dearer-order}
 use Rattle.plan_theory.proofs.Plan.{plan-criterion, rested-at}
 use Rattle.plan_theory.specs.Criterion.{dearerAt, UnderSpare, Across, up, down}
 use Rattle.plan_theory.proofs.Settled.{near, back, both}
-use Rattle.fleet_theory.proofs.EndState.{Inv, Sent, Denied, Good, Quiet, four}
+use Rattle.fleet_theory.proofs.EndState.{FleetInv, Sent, Denied, Good, Quiet, four}
 use Rattle.table.proofs.LegalLaws.{legal-table}
 use Rattle.fleet_theory.proofs.EndBytes.{far}
 
-module _ (t : Table) (legal : Legal t) (F G : ℕ → ℕ → Type 0) (o n : ℕ → ℕ → ℕ) (inv : Inv t F G o n) where
+module _ (t : Table) (legal : Legal t) (F G : ℕ → ℕ → Type 0) (o n : ℕ → ℕ → ℕ) (inv : FleetInv t F G o n) where
   abbrev rises : RisingLinks t
   rises = legal-table 256 2048 t legal .order
 

@@ -16,14 +16,14 @@ use Rattle.plan_theory.proofs.Order.{dearer-order}
 use Rattle.plan_theory.proofs.Plan.{plan-criterion, rested-at}
 use Rattle.plan_theory.specs.Criterion.{UnderSpare, Across}
 use Rattle.plan_theory.proofs.Settled.{near, back, both}
-use Rattle.fleet_theory.proofs.EndState.{onesAt, store, Same, Step, idle, opens, takes, displaces, refuses, learns, Inv, Offered, Refused}
+use Rattle.fleet_theory.proofs.EndState.{onesAt, store, SameBytes, Step, idle, opens, takes, displaces, refuses, learns, FleetInv, EverOffered, Refused}
 use Rattle.table.proofs.LegalLaws.{legal-table}
 use Rattle.fleet_theory.proofs.EndBytes.{Cell, here, there, cell, before-store, Swap, gone, new, old, swap, far, far-one, WithinSpares, fits-fewer, fits-same, fits-more, fits-swap, swap-many}
 use Rattle.fleet_theory.proofs.EndNext.{Out, out-same, out-open, out-learn, In, in-same, in-take, in-refuse, DearestFirst, next}
 
-module _ (t : Table) (s : LegalTable 256 2048 t) (F G : ℕ → ℕ → Type 0) (o n : ℕ → ℕ → ℕ) (inv : Inv t F G o n) (o′ n′ : ℕ → ℕ → ℕ) where
+module _ (t : Table) (s : LegalTable 256 2048 t) (F G : ℕ → ℕ → Type 0) (o n : ℕ → ℕ → ℕ) (inv : FleetInv t F G o n) (o′ n′ : ℕ → ℕ → ℕ) where
   abbrev After : Type 0
-  After = Inv t (Offered F o′) (Refused t G n′) o′ n′
+  After = FleetInv t (EverOffered F o′) (Refused t G n′) o′ n′
 
   abbrev by-dearer : Order (t .links) (dearer t)
   by-dearer = dearer-order t (s .order)
@@ -69,17 +69,17 @@ module _ (t : Table) (s : LegalTable 256 2048 t) (F G : ℕ → ℕ → Type 0) 
           absurd (omega arith)
 
   -- an event at inbound bytes alone
-  next-in : Same o′ o → ((q j : ℕ) → In t F n n′ q j) → WithinSpares t n′ → After
+  next-in : SameBytes o′ o → ((q j : ℕ) → In t F n n′ q j) → WithinSpares t n′ → After
   next-in so ins holding =
       next t F G o n inv o′ n′ (λ q j. out-same (so q j)) ins (fits-same t o o′ so (inv .standing)) holding
       (λ q f g lf lg af ag ef eg. inv .order q f g lf lg af ag (sym (so q f) ∙ ef) (sym (so q g) ∙ eg))
 
   -- an event at outbound bytes alone
-  next-out : Same n′ n → ((q j : ℕ) → Out t G o o′ q j) → WithinSpares t o′ → DearestFirst t o′ → After
+  next-out : SameBytes n′ n → ((q j : ℕ) → Out t G o o′ q j) → WithinSpares t o′ → DearestFirst t o′ → After
   next-out sn outs standing = next t F G o n inv o′ n′ outs (λ q j. in-same (sn q j)) standing (fits-same t n n′ sn (inv .holding))
 
   on-open : (p i : ℕ) → i < t .links → touches t p i ≡ true → onesAt t o p < spare t p
-      → ((g : ℕ) → g < t .links → touches t p g ≡ true → o p g ≡ 0 → dearer t g i ≡ false) → Same o′ (store o p i 1) → Same n′ n → After
+      → ((g : ℕ) → g < t .links → touches t p g ≡ true → o p g ≡ 0 → dearer t g i ≡ false) → SameBytes o′ (store o p i 1) → SameBytes n′ n → After
   on-open p i l at room first so sn =
       next-out sn (λ q j. out q j (cell o o′ p i 1 so q j)) (fits-more t o o′ p i l so room (inv .standing))
       (λ q f g lf lg af ag ef eg. order q f g lf lg af ag ef eg (cell o o′ p i 1 so q f) (cell o o′ p i 1 so q g))
@@ -112,7 +112,7 @@ module _ (t : Table) (s : LegalTable 256 2048 t) (F G : ℕ → ℕ → Type 0) 
       order q f g lf lg af ag ef eg (here a b e) (there d h) =
           rw b (dearer-other i g l lg (λ x. d a (sym x)) (first g lg (rw a at ag) (rw a at (sym h ∙ eg))))
 
-  on-learn : (p i : ℕ) → i < t .links → touches t p i ≡ true → G p i → Same o′ (store o p i 2) → Same n′ n → After
+  on-learn : (p i : ℕ) → i < t .links → touches t p i ≡ true → G p i → SameBytes o′ (store o p i 2) → SameBytes n′ n → After
   on-learn p i l at g so sn =
       next-out sn (λ q j. out q j (cell o o′ p i 2 so q j)) (fits-fewer t o o′ (λ q j. was q j 1 (λ z. omega arith)) (inv .standing))
       (λ q f g lf lg af ag ef eg. inv .order q f g lf lg af ag (was q f 1 (λ z. omega arith) ef) (was q g 0 (λ z. omega arith) eg))
@@ -125,21 +125,21 @@ module _ (t : Table) (s : LegalTable 256 2048 t) (F G : ℕ → ℕ → Type 0) 
       was = before-store o o′ p i 2 so
 
   -- the offer of w on i comes to p
-  module _ (p w i : ℕ) (l : i < t .links) (x : Across t i w p) (f : F w i) (so : Same o′ o) where
+  module _ (p w i : ℕ) (l : i < t .links) (x : Across t i w p) (f : F w i) (so : SameBytes o′ o) where
     made : (q j : ℕ) → q ≡ p → j ≡ i → Made q j
     made q j a b u y = rw (b, far-one t s i p u w l (rw (a, b) at y) x) f
 
     own : (q j : ℕ) → q ≡ p → j ≡ i → touches t q j ≡ true
     own q j a b = rw (a, b) (near (back x))
 
-    on-take : onesAt t n p < spare t p → Same n′ (store n p i 1) → After
+    on-take : onesAt t n p < spare t p → SameBytes n′ (store n p i 1) → After
     on-take room sn = next-in so (λ q j. into q j (cell n n′ p i 1 sn q j)) (fits-more t n n′ p i l sn room (inv .holding))
       where
         into : (q j : ℕ) → Cell n n′ p i 1 q j → In t F n n′ q j
         into q j (here a b e) = in-take e (rw b l) (own q j a b) (made q j a b)
         into q j (there d e) = in-same e
 
-    on-refuse : spare t p ≤ onesAt t n p → ((g : ℕ) → g < t .links → touches t p g ≡ true → n p g ≡ 1 → dearer t g i ≡ true) → Same n′ (store n p i 2) → After
+    on-refuse : spare t p ≤ onesAt t n p → ((g : ℕ) → g < t .links → touches t p g ≡ true → n p g ≡ 1 → dearer t g i ≡ true) → SameBytes n′ (store n p i 2) → After
     on-refuse many dear sn =
         next-in so (λ q j. into q j (cell n n′ p i 2 sn q j))
         (fits-fewer t n n′ (λ q j. before-store n n′ p i 2 sn q j 1 (λ z. omega arith)) (inv .holding))
@@ -152,7 +152,7 @@ module _ (t : Table) (s : LegalTable 256 2048 t) (F G : ℕ → ℕ → Type 0) 
         into q j (there d e) = in-same e
 
     on-displace : (c : ℕ) → n p i ≡ 0 → spare t p ≤ onesAt t n p → c < t .links → touches t p c ≡ true → n p c ≡ 1 → dearer t i c ≡ true
-        → ((g : ℕ) → g < t .links → touches t p g ≡ true → n p g ≡ 1 → dearer t c g ≡ false) → Same n′ (store (store n p i 1) p c 2) → After
+        → ((g : ℕ) → g < t .links → touches t p g ≡ true → n p g ≡ 1 → dearer t c g ≡ false) → SameBytes n′ (store (store n p i 1) p c 2) → After
     on-displace c z many lc at e dear least sn =
         next-in so (λ q j. into q j (swap n n′ p i c sn q j)) (fits-swap t n n′ p i c l lc at z e sn (inv .holding))
       where
@@ -174,14 +174,14 @@ module _ (t : Table) (s : LegalTable 256 2048 t) (F G : ℕ → ℕ → Type 0) 
         into q j (new a b m) = in-take m (rw b l) (own q j a b) (made q j a b)
         into q j (old _ _ m) = in-same m
 
-pub inv-step : (t : Table) → Legal t → (F G : ℕ → ℕ → Type 0) (o n o′ n′ : ℕ → ℕ → ℕ) → Inv t F G o n → Step t F G o n o′ n′
-    → Inv t (Offered F o′) (Refused t G n′) o′ n′
+pub inv-step : (t : Table) → Legal t → (F G : ℕ → ℕ → Type 0) (o n o′ n′ : ℕ → ℕ → ℕ) → FleetInv t F G o n → Step t F G o n o′ n′
+    → FleetInv t (EverOffered F o′) (Refused t G n′) o′ n′
 inv-step t legal F G o n o′ n′ inv step = go step
   where
     s : LegalTable 256 2048 t
     s = legal-table 256 2048 t legal
 
-    go : Step t F G o n o′ n′ → Inv t (Offered F o′) (Refused t G n′) o′ n′
+    go : Step t F G o n o′ n′ → FleetInv t (EverOffered F o′) (Refused t G n′) o′ n′
     go (idle so sn) = next-in t s F G o n inv o′ n′ so (λ q j. in-same (sn q j)) (fits-same t n n′ sn (inv .holding))
     go (opens p i l at z room first so sn) = on-open t s F G o n inv o′ n′ p i l at room first so sn
     go (takes p w i l x f z room so sn) = on-take t s F G o n inv o′ n′ p w i l x f so room sn

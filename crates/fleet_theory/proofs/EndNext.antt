@@ -7,7 +7,7 @@ use native.Mathlib.Omega.{arith}
 use Rattle.table.specs.Table.{Table, touches, dearer}
 use Rattle.plan_theory.specs.Plan.{rested}
 use Rattle.plan_theory.specs.Criterion.{UnderSpare, Across}
-use Rattle.fleet_theory.proofs.EndState.{Inv, Offered, Refused}
+use Rattle.fleet_theory.proofs.EndState.{FleetInv, EverOffered, Refused}
 use Rattle.fleet_theory.proofs.EndBytes.{WithinSpares}
 
 -- the outbound byte of q on j after an event: as it was, or its offer is opened, or its refusal is learnt
@@ -28,9 +28,9 @@ DearestFirst t o =
     (p f g : ℕ) → f < t .links → g < t .links → touches t p f ≡ true → touches t p g ≡ true → o p f ≡ 1 → o p g ≡ 0 → dearer t f g ≡ true
 
 -- an event that alters bytes so
-module _ (t : Table) (F G : ℕ → ℕ → Type 0) (o n : ℕ → ℕ → ℕ) (inv : Inv t F G o n) (o′ n′ : ℕ → ℕ → ℕ) (outs : (q j : ℕ) → Out t G o o′ q j)
+module _ (t : Table) (F G : ℕ → ℕ → Type 0) (o n : ℕ → ℕ → ℕ) (inv : FleetInv t F G o n) (o′ n′ : ℕ → ℕ → ℕ) (outs : (q j : ℕ) → Out t G o o′ q j)
     (ins : (q j : ℕ) → In t F n n′ q j) where
-  pub next : WithinSpares t o′ → WithinSpares t n′ → DearestFirst t o′ → Inv t (Offered F o′) (Refused t G n′) o′ n′
+  pub next : WithinSpares t o′ → WithinSpares t n′ → DearestFirst t o′ → FleetInv t (EverOffered F o′) (Refused t G n′) o′ n′
   next standing holding order =
       record {
         out-small = λ p i. out-small p i (outs p i);
@@ -69,7 +69,7 @@ module _ (t : Table) (F G : ℕ → ℕ → Type 0) (o n : ℕ → ℕ → ℕ) 
       in-own p i z (in-take e l at f) = (l, at)
       in-own p i z (in-refuse e l at f k) = (l, at)
 
-      seen : (i p w : ℕ) → Across t i p w → (n′ w i ≡ 0 → ⊥) → In t F n n′ w i → Offered F o′ p i
+      seen : (i p w : ℕ) → Across t i p w → (n′ w i ≡ 0 → ⊥) → In t F n n′ w i → EverOffered F o′ p i
       seen i p w x z (in-same e) = inl (inv .seen i p w x (λ y. z (e ∙ y)))
       seen i p w x z (in-take e l at f) = inl (f p x)
       seen i p w x z (in-refuse e l at f k) = inl (f p x)
@@ -79,16 +79,16 @@ module _ (t : Table) (F G : ℕ → ℕ → Type 0) (o n : ℕ → ℕ → ℕ) 
       learnt p i e (out-open s l at f) = absurd (omega arith)
       learnt p i e (out-learn s l at g) = inl g
 
-      offered : (p i : ℕ) → (o′ p i ≡ 0 → ⊥) → Out t G o o′ p i → Offered F o′ p i
+      offered : (p i : ℕ) → (o′ p i ≡ 0 → ⊥) → Out t G o o′ p i → EverOffered F o′ p i
       offered p i z (out-same e) = inl (inv .offered p i (λ y. z (e ∙ y)))
       offered p i z (out-open e l at f) = inr e
       offered p i z (out-learn e l at g) = inl (inv .refused-offered p i g)
 
-      refused-offered : (p i : ℕ) → Refused t G n′ p i → Offered F o′ p i
+      refused-offered : (p i : ℕ) → Refused t G n′ p i → EverOffered F o′ p i
       refused-offered p i (inl g) = inl (inv .refused-offered p i g)
       refused-offered p i (inr (w, x, e)) = seen i p w x (λ z. omega arith) (ins w i)
 
-      offer-fits : (p i : ℕ) → i < t .links → touches t p i ≡ true → Offered F o′ p i → Out t G o o′ p i → UnderSpare t (rested t) i p
+      offer-fits : (p i : ℕ) → i < t .links → touches t p i ≡ true → EverOffered F o′ p i → Out t G o o′ p i → UnderSpare t (rested t) i p
       offer-fits p i l at (inl f) c = inv .offer-fits p i l at f
       offer-fits p i l at (inr e) (out-same s) = inv .offer-fits p i l at (inv .offered p i (λ z. omega arith))
       offer-fits p i l at (inr e) (out-open s k a f) = f

@@ -13,19 +13,19 @@ use Rattle.range.proofs.Counts.{sum-most}
 use Rattle.table.specs.Table.{Table, touches, spare}
 use Rattle.table.specs.Legal.{Legal}
 use Rattle.plan_theory.proofs.Settled.{near, back}
-use Rattle.fleet_theory.proofs.EndState.{onesAt, store, Same, Step, idle, opens, takes, displaces, refuses, learns, Inv, Offered, Refused, Sent, Denied, Good, four, total}
-use Rattle.fleet_theory.proofs.EndBytes.{Cell, here, there, cell, stored, Swap, gone, new, old, swap}
+use Rattle.fleet_theory.proofs.EndState.{onesAt, store, SameBytes, Step, idle, opens, takes, displaces, refuses, learns, FleetInv, EverOffered, Refused, Sent, Denied, Good, four, total}
+use Rattle.fleet_theory.proofs.EndBytes.{Cell, here, there, cell, storedByte, Swap, gone, new, old, swap}
 use Rattle.fleet_theory.proofs.EndKeep.{inv-step}
 
 -- a byte stored that is at least what it was
-store-rises : (b b′ : ℕ → ℕ → ℕ) (p i v : ℕ) → Same b′ (store b p i v) → b p i ≤ v → (q j : ℕ) → b q j ≤ b′ q j
+store-rises : (b b′ : ℕ → ℕ → ℕ) (p i v : ℕ) → SameBytes b′ (store b p i v) → b p i ≤ v → (q j : ℕ) → b q j ≤ b′ q j
 store-rises b b′ p i v s h q j = go (cell b b′ p i v s q j)
   where
     go : Cell b b′ p i v q j → b q j ≤ b′ q j
     go (here x y e) = let k : b q j ≡ b p i = rw (x, y) in omega arith
     go (there d e) = omega arith
 
-swap-rises : (b b′ : ℕ → ℕ → ℕ) (p i c : ℕ) → Same b′ (store (store b p i 1) p c 2) → b p i ≡ 0 → b p c ≡ 1 → (q j : ℕ) → b q j ≤ b′ q j
+swap-rises : (b b′ : ℕ → ℕ → ℕ) (p i c : ℕ) → SameBytes b′ (store (store b p i 1) p c 2) → b p i ≡ 0 → b p c ≡ 1 → (q j : ℕ) → b q j ≤ b′ q j
 swap-rises b b′ p i c s z e q j = go (swap b b′ p i c s q j)
   where
     go : Swap b b′ p i c q j → b q j ≤ b′ q j
@@ -63,7 +63,7 @@ module _ (t : Table) (legal : Legal t) (o n o′ n′ : ℕ → ℕ → ℕ) (go
   pub out-rises : (p i : ℕ) → o p i ≤ o′ p i
   out-rises p i = go step
     where
-      same : Same o′ o → o p i ≤ o′ p i
+      same : SameBytes o′ o → o p i ≤ o′ p i
       same so = let e = so p i in omega arith
 
       go : Step t (Sent o) (Denied t n) o n o′ n′ → o p i ≤ o′ p i
@@ -77,7 +77,7 @@ module _ (t : Table) (legal : Legal t) (o n o′ n′ : ℕ → ℕ → ℕ) (go
   pub in-rises : (p i : ℕ) → n p i ≤ n′ p i
   in-rises p i = go step
     where
-      same : Same n′ n → n p i ≤ n′ p i
+      same : SameBytes n′ n → n p i ≤ n′ p i
       same sn = let e = sn p i in omega arith
 
       go : Step t (Sent o) (Denied t n) o n o′ n′ → n p i ≤ n′ p i
@@ -92,7 +92,7 @@ module _ (t : Table) (legal : Legal t) (o n o′ n′ : ℕ → ℕ → ℕ) (go
   pub out-next : (p i : ℕ) → o p i ≡ 0 → o′ p i ≤ 1
   out-next p i z = go step
     where
-      same : Same o′ o → o′ p i ≤ 1
+      same : SameBytes o′ o → o′ p i ≤ 1
       same so = let e = so p i in omega arith
 
       go : Step t (Sent o) (Denied t n) o n o′ n′ → o′ p i ≤ 1
@@ -115,14 +115,14 @@ module _ (t : Table) (legal : Legal t) (o n o′ n′ : ℕ → ℕ → ℕ) (go
   pub good-step : Good t o′ n′
   good-step = remark
     where
-      inv : Inv t (Offered (Sent o) o′) (Refused t (Denied t n) n′) o′ n′
+      inv : FleetInv t (EverOffered (Sent o) o′) (Refused t (Denied t n) n′) o′ n′
       inv = inv-step t legal (Sent o) (Denied t n) o n o′ n′ good step
 
-      sent : (p i : ℕ) → Offered (Sent o) o′ p i → Sent o′ p i
+      sent : (p i : ℕ) → EverOffered (Sent o) o′ p i → Sent o′ p i
       sent p i (inl f) z = f (let a = out-rises p i in omega arith)
       sent p i (inr e) z = omega arith
 
-      offer : (p i : ℕ) → Sent o′ p i → Dec (o p i ≡ 0) → Offered (Sent o) o′ p i
+      offer : (p i : ℕ) → Sent o′ p i → Dec (o p i ≡ 0) → EverOffered (Sent o) o′ p i
       offer p i f (yes z) = inr (let a = out-next p i z in omega (arith, f))
       offer p i f (no z) = inl z
 
@@ -175,28 +175,28 @@ module _ (t : Table) (legal : Legal t) (o n o′ n′ : ℕ → ℕ → ℕ) (go
           omega arith
 
   -- an event alters no byte, or the sum of all bytes grows
-  pub grows : (Same o′ o × Same n′ n) ⊎ (total t o n < total t o′ n′)
+  pub grows : (SameBytes o′ o × SameBytes n′ n) ⊎ (total t o n < total t o′ n′)
   grows = go step
     where
-      go : Step t (Sent o) (Denied t n) o n o′ n′ → (Same o′ o × Same n′ n) ⊎ (total t o n < total t o′ n′)
+      go : Step t (Sent o) (Denied t n) o n o′ n′ → (SameBytes o′ o × SameBytes n′ n) ⊎ (total t o n < total t o′ n′)
       go (idle so sn) = inl (so, sn)
       go (opens p i l at z room first so sn) =
-          inr (more p i l at (let a = stored o o′ p i 1 so in let b = sn p i in omega arith))
+          inr (more p i l at (let a = storedByte o o′ p i 1 so in let b = sn p i in omega arith))
       go (takes p w i l x f z room so sn) =
-          inr (more p i l (near (back x)) (let a = stored n n′ p i 1 sn in let b = so p i in omega arith))
+          inr (more p i l (near (back x)) (let a = storedByte n n′ p i 1 sn in let b = so p i in omega arith))
       go (displaces p w i c l x f z many lc at e dear least so sn) =
-          inr (more p c lc at (let a = stored (store n p i 1) n′ p c 2 sn in let b = so p c in omega arith))
+          inr (more p c lc at (let a = storedByte (store n p i 1) n′ p c 2 sn in let b = so p c in omega arith))
       go (refuses p w i l x f z many dear so sn) =
-          inr (more p i l (near (back x)) (let a = stored n n′ p i 2 sn in let b = so p i in omega arith))
+          inr (more p i l (near (back x)) (let a = storedByte n n′ p i 2 sn in let b = so p i in omega arith))
       go (learns p i l at g so sn) = again (ℕ-discrete (o p i) 2)
         where
-          again : Dec (o p i ≡ 2) → (Same o′ o × Same n′ n) ⊎ (total t o n < total t o′ n′)
+          again : Dec (o p i ≡ 2) → (SameBytes o′ o × SameBytes n′ n) ⊎ (total t o n < total t o′ n′)
           again (yes e) = inl (λ q j. same q j (cell o o′ p i 2 so q j), sn)
             where
               same : (q j : ℕ) → Cell o o′ p i 2 q j → o′ q j ≡ o q j
               same q j (here a b f) = let k : o q j ≡ o p i = rw (a, b) in omega arith
               same q j (there d f) = f
-          again (no d) = inr (more p i l at (let a = stored o o′ p i 2 so in let b = sn p i in let c = good .out-small p i in omega arith))
+          again (no d) = inr (more p i l at (let a = storedByte o o′ p i 2 so in let b = sn p i in let c = good .out-small p i in omega arith))
 
 pub total-most : (t : Table) (o n : ℕ → ℕ → ℕ) → Good t o n → total t o n ≤ 8 * t .links
 total-most t o n good =

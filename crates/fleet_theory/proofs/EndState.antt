@@ -19,29 +19,29 @@ unfoldable pub store : (ℕ → ℕ → ℕ) → ℕ → ℕ → ℕ → ℕ →
 store b p i v q j = cond (eqb q p && eqb j i) v (b q j)
 
 -- the same bytes
-abbrev pub Same : (ℕ → ℕ → ℕ) → (ℕ → ℕ → ℕ) → Type 0
-Same b c = (p i : ℕ) → b p i ≡ c p i
+abbrev pub SameBytes : (ℕ → ℕ → ℕ) → (ℕ → ℕ → ℕ) → Type 0
+SameBytes b c = (p i : ℕ) → b p i ≡ c p i
 
 -- What one event does. `F p i`: the offer of p on i could be sent so far. `G p i`: the refusal of the offer of p on i could be sent so far.
 pub data Step (t : Table) (F G : ℕ → ℕ → Type 0) (o n o′ n′ : ℕ → ℕ → ℕ) : Type 0 where
-  idle : Same o′ o → Same n′ n → Step t F G o n o′ n′
+  idle : SameBytes o′ o → SameBytes n′ n → Step t F G o n o′ n′
   opens : (p i : ℕ) → i < t .links → touches t p i ≡ true → o p i ≡ 0 → onesAt t o p < spare t p
       → ((g : ℕ) → g < t .links → touches t p g ≡ true → o p g ≡ 0 → dearer t g i ≡ false)
-      → Same o′ (store o p i 1) → Same n′ n → Step t F G o n o′ n′
+      → SameBytes o′ (store o p i 1) → SameBytes n′ n → Step t F G o n o′ n′
   takes : (p w i : ℕ) → i < t .links → Across t i w p → F w i → n p i ≡ 0 → onesAt t n p < spare t p
-      → Same o′ o → Same n′ (store n p i 1) → Step t F G o n o′ n′
+      → SameBytes o′ o → SameBytes n′ (store n p i 1) → Step t F G o n o′ n′
   displaces : (p w i c : ℕ) → i < t .links → Across t i w p → F w i → n p i ≡ 0 → spare t p ≤ onesAt t n p
       → c < t .links → touches t p c ≡ true → n p c ≡ 1 → dearer t i c ≡ true
       → ((g : ℕ) → g < t .links → touches t p g ≡ true → n p g ≡ 1 → dearer t c g ≡ false)
-      → Same o′ o → Same n′ (store (store n p i 1) p c 2) → Step t F G o n o′ n′
+      → SameBytes o′ o → SameBytes n′ (store (store n p i 1) p c 2) → Step t F G o n o′ n′
   refuses : (p w i : ℕ) → i < t .links → Across t i w p → F w i → n p i ≡ 0 → spare t p ≤ onesAt t n p
       → ((g : ℕ) → g < t .links → touches t p g ≡ true → n p g ≡ 1 → dearer t g i ≡ true)
-      → Same o′ o → Same n′ (store n p i 2) → Step t F G o n o′ n′
+      → SameBytes o′ o → SameBytes n′ (store n p i 2) → Step t F G o n o′ n′
   learns : (p i : ℕ) → i < t .links → touches t p i ≡ true → G p i
-      → Same o′ (store o p i 2) → Same n′ n → Step t F G o n o′ n′
+      → SameBytes o′ (store o p i 2) → SameBytes n′ n → Step t F G o n o′ n′
 
 -- What holds at each moment.
-pub record Inv (t : Table) (F G : ℕ → ℕ → Type 0) (o n : ℕ → ℕ → ℕ) : Type 0 where
+pub record FleetInv (t : Table) (F G : ℕ → ℕ → Type 0) (o n : ℕ → ℕ → ℕ) : Type 0 where
   pub out-small : (p i : ℕ) → o p i ≤ 2
   pub in-small : (p i : ℕ) → n p i ≤ 2
   pub out-own : (p i : ℕ) → (o p i ≡ 0 → ⊥) → (i < t .links) × (touches t p i ≡ true)
@@ -59,8 +59,8 @@ pub record Inv (t : Table) (F G : ℕ → ℕ → Type 0) (o n : ℕ → ℕ →
   pub refused-kept : (p i : ℕ) → i < t .links → touches t p i ≡ true → G p i → rested t i ≡ false
 
 -- the marks after an event
-abbrev pub Offered : (ℕ → ℕ → Type 0) → (ℕ → ℕ → ℕ) → ℕ → ℕ → Type 0
-Offered F o p i = F p i ⊎ (o p i ≡ 1)
+abbrev pub EverOffered : (ℕ → ℕ → Type 0) → (ℕ → ℕ → ℕ) → ℕ → ℕ → Type 0
+EverOffered F o p i = F p i ⊎ (o p i ≡ 1)
 
 abbrev pub Refused : Table → (ℕ → ℕ → Type 0) → (ℕ → ℕ → ℕ) → ℕ → ℕ → Type 0
 Refused t G n p i = G p i ⊎ ((w : ℕ) × Across t i p w × (n w i ≡ 2))
@@ -73,7 +73,7 @@ abbrev pub Denied : Table → (ℕ → ℕ → ℕ) → ℕ → ℕ → Type 0
 Denied t n p i = (w : ℕ) × Across t i p w × (n w i ≡ 2)
 
 abbrev pub Good : Table → (ℕ → ℕ → ℕ) → (ℕ → ℕ → ℕ) → Type 0
-Good t o n = Inv t (Sent o) (Denied t n) o n
+Good t o n = FleetInv t (Sent o) (Denied t n) o n
 
 -- no opening and no frame that may be sent would alter a byte
 pub record Quiet (t : Table) (o n : ℕ → ℕ → ℕ) : Type 0 where

@@ -4,7 +4,7 @@ use mathlib.Core.Path.{_≡_, sym, _∙_}
 use native.Mathlib.Omega.{arith}
 use native.Mathlib.Decide.{ℕ-discrete}
 use Rattle.table.specs.Table.{Table}
-use Rattle.fleet_theory.proofs.EndState.{Inv}
+use Rattle.fleet_theory.proofs.EndState.{FleetInv}
 use Rattle.fleet_theory.proofs.EndBytes.{fits-fewer}
 
 -- the bytes of p become 0, the others stay
@@ -24,8 +24,8 @@ module _ (p : ℕ) (b b′ : ℕ → ℕ → ℕ) (none : (i : ℕ) → b′ p i
       go (no d) = (d, sym (others q i d) ∙ e)
 
 -- a probe loses its bytes; what could be sent so far stays
-pub inv-wipe : (t : Table) (F G : ℕ → ℕ → Type 0) (o n o′ n′ : ℕ → ℕ → ℕ) (p : ℕ) → Inv t F G o n → ((i : ℕ) → o′ p i ≡ 0) → ((i : ℕ) → n′ p i ≡ 0)
-    → ((q i : ℕ) → (q ≡ p → ⊥) → o′ q i ≡ o q i) → ((q i : ℕ) → (q ≡ p → ⊥) → n′ q i ≡ n q i) → Inv t F G o′ n′
+pub inv-wipe : (t : Table) (F G : ℕ → ℕ → Type 0) (o n o′ n′ : ℕ → ℕ → ℕ) (p : ℕ) → FleetInv t F G o n → ((i : ℕ) → o′ p i ≡ 0) → ((i : ℕ) → n′ p i ≡ 0)
+    → ((q i : ℕ) → (q ≡ p → ⊥) → o′ q i ≡ o q i) → ((q i : ℕ) → (q ≡ p → ⊥) → n′ q i ≡ n q i) → FleetInv t F G o′ n′
 inv-wipe t F G o n o′ n′ p inv oz nz so sn =
     record {
       out-small = λ q i. omega (arith, out-le q i, inv .out-small q i);

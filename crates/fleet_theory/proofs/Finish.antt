@@ -17,7 +17,7 @@ use Rattle.plan_theory.proofs.Plan.{touches-low, plan-meets}
 use Rattle.plan_theory.proofs.Bound.{bound}
 use Rattle.probe_frame.specs.Frame.{Frame, frameOf}
 use Rattle.probe_rules.specs.Rules.{entryOf}
-use Rattle.fleet_theory.proofs.EndState.{Same, Sent, Denied, Quiet, Live, total}
+use Rattle.fleet_theory.proofs.EndState.{SameBytes, Sent, Denied, Quiet, Live, total}
 use Rattle.table.proofs.LegalLaws.{legal-table}
 use Rattle.fleet_theory.proofs.EndRise.{grows, total-most}
 use Rattle.fleet_theory.proofs.EndFinish.{rested-in, finished-plan}
@@ -147,7 +147,7 @@ module _ (x : Slices) (fine : slicesFault x ≡ 0) where
                   sure (grows t legal (outOf t (s .bytes)) (inOf t (s .bytes)) (outOf t (s′ .bytes)) (inOf t (s′ .bytes)) (h .good)
                   (accepted-steps x fine s h (suc (length (s .log))) l one))
                 where
-                  sure : (Same (outOf t (s′ .bytes)) (outOf t (s .bytes)) × Same (inOf t (s′ .bytes)) (inOf t (s .bytes))) ⊎ (totalOf (s .bytes) < totalOf (s′ .bytes))
+                  sure : (SameBytes (outOf t (s′ .bytes)) (outOf t (s .bytes)) × SameBytes (inOf t (s′ .bytes)) (inOf t (s .bytes))) ⊎ (totalOf (s .bytes) < totalOf (s′ .bytes))
                       → totalOf (s .bytes) < totalOf (s′ .bytes)
                   sure (inl c) = absurd (a .alters (c .0) (c .1))
                   sure (inr c) = c

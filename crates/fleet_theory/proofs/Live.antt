@@ -22,9 +22,9 @@ use Rattle.probe_rules.specs.declared.Event.{Event}
 use Rattle.probe_rules.specs.declared.Event.the-variants.{Opening, Offer, Refusal}
 use Rattle.probe_rules.specs.declared.Outcome.the-variants.{Opened, RefusalLearnt}
 use Rattle.probe_rules.specs.Rules.{offer, befalls}
-use Rattle.fleet_theory.proofs.EndState.{onesAt, store, Same, Live, may-open, may-hear, may-learn}
+use Rattle.fleet_theory.proofs.EndState.{onesAt, store, SameBytes, Live, may-open, may-hear, may-learn}
 use Rattle.table.proofs.LegalLaws.{legal-table}
-use Rattle.fleet_theory.proofs.EndBytes.{stored, Swap, gone, new, old, swap}
+use Rattle.fleet_theory.proofs.EndBytes.{storedByte, Swap, gone, new, old, swap}
 use Rattle.fleet_theory.specs.Fleet.{own, eventLineFault, alterFleet, alteredBy}
 use Rattle.fleet_theory.specs.Demand3.{MaySend}
 use Rattle.fleet_theory.proofs.Own.{outOf, inOf}
@@ -49,7 +49,7 @@ usable-sent t r l e u = go (says t l e) u
 
 -- some byte differs
 abbrev Differ : Table → List ℕ → List ℕ → Type 0
-Differ t r r′ = Same (outOf t r′) (outOf t r) → Same (inOf t r′) (inOf t r) → ⊥
+Differ t r r′ = SameBytes (outOf t r′) (outOf t r) → SameBytes (inOf t r′) (inOf t r) → ⊥
 
 pub record Altering (t : Table) (r l : List ℕ) : Type 0 where
   pub line : eventLineFault t l ≡ 0
@@ -73,7 +73,7 @@ module _ (t : Table) (legal : Legal t) (r : List ℕ) (long : length r ≡ 4 * t
           let a = and-left (touches t p d) (eqb (outOf t r p d) 0) y in
           let b = eqb-true (outOf t r p d) 0 (and-right (touches t p d) (eqb (outOf t r p d) 0) y) in
           let c = altered-out t p r long (Opened d) (k, a) p d in
-          let e = stored (outOf t r) (store (outOf t r) p d 1) p d 1 (λ q j. refl) in
+          let e = storedByte (outOf t r) (store (outOf t r) p d 1) p d 1 (λ q j. refl) in
           let f = rw (lt-ltb (standing t p (own t p r)) (spare t p) room, lt-ltb d (t .links) k) at (same p d) in
           omega arith
 
@@ -110,14 +110,14 @@ module _ (t : Table) (legal : Legal t) (r : List ℕ) (long : length r ≡ 4 * t
       swapped (old a b f) y = b refl refl
 
       seen : (room ≡ true) ⊎ (room ≡ false) → ((some && dear) ≡ true) ⊎ ((some && dear) ≡ false) → storedIn w (offer t w e i) n w i ≡ 0 → ⊥
-      seen (inl a) b = rw a (λ y. let f = stored n (store n w i 1) w i 1 (λ q j. refl) in omega arith)
+      seen (inl a) b = rw a (λ y. let f = storedByte n (store n w i 1) w i 1 (λ q j. refl) in omega arith)
       seen (inr a) (inl b) = rw (a, b) (swapped (swap n (store (store n w i 1) w c 2) w i c (λ q j. refl) w i))
-      seen (inr a) (inr b) = rw (a, b) (λ y. let f = stored n (store n w i 2) w i 2 (λ q j. refl) in omega arith)
+      seen (inr a) (inr b) = rw (a, b) (λ y. let f = storedByte n (store n w i 2) w i 2 (λ q j. refl) in omega arith)
 
   refusal-alters : (i p : ℕ) → i < t .links → touches t p i ≡ true → (outOf t r p i ≡ 2 → ⊥) → Differ t r (after p (Refusal i))
   refusal-alters i p l at d same _ =
       let a = altered-out t p r long (RefusalLearnt i) (l, at) p i in
-      let b = stored (outOf t r) (store (outOf t r) p i 2) p i 2 (λ q j. refl) in
+      let b = storedByte (outOf t r) (store (outOf t r) p i 2) p i 2 (λ q j. refl) in
       let c = rw (ne-eqb (outOf t r p i) 2 d) at (same p i) in
       d (sym c ∙ a ∙ b)
 

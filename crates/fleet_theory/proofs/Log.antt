@@ -13,7 +13,7 @@ use Rattle.probe_rules.specs.Rules.{whatOf}
 use Rattle.probe_rules.specs.Within.{OwnOutcome}
 use Rattle.probe_rules.proofs.Frames.{joins-across, across-joins, other-across, one-link}
 use Rattle.fleet_theory.proofs.EndState.{store}
-use Rattle.fleet_theory.proofs.EndBytes.{Cell, here, there, cell, stored, before-store, Swap, gone, new, old, swap}
+use Rattle.fleet_theory.proofs.EndBytes.{Cell, here, there, cell, storedByte, before-store, Swap, gone, new, old, swap}
 use Rattle.fleet_theory.specs.Demand3.{Refuses, RefusedIn}
 use Rattle.fleet_theory.proofs.Bytes.{storedIn}
 
@@ -60,5 +60,5 @@ module _ (t : Table) (p : ℕ) (n : ℕ → ℕ → ℕ) where
   pub new-two : Legal t → (o : Outcome) → OwnOutcome t p o → (j : ℕ) → j < t .links → Refuses t j p (whatOf t p o) → storedIn p o n p j ≡ 2
   new-two legal (TakenDisplacing i c) a j l e =
       let one = one-link t legal j c p (other t p c) l (a .1 .0) (joins-across t p (other t p c) j e) (other-across t p c (a .1 .1)) in
-      rw one (stored (store n p i 1) (store (store n p i 1) p c 2) p c 2 (λ x y. refl))
-  new-two legal (Refused i) a j l e = rw (← e) (stored n (store n p i 2) p i 2 (λ x y. refl))
+      rw one (storedByte (store n p i 1) (store (store n p i 1) p c 2) p c 2 (λ x y. refl))
+  new-two legal (Refused i) a j l e = rw (← e) (storedByte n (store n p i 2) p i 2 (λ x y. refl))

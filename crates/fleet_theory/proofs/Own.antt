@@ -16,7 +16,7 @@ use Rattle.range.proofs.Lists.{length-joined, joined-at}
 use Rattle.table.specs.Table.{Table, item, ofSlices, touches}
 use Rattle.probe_record.specs.Record.{outbound, inbound}
 use Rattle.probe_rules.specs.Within.{OwnLink}
-use Rattle.fleet_theory.proofs.EndState.{store, Same}
+use Rattle.fleet_theory.proofs.EndState.{store, SameBytes}
 use Rattle.fleet_theory.proofs.EndBytes.{Cell, here, there, cell}
 use Rattle.fleet_theory.specs.Fleet.{outAt, inAt, ownPair, own, fleetFault}
 
@@ -140,7 +140,7 @@ module _ (t : Table) where
 
   module _ (at : ℕ → ℕ → ℕ) (byte : List ℕ → ℕ → ℕ → ℕ) (reads : ReadsAt t at byte) (r : List ℕ) where
     -- a place that is none of these is stored
-    pub set-other : (k v : ℕ) → ((q j : ℕ) → OwnLink t q j → at q j ≡ k → ⊥) → Same (byte (set r k v)) (byte r)
+    pub set-other : (k v : ℕ) → ((q j : ℕ) → OwnLink t q j → at q j ≡ k → ⊥) → SameBytes (byte (set r k v)) (byte r)
     set-other k v away q j = go (own-or-not t q j)
       where
         go : OwnLink t q j ⊎ (OwnLink t q j → ⊥) → byte (set r k v) q j ≡ byte r q j
@@ -148,7 +148,7 @@ module _ (t : Table) where
         go (inr a) = reads .no-byte (set r k v) q j a ∙ sym (reads .no-byte r q j a)
 
     -- the byte of an own link is stored
-    pub set-own : (p i v : ℕ) → length r ≡ 4 * t .links → OwnLink t p i → Same (byte (set r (at p i) v)) (store (byte r) p i v)
+    pub set-own : (p i v : ℕ) → length r ≡ 4 * t .links → OwnLink t p i → SameBytes (byte (set r (at p i) v)) (store (byte r) p i v)
     set-own p i v long a q j = go (cell (byte r) (store (byte r) p i v) p i v (λ x y. refl) q j)
       where
         go : Cell (byte r) (store (byte r) p i v) p i v q j → byte (set r (at p i) v) q j ≡ store (byte r) p i v q j

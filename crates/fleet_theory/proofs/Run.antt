@@ -20,7 +20,7 @@ use Rattle.probe_frame.specs.Frame.{frameOf}
 use Rattle.probe_rules.specs.declared.Outcome.{Outcome}
 use Rattle.probe_rules.specs.Rules.{whatOf, entryOf}
 use Rattle.probe_rules.specs.Within.{OwnLink}
-use Rattle.fleet_theory.proofs.EndState.{Same, Step, idle, Sent, Denied, Good}
+use Rattle.fleet_theory.proofs.EndState.{SameBytes, Step, idle, Sent, Denied, Good}
 use Rattle.table.proofs.LegalLaws.{legal-table}
 use Rattle.fleet_theory.proofs.EndRise.{fresh-good, in-rises, good-step}
 use Rattle.fleet_theory.specs.Fleet.{outAt, inAt, own, fleetFault, eventLineFault, outcomeOf, State, start, faultOf, accepted, next, run}
@@ -62,17 +62,17 @@ pub record Passed (x : Slices) (room : ℕ) (s : State) (l : List ℕ) : Type 0 
 
 -- at the start each byte is 0
 module _ (x : Slices) where
-  start-byte : (at : ℕ → ℕ → ℕ) (byte : List ℕ → ℕ → ℕ → ℕ) → ReadsAt (tableOf x) at byte → Same (byte (start x .bytes)) (λ p i. 0)
+  start-byte : (at : ℕ → ℕ → ℕ) (byte : List ℕ → ℕ → ℕ → ℕ) → ReadsAt (tableOf x) at byte → SameBytes (byte (start x .bytes)) (λ p i. 0)
   start-byte at byte reads p i = go (own-or-not (tableOf x) p i)
     where
       go : OwnLink (tableOf x) p i ⊎ (OwnLink (tableOf x) p i → ⊥) → byte (start x .bytes) p i ≡ 0
       go (inl a) = reads .own-byte (start x .bytes) p i a ∙ zeros-at (4 * x .links) (at p i)
       go (inr a) = reads .no-byte (start x .bytes) p i a
 
-  pub start-out : Same (outOf (tableOf x) (start x .bytes)) (λ p i. 0)
+  pub start-out : SameBytes (outOf (tableOf x) (start x .bytes)) (λ p i. 0)
   start-out = start-byte (outAt (tableOf x)) (outOf (tableOf x)) (out-reads (tableOf x))
 
-  pub start-in : Same (inOf (tableOf x) (start x .bytes)) (λ p i. 0)
+  pub start-in : SameBytes (inOf (tableOf x) (start x .bytes)) (λ p i. 0)
   start-in = start-byte (inAt (tableOf x)) (inOf (tableOf x)) (in-reads (tableOf x))
 
 module _ (x : Slices) (fine : slicesFault x ≡ 0) where

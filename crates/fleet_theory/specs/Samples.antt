@@ -18,11 +18,11 @@ abbrev pub slices : List ℕ → List ℕ → List ℕ → List ℕ → Slices
 slices needs lows highs costs =
     record { number = 1; probes = length needs; links = length costs; needs = needs; lows = lows; highs = highs; costs = costs }
 
-abbrev pub m2 : Slices
-m2 = slices (0 ∷ 1 ∷ 1 ∷ 0 ∷ []) (0 ∷ 1 ∷ 2 ∷ []) (1 ∷ 2 ∷ 3 ∷ []) (5 ∷ 6 ∷ 5 ∷ [])
+abbrev pub m2InSlices : Slices
+m2InSlices = slices (0 ∷ 1 ∷ 1 ∷ 0 ∷ []) (0 ∷ 1 ∷ 2 ∷ []) (1 ∷ 2 ∷ 3 ∷ []) (5 ∷ 6 ∷ 5 ∷ [])
 
-abbrev pub m4 : Slices
-m4 = slices (0 ∷ 0 ∷ []) (0 ∷ []) (1 ∷ []) (7 ∷ [])
+abbrev pub m4InSlices : Slices
+m4InSlices = slices (0 ∷ 0 ∷ []) (0 ∷ []) (1 ∷ []) (7 ∷ [])
 
 -- the line of a frame of table 1
 abbrev pub line : ℕ → ℕ → ℕ → List ℕ
@@ -42,14 +42,14 @@ abbrev pub entry : ℕ → What → Entry
 entry p w = record { probe = p; what = w }
 
 -- "Its log has 1,024 entries."
-abbrev pub after : Slices → List (List ℕ) → State
-after x lines = run x 1024 (start x) lines
+abbrev pub afterLines : Slices → List (List ℕ) → State
+afterLines x lines = run x 1024 (start x) lines
 
 -- a legal table, and the entries, the finish and the changes of a list of lines, none turned down
 pub record SampleScript (x : Slices) (lines : List (List ℕ)) (entries : List Entry) (total : ℕ) : Type 0 where
   pub table-legal : slicesFault x ≡ 0
-  pub entries-logged : after x lines .log ≡ entries
-  pub says-finished : finished (tableOf x) (after x lines .bytes) ≡ true
+  pub entries-logged : afterLines x lines .log ≡ entries
+  pub says-finished : finished (tableOf x) (afterLines x lines .bytes) ≡ true
   pub changes-made : allChanges x 1024 (start x) lines ≡ total
 
 -- "0 opens and 1 takes it; 1 opens and 2 takes it; 2 opens and 1 takes it, displacing 0, which learns it; 3 opens, 2 refuses, 3 learns it."
@@ -78,22 +78,22 @@ m4-entries = entry 0 (what.Opened 0) ∷ entry 1 (what.Taken 0) ∷ entry 1 (wha
 
 -- lines turned down by their refusal alone, on M2: fresh, or after M11
 pub record LineRefusals : Type 0 where
-  pub cut-line : answerTo m2 1024 (start m2) (take 14 (openingLine 0)) ≡ Refused 1
-  pub capital-digit : answerTo m2 1024 (start m2) (take 13 (openingLine 0) ++ (65 ∷ 10 ∷ [])) ≡ Refused 2
-  pub other-kind : answerTo m2 1024 (start m2) (line 3 0 1) ≡ Refused 9
-  pub other-table : answerTo m2 1024 (start m2) (frameLine record { kind = 0; number = 2; from = 0; to = 0 }) ≡ Refused 23
-  pub no-probe : answerTo m2 1024 (start m2) (openingLine 4) ≡ Refused 24
-  pub two-ends : answerTo m2 1024 (start m2) (line 0 0 1) ≡ Refused 24
-  pub no-link : answerTo m2 1024 (start m2) (offerLine 0 2) ≡ Refused 24
-  pub never-offered : answerTo m2 1024 (after m2 m11-lines) (offerLine 1 0) ≡ Refused 27
-  pub never-refused : answerTo m2 1024 (after m2 m11-lines) (refusalFrame 2 1) ≡ Refused 27
-  pub full-log : answerTo m2 0 (start m2) (openingLine 0) ≡ Refused 26
+  pub cut-line : answerTo m2InSlices 1024 (start m2InSlices) (take 14 (openingLine 0)) ≡ Refused 1
+  pub capital-digit : answerTo m2InSlices 1024 (start m2InSlices) (take 13 (openingLine 0) ++ (65 ∷ 10 ∷ [])) ≡ Refused 2
+  pub other-kind : answerTo m2InSlices 1024 (start m2InSlices) (line 3 0 1) ≡ Refused 9
+  pub other-table : answerTo m2InSlices 1024 (start m2InSlices) (frameLine record { kind = 0; number = 2; from = 0; to = 0 }) ≡ Refused 23
+  pub no-probe : answerTo m2InSlices 1024 (start m2InSlices) (openingLine 4) ≡ Refused 24
+  pub two-ends : answerTo m2InSlices 1024 (start m2InSlices) (line 0 0 1) ≡ Refused 24
+  pub no-link : answerTo m2InSlices 1024 (start m2InSlices) (offerLine 0 2) ≡ Refused 24
+  pub never-offered : answerTo m2InSlices 1024 (afterLines m2InSlices m11-lines) (offerLine 1 0) ≡ Refused 27
+  pub never-refused : answerTo m2InSlices 1024 (afterLines m2InSlices m11-lines) (refusalFrame 2 1) ≡ Refused 27
+  pub full-log : answerTo m2InSlices 0 (start m2InSlices) (openingLine 0) ≡ Refused 26
 
 -- `m2-table`, `m4-table`: the tables are those of M2 and M4
 pub record Samples : Type 0 where
   pub m1-to-m10 : Sites
-  pub m2-table : tableOf m2 ≡ row (5 ∷ 6 ∷ 5 ∷ [])
-  pub m11 : SampleScript m2 m11-lines m11-entries 11
+  pub m2-table : tableOf m2InSlices ≡ row (5 ∷ 6 ∷ 5 ∷ [])
+  pub m11 : SampleScript m2InSlices m11-lines m11-entries 11
   pub refusals : LineRefusals
-  pub m4-table : tableOf m4 ≡ site (0 ∷ 0 ∷ []) (0 ∷ []) (1 ∷ []) (7 ∷ [])
-  pub m4-script : SampleScript m4 m4-lines m4-entries 4
+  pub m4-table : tableOf m4InSlices ≡ site (0 ∷ 0 ∷ []) (0 ∷ []) (1 ∷ []) (7 ∷ [])
+  pub m4-script : SampleScript m4InSlices m4-lines m4-entries 4

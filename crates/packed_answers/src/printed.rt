@@ -1,4 +1,4 @@
-// Answers as one number, for callers in other languages.
+// The answer of a call that prints, as one number. The libraries for C and Rust call this.
 ghost use mathlib.Core.Path.{_≡_};
 ghost use Prim.Native.Nat.{ℕ, _^_, _<_};
 ghost use Rattle.output.specs.declared.Output.the-variants.{Length as Printed};

@@ -1,4 +1,4 @@
-// The functions, each within the bounds that it asks.
+// The count and the cost of the links that a plan keeps.
 ghost use mathlib.Core.Path.{_≡_};
 ghost use mathlib.Core.Bool.{cond};
 ghost use Prim.Native.Nat.{_≤_};

@@ -1,5 +1,4 @@
 // The plan of a table in slices, by two methods.
-// The count and the cost of the links that a plan keeps.
 ghost use Rattle.table.specs.Slices.{slicesOf};
 ghost use Rattle.plan_methods.specs.Planning.{PlansBySlse, PlansByTurns};
 

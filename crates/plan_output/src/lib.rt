@@ -1,5 +1,4 @@
 // The plan of a table's text, as the plan program prints it.
-// A plan's lines: its first line, and those of the kept links.
 use output::Output;
 ghost use lib.ListN.{length};
 ghost use Rattle.output.specs.Output.{shortFault, Prints};

@@ -1,4 +1,4 @@
-// The functions, each within the bounds that it asks.
+// A plan's lines: its first line, and those of the kept links.
 ghost use mathlib.Core.Path.{_≡_};
 ghost use mathlib.Core.Bool.{cond};
 ghost use mathlib.Core.List.{[]};

@@ -1,4 +1,4 @@
-// The output of the plan program, within the bounds that it asks.
+// The whole output of a plan.
 use output::Output;
 ghost use mathlib.Core.Path.{_≡_};
 ghost use Prim.Native.Nat.{_+_, _*_};

@@ -18,7 +18,7 @@ use Rattle.table.specs.Legal.{tableFault, Ends, Size, RisingLinks, LegalTable}
 use Rattle.table.proofs.DegreeLaws.{ends-changed}
 use Rattle.plan_theory.specs.Pass.{place, passAfter}
 use Rattle.plan_theory.specs.Plan.{linksAt, isShort, added, hasMoreAdded, removed, slse, kept}
-use Rattle.plan_theory.proofs.Places.{Order, opposite, place-opposite}
+use Rattle.plan_theory.proofs.Places.{Order, reversed, place-opposite}
 use Rattle.plan_theory.proofs.Order.{dearer-order}
 use Rattle.table.proofs.LegalLaws.{legal-table}
 use Rattle.plan_theory.proofs.Plan.{at-same}
@@ -138,7 +138,7 @@ module _ (probes links : ℕ) (needs lows highs costs : List ℕ) where
     up-step plan′ counts′ was at p c = go (decided (eitherShort counts needs (item lows i) (item highs i)))
       where
         order : Order links (cheaper t)
-        order = opposite (dearer-order t rises)
+        order = reversed (dearer-order t rises)
 
         tested : eitherShort counts needs (item lows i) (item highs i) ≡ (isShort t (up k) (item lows i) || isShort t (up k) (item highs i))
         tested = rw (was .counted (item lows i) (omega arith), was .counted (item highs i) (ends .below))

@@ -1,4 +1,4 @@
-// The functions, each within the bounds that it asks.
+// S-LSE on one link: whether it is added or removed.
 ghost use mathlib.Core.Path.{_≡_};
 ghost use mathlib.Core.Bool.{cond, _&&_};
 ghost use Prim.Native.Nat.{_<_};

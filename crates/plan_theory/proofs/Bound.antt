@@ -12,7 +12,7 @@ use Rattle.range.proofs.Bools.{and-left, and-right, and-intro, and-skip}
 use Rattle.range.proofs.Sums.{sum-le, sum-add, sum-swap, sum-one, sum-at, weigh-le, weigh-same, weigh-split, weigh-dominated, count-none}
 use Rattle.table.specs.Table.{Table, touches, spare, dearer}
 use Rattle.plan_theory.specs.Plan.{linksAt, rested, kept, costOf, Meets}
-use Rattle.plan_theory.proofs.Places.{Order, opposite, Last, last, all-before}
+use Rattle.plan_theory.proofs.Places.{Order, reversed, Last, last, all-before}
 use Rattle.plan_theory.proofs.Order.{dearer-order, Dear, dear, on-dear}
 use Rattle.table.specs.Legal.{LegalTable}
 use Rattle.plan_theory.proofs.Plan.{at-split, at-both, touches-low, touches-high, plan-criterion, rested-fits}
@@ -119,7 +119,7 @@ module _ (t : Table) (s : LegalTable 256 2048 t) (choice : ℕ → Bool) (within
   at-probe x lx = go (decLt 0 (count (t .links) (onlyPlanAt x)))
     where
       go : Dec (0 < count (t .links) (onlyPlanAt x)) → weigh (t .links) (onlyPlanAt x) (t .cost) ≤ weigh (t .links) (onlyChoiceAt x) (t .cost)
-      go (yes some) = at-most x lx (last (t .links) (λ i j. dearer t j i) (opposite order) (onlyPlanAt x) some)
+      go (yes some) = at-most x lx (last (t .links) (λ i j. dearer t j i) (reversed order) (onlyPlanAt x) some)
       go (no none) =
           weigh-le (t .links) (onlyPlanAt x) (onlyChoiceAt x) (t .cost)
           (λ i l h. absurd (true≢false (sym h ∙ count-none (t .links) (onlyPlanAt x) (omega arith) i l)))

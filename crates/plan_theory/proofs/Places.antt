@@ -17,8 +17,8 @@ pub record Order (m : ℕ) (before : ℕ → ℕ → Bool) : Type 0 where
   pub transitive : (i j k : ℕ) → i < m → j < m → k < m → before i j ≡ true → before j k ≡ true → before i k ≡ true
   pub total : (i j : ℕ) → i < m → j < m → (i ≡ j → ⊥) → (before i j ≡ true) ⊎ (before j i ≡ true)
 
-pub opposite : {m : ℕ} {before : ℕ → ℕ → Bool} → Order m before → Order m (λ i j. before j i)
-opposite o =
+pub reversed : {m : ℕ} {before : ℕ → ℕ → Bool} → Order m before → Order m (λ i j. before j i)
+reversed o =
     record {
       irreflexive = o .irreflexive;
       transitive = λ i j k li lj lk e f. o .transitive k j i lk lj li f e;

@@ -11,7 +11,7 @@ use Rattle.range.proofs.Bools.{and-left, and-right, and-intro, or-false-left, o
 use Rattle.range.proofs.Sums.{sum-same, sum-add, weigh-le, member}
 use Rattle.table.specs.Table.{Table, touches, degree, dearer, cheaper}
 use Rattle.plan_theory.specs.Plan.{linksAt, hasMore, isShort, added, hasMoreAdded, removed, slse, kept}
-use Rattle.plan_theory.proofs.Places.{Order, opposite, Side, here, earlier, later, side, three}
+use Rattle.plan_theory.proofs.Places.{Order, reversed, Side, here, earlier, later, side, three}
 use Rattle.plan_theory.proofs.Pass.{Solves, criterion}
 use Rattle.plan_theory.proofs.Order.{dearer-order}
 use Rattle.table.specs.Legal.{RisingLinks}
@@ -41,7 +41,7 @@ module _ (t : Table) (rises : RisingLinks t) where
   added-by : Solves (t .links) (cheaper t) (λ s g. isShort t s (t .low g) || isShort t s (t .high g)) (added t)
   unfolding added
   added-by =
-      criterion (t .links) (cheaper t) (opposite order) (λ s g. isShort t s (t .low g) || isShort t s (t .high g))
+      criterion (t .links) (cheaper t) (reversed order) (λ s g. isShort t s (t .low g) || isShort t s (t .high g))
       (λ r s h i. rw (at-same t r s h (t .low i), at-same t r s h (t .high i)))
 
   removed-by : Solves (t .links) (dearer t) (λ r g. added t g && (hasMoreAdded t r (t .low g) && hasMoreAdded t r (t .high g))) (removed t)

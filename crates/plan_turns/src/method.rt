@@ -1,4 +1,4 @@
-// Offers by turn. A record has four bytes a link: atSource and atTarget of each direction. Beside it are four entries a probe, the marks.
+// The plan by offers in turn. The working bytes are four a link: two for each direction, at its source and at its target. Beside them are four entries a probe, the marks.
 use table_links::spares::spare_of;
 ghost use mathlib.Core.Path.{_≡_};
 ghost use mathlib.Core.Bool.{cond};

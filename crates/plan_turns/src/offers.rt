@@ -1,4 +1,4 @@
-// The functions, each within the bounds that it asks.
+// Offers and displacements, which call each other.
 ghost use mathlib.Core.Bool.{true};
 ghost use Prim.Native.Nat.{_+_, _*_, _<_};
 ghost use lib.ListN.{length};

@@ -1,4 +1,4 @@
-// The functions, each within the bounds that it asks.
+// The turns of the probes, in number order.
 ghost use Prim.Native.Nat.{_+_, _*_, _<_, _≤_};
 ghost use lib.ListN.{length};
 ghost use Rattle.plan_turns_search.specs.Chain.{DownChains, UpChains};

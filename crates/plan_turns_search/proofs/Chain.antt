@@ -10,7 +10,7 @@ use borrow.Author.Tests.{lt-ltb, le-ltb, eqb-true, eq-eqb, ne-eqb}
 use Rattle.range.proofs.Bools.{and-left, and-right, and-intro}
 use Rattle.range.proofs.Sums.{weigh-le, count-less, member}
 use Rattle.table.specs.Table.{item}
-use Rattle.plan_turns_search.specs.Offers.{Site, holds, dearerHeld, WouldRefuse, Inv, Grows, Sought, Cheapest, OfferSearch, HeldSearch}
+use Rattle.plan_turns_search.specs.Offers.{Site, holds, dearerHeld, WouldRefuse, OffersInv, Grows, Sought, Cheapest, OfferSearch, HeldSearch}
 use Rattle.plan_turns_search.specs.Record.{endOf, keyOf, siteOf, SiteInSlices}
 use Rattle.plan_turns_search.specs.Chain.{opposite, Below, Follows, DownChains, UpChains, turnedKey}
 use Rattle.plan_turns_search.proofs.Record.{end-even, end-odd, distinct}
@@ -139,7 +139,7 @@ module _ (links : ℕ) (lows highs costs spares : List ℕ) (fits : SiteInSlices
     walk-end e l w = record { some = λ k. absurd (omega arith); none = λ k. w .end l }
 
   -- the offers that v holds, of which f's opposite may be the cheapest
-  module _ (o : ℕ → ℕ) (inv : Inv site o) (v : ℕ) where
+  module _ (o : ℕ → ℕ) (inv : OffersInv site o) (v : ℕ) where
     abbrev holder : ℕ → Bool
     holder g = eqb (endOf highs lows g) v && eqb (o g) 1
 

@@ -1,6 +1,6 @@
 pub mod Offers
 pub mod Record
-pub mod Kept
+pub mod MarkLaws
 pub mod Steps
 pub mod Turns
 pub mod Bytes

@@ -10,7 +10,7 @@ use borrow.Author.Tests.{ltb-true, ltb-false, lt-ltb, eqb-true, eq-eqb, ne-eqb}
 use Rattle.range.proofs.Bools.{and-left, and-right, and-intro, decided}
 use Rattle.range.proofs.Counts.{member-outside}
 use Rattle.range.proofs.Sums.{sum-same, sum-add, sum-one, weigh-le}
-use Rattle.plan_turns_search.specs.Offers.{Site, on, stands, holds, dearerAtTarget, dearerHeld, WouldRefuse, NoneLeft, Satisfied, Inv, Grows, Made, Next, Cheapest}
+use Rattle.plan_turns_search.specs.Offers.{Site, on, stands, holds, dearerAtTarget, dearerHeld, WouldRefuse, NoneLeft, Satisfied, OffersInv, Grows, Made, Next, Cheapest}
 
 -- the bit of a direction of q by its byte, where the byte becomes 1, and where it is 1 no more
 one-more : (b : Bool) → cond (b && eqb 1 1) 1 0 ≡ cond (b && eqb 0 1) 1 0 + cond b 1 0
@@ -42,7 +42,7 @@ satisfied-made s o o′ u m w (inl h) = go (m .more w)
     go (inr a) = inr a
 
 -- nothing is made where none is left
-pub made-none : (s : Site) (o : ℕ → ℕ) (u : ℕ) → Inv s o → NoneLeft s o u → Made s o o u
+pub made-none : (s : Site) (o : ℕ → ℕ) (u : ℕ) → OffersInv s o → NoneLeft s o u → Made s o o u
 made-none s o u i h = record { inv = i; grows = record { tried = λ d e. e; refuses = λ d l e. e }; more = λ w. go w (ℕ-discrete u w) }
   where
     go : (w : ℕ) → Dec (u ≡ w) → (stands s o w + cond (eqb u w) 1 0 ≤ stands s o w) ⊎ NoneLeft s o w
@@ -56,8 +56,8 @@ record Step (s : Site) (o o′ : ℕ → ℕ) (d : ℕ) : Type 0 where
   refuses : (e : ℕ) → e < s .dirs → WouldRefuse s o e → WouldRefuse s o′ e
   refused : (e : ℕ) → e < s .dirs → (o′ e ≡ 0 → ⊥) → (o′ e ≡ 1 → ⊥) → WouldRefuse s o′ e
 
-module _ (s : Site) (laws : Distinct s) (o : ℕ → ℕ) (i : Inv s o) (u d : ℕ) (next : Next s o u d) where
-  step-inv : (o′ : ℕ → ℕ) → Step s o o′ d → ((w : ℕ) → stands s o′ w ≤ s .spare w) → ((w : ℕ) → holds s o′ w ≤ s .spare w) → Inv s o′
+module _ (s : Site) (laws : Distinct s) (o : ℕ → ℕ) (i : OffersInv s o) (u d : ℕ) (next : Next s o u d) where
+  step-inv : (o′ : ℕ → ℕ) → Step s o o′ d → ((w : ℕ) → stands s o′ w ≤ s .spare w) → ((w : ℕ) → holds s o′ w ≤ s .spare w) → OffersInv s o′
   step-inv o′ t standing holding = record { standing = standing; holding = holding; refused = t .refused; order = order }
     where
       order : (f g : ℕ) → f < s .dirs → g < s .dirs → s .source f ≡ s .source g → o′ f ≡ 1 → o′ g ≡ 0 → (s .key g < s .key f) ⊎ WouldRefuse s o′ g
@@ -260,7 +260,7 @@ module _ (s : Site) (laws : Distinct s) (o : ℕ → ℕ) (i : Inv s o) (u d : �
         refused e l n0 n1 (no n) (yes q) = rw q shut-gone
         refused e l n0 n1 (no n) (no m) = shut-kept e l (i .refused e l (λ z. n0 (rest e n m ∙ z)) (λ z. n1 (rest e n m ∙ z)))
 
-    pub swap-inv : Inv s o′
+    pub swap-inv : OffersInv s o′
     swap-inv = step-inv o′ swap-step (λ w. standing w (ℕ-discrete (s .source d) w)) holding
       where
         standing : (w : ℕ) → Dec (s .source d ≡ w) → stands s o′ w ≤ s .spare w
@@ -322,7 +322,7 @@ module _ (s : Site) (laws : Distinct s) (o : ℕ → ℕ) (i : Inv s o) (u d : �
         more w (inr a) = inr a
 
 -- at the end each offer that does not stand is explained
-pub explained : (s : Site) (o : ℕ → ℕ) → Inv s o → (d : ℕ) → d < s .dirs → Satisfied s o (s .source d) → (o d ≡ 1 → ⊥)
+pub explained : (s : Site) (o : ℕ → ℕ) → OffersInv s o → (d : ℕ) → d < s .dirs → Satisfied s o (s .source d) → (o d ≡ 1 → ⊥)
     → (s .spare (s .source d) ≤ on s o (λ f. eqb (s .source f) (s .source d) && ltb (s .key d) (s .key f))) ⊎ WouldRefuse s o d
 explained s o i d l end n1 = go end (ℕ-discrete (o d) 0) (decLe (s .spare (s .target d)) (dearerHeld s o d))
   where

@@ -15,7 +15,7 @@ use Rattle.plan_turns_search.specs.Offers.{Site, on, stands, holds, Grow
 use Rattle.plan_turns_search.proofs.Offers.{on-take, made-none, take-made, on-swap, swap-inv, swap-room, swap-grows, swap-made}
 use Rattle.plan_turns_search.proofs.Record.{length-put, put-here, put-other, put-paired, untried-most, untried-less, distinct, source-below, target-below}
 use Rattle.plan_turns_search.proofs.Chain.{walk-grows, held-grows}
-use Rattle.plan_turns_search.proofs.Kept.{mark-other, mark-column, room-kept}
+use Rattle.plan_turns_search.proofs.MarkLaws.{mark-other, mark-column, room-kept}
 use Rattle.plan_turns_search.specs.Record.{siteSlicesOf}
 
 module _ (links : ℕ) (lows highs costs spares r : List ℕ) where

@@ -47,7 +47,7 @@ abbrev pub Satisfied : Site → (ℕ → ℕ) → ℕ → Type 0
 Satisfied s o u = (s .spare u ≤ stands s o u) ⊎ NoneLeft s o u
 
 -- what holds of the offers at each moment
-pub record Inv (s : Site) (o : ℕ → ℕ) : Type 0 where
+pub record OffersInv (s : Site) (o : ℕ → ℕ) : Type 0 where
   pub standing : (u : ℕ) → stands s o u ≤ s .spare u
   pub holding : (v : ℕ) → holds s o v ≤ s .spare v
   pub refused : (d : ℕ) → d < s .dirs → (o d ≡ 0 → ⊥) → (o d ≡ 1 → ⊥) → WouldRefuse s o d
@@ -60,7 +60,7 @@ pub record Grows (s : Site) (o o′ : ℕ → ℕ) : Type 0 where
 
 -- an offer of u was made, and each probe displaced on the way offered again
 pub record Made (s : Site) (o o′ : ℕ → ℕ) (u : ℕ) : Type 0 where
-  pub inv : Inv s o′
+  pub inv : OffersInv s o′
   pub grows : Grows s o o′
   pub more : (w : ℕ) → (stands s o w + cond (eqb u w) 1 0 ≤ stands s o′ w) ⊎ NoneLeft s o′ w
 

@@ -7,7 +7,7 @@ use lib.Dec.{eqb}
 use lib.ListN.{length, set}
 use Rattle.range.specs.Sum.{count}
 use Rattle.table.specs.Table.{item}
-use Rattle.plan_turns_search.specs.Offers.{Site, stands, holds, NoneLeft, Satisfied, Inv, Made, Next, OfferSearch, HeldSearch}
+use Rattle.plan_turns_search.specs.Offers.{Site, stands, holds, NoneLeft, Satisfied, OffersInv, Made, Next, OfferSearch, HeldSearch}
 
 -- two bytes for each direction: its offer at its source, and at its target
 abbrev pub atSource : List ℕ → ℕ → ℕ
@@ -77,7 +77,7 @@ pub record Paired (links : ℕ) (r : List ℕ) : Type 0 where
 pub record OffersReady (x : SiteSlices) (r : List ℕ) : Type 0 where
   pub fits : SiteInSlices x
   pub paired : Paired (x .links) r
-  pub inv : Inv (siteOf x) (atSource r)
+  pub inv : OffersInv (siteOf x) (atSource r)
 
 -- the k-th of the four entries of a probe
 abbrev pub mark : List ℕ → ℕ → ℕ → ℕ

@@ -1,4 +1,4 @@
-// The functions, each within the bounds that it asks.
+// Each probe's links in chains, down from its dearest and up from its cheapest.
 ghost use mathlib.Core.Path.{_≡_};
 ghost use mathlib.Core.List.{[]};
 ghost use Prim.Native.Nat.{ℕ, _+_, _*_, _-_, _<_, _≤_};
@@ -60,7 +60,7 @@ fn turn_round(to: &mut [u16], from: &[u16], links: usize)
 }
 
 // Stores where each probe's searches start, into zeros.
-fn start(marks: &mut [u16], cursors: &[u16], lasts: &[u16])
+fn start_marks(marks: &mut [u16], cursors: &[u16], lasts: &[u16])
     requires { ⌜ (length (now marks) ≡ 1024) × (length (now cursors) ≡ 256) × (length (now lasts) ≡ 256) × ((j : ℕ) → item (now marks) j ≡ 0) ⌝ }
     ensures { λ _. ⌜ FirstMarks (now (cursors .entry)) (now (lasts .entry)) (now (marks .exit)) 256 ⌝ }
 {
@@ -96,5 +96,5 @@ pub fn link_up(
     chain_links(&mut cursors, nexts, links, lows, highs, &order);
     let mut lasts = [65535u16; 256];
     chain_links(&mut lasts, ups, links, lows, highs, &turned);
-    start(marks, &cursors, &lasts);
+    start_marks(marks, &cursors, &lasts);
 }

@@ -1,4 +1,4 @@
-// The functions, each within the bounds that it asks.
+// The two directions of each link: their ends, their order and their bytes; and the entries of slices of numbers.
 ghost use mathlib.Core.Path.{_≡_};
 ghost use Prim.Native.Nat.{_+_, _*_, _<_};
 ghost use lib.Dec.{ltb};

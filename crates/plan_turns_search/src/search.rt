@@ -1,4 +1,4 @@
-// The functions, each within the bounds that it asks.
+// A probe's next offer, and the cheapest that an end holds.
 ghost use Prim.Native.Nat.{_+_, _*_, _<_, _≤_};
 ghost use lib.ListN.{length};
 ghost use Rattle.table.specs.Table.{item};

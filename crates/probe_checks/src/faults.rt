@@ -1,4 +1,4 @@
-// The functions, each within the bounds that it asks.
+// The faults of an end's calls, in their order.
 ghost use mathlib.Core.Path.{_≡_};
 ghost use mathlib.Core.List.{[]};
 ghost use Prim.Native.Nat.{_/_};

@@ -12,7 +12,7 @@ use Rattle.range.proofs.Choice.{Best, best-is}
 use Rattle.table.specs.Table.{Table, item, dearer, cheaper}
 use Rattle.table.specs.Legal.{Legal, RisingLinks}
 use Rattle.table.proofs.LegalLaws.{legal-table}
-use Rattle.plan_theory.proofs.Places.{Order, opposite}
+use Rattle.plan_theory.proofs.Places.{Order, reversed}
 use Rattle.plan_theory.proofs.Order.{dearer-by-place, dearer-order}
 use Rattle.table_links.specs.Order.{dearerAt}
 use Rattle.probe_record.specs.Record.{outbound, inbound, ownWith, dearestUntried, cheapestHeld, sideByte, sideBetter}
@@ -26,7 +26,7 @@ module _ (t : Table) (legal : Legal t) (p : ℕ) (e : List ℕ) where
 
   pub cheapest : Best (cheaper t) (ownWith t p (inbound e) 1) (t .links) (t .links) (cheapestHeld t p e)
   cheapest =
-      let o = opposite order in
+      let o = reversed order in
       best-is (cheaper t) (ownWith t p (inbound e) 1) (t .links) (o .irreflexive) (o .transitive) (t .links) (le-refl (t .links))
 
 -- the byte that the code reads

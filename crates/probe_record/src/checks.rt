@@ -1,4 +1,4 @@
-// The functions, each within the bounds that it asks.
+// 20, 21 and 22 of an end's record.
 ghost use mathlib.Core.Path.{_≡_};
 ghost use mathlib.Core.List.{[]};
 ghost use Prim.Native.Nat.{_+_, _*_, _<_, _≤_};

@@ -1,4 +1,4 @@
-// An end's record: its links and its bytes counted. The ends and the fleet call these, within the bounds that they ask.
+// An end's bytes counted.
 ghost use mathlib.Core.Path.{_≡_};
 ghost use Prim.Native.Nat.{_+_, _*_, _<_, _≤_};
 ghost use lib.Dec.{eqb};

@@ -1,4 +1,4 @@
-// The best link of an end, found in one pass over the links.
+// The searches in an end's record: its dearest untried link, and its cheapest offer held.
 use table_links::order::goes_before;
 ghost use mathlib.Core.Path.{_≡_};
 ghost use mathlib.Core.List.{[]};

@@ -1,4 +1,4 @@
-// The functions, each within the bounds that it asks.
+// What befalls an end, by its own record.
 use table_links::order::dearer;
 ghost use mathlib.Core.Path.{_≡_};
 ghost use Prim.Native.Nat.{_<_};

@@ -1,5 +1,4 @@
 // The rules of an end: what an opening, an offer heard and a refusal heard do. Links go by their place in the table.
-// What befalls an end, by its rules.
 
 pub mod decisions;
 pub mod outcomes;

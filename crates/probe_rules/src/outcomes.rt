@@ -1,4 +1,4 @@
-// What an event alters, and its entry. The ends and the fleet call these, within the bounds that they ask.
+// What an event alters in the record, and its entry.
 use table_links::ends::other;
 ghost use mathlib.Core.Path.{_≡_};
 ghost use mathlib.Core.List.{[]};

@@ -40,18 +40,18 @@ pub record FewChanges (n : ℕ) (e e′ : List ℕ) : Type 0 where
 -- the end p of a legal table
 module _ (t : Table) (p : ℕ) where
   -- the record after an event
-  abbrev pub after : Event → List ℕ → List ℕ
-  after event e = alter (befalls t p event e) e
+  abbrev pub recordAfter : Event → List ℕ → List ℕ
+  recordAfter event e = alter (befalls t p event e) e
 
   pub record EndLaws : Type 0 where
     -- a frame that 1, 2, 9, 23 and 24 let pass comes on an own link
     pub heard-own : (l : List ℕ) → heardFault t p l ≡ 0 → OwnEvent t p (heardOf t (frameOf l))
     -- a byte that an event alters stands on an own link
-    pub changes-own : (event : Event) (e : List ℕ) → OwnEvent t p event → (j : ℕ) → (item (after event e) j ≡ item e j → ⊥) → OwnLink t p (j / 2)
-    pub changes-few : (event : Event) (e : List ℕ) → OwnEvent t p event → FewChanges (t .links) e (after event e)
+    pub changes-own : (event : Event) (e : List ℕ) → OwnEvent t p event → (j : ℕ) → (item (recordAfter event e) j ≡ item e j → ⊥) → OwnLink t p (j / 2)
+    pub changes-few : (event : Event) (e : List ℕ) → OwnEvent t p event → FewChanges (t .links) e (recordAfter event e)
     -- 20, 21 and 22 let a fresh record pass, and a record that they let pass stays one
     pub fresh-usable : recordFault t p (fresh t) ≡ 0
-    pub stays-usable : (event : Event) (e : List ℕ) → recordFault t p e ≡ 0 → OwnEvent t p event → recordFault t p (after event e) ≡ 0
+    pub stays-usable : (event : Event) (e : List ℕ) → recordFault t p e ≡ 0 → OwnEvent t p event → recordFault t p (recordAfter event e) ≡ 0
     -- "as often as wished": asked again, an end answers and writes the same
     pub asked-again : (k : Kind) (i slices : ℕ) (e : List ℕ) (r r′ : Asked) (out out′ out″ : List ℕ)
         → Asks (orElse (lentFault (length out) 15) (linkCallFault slices t p e i)) t p k i e r out out′

@@ -1,4 +1,4 @@
-// The checks of a table. The table's text, the plan, the ends and the fleet call these, within the bounds that they ask.
+// The checks of a table. The table's text, the plan, the ends and the fleet call these.
 use super::degrees::count_degrees;
 use super::numbers::wide;
 ghost use mathlib.Core.Path.{_≡_};
@@ -89,7 +89,7 @@ fn links_fault(probes: usize, links: usize, lows: &[u16], highs: &[u16]) -> u8
 }
 
 // 7, against the probes' counted links.
-fn counted_fault(probes: usize, needs: &[u16], counts: &[u16]) -> u8
+fn above_fault(probes: usize, needs: &[u16], counts: &[u16]) -> u8
     requires { ⌜ (probes ≤ length (now needs)) × (probes ≤ length (now counts)) ⌝ }
     ensures { λ r. ⌜ r ≡ first (λ v. aboveFault (item (now (counts .entry)) v) (item (now (needs .entry)) v)) probes ⌝ }
 {
@@ -111,7 +111,7 @@ pub fn needs_fault(probes: usize, links: usize, needs: &[u16], lows: &[u16], hig
 {
     let mut counts = [0u16; 256];
     count_degrees(&mut counts, links, lows, highs);
-    counted_fault(probes, needs, &counts)
+    above_fault(probes, needs, &counts)
 }
 
 // 3, then 4 and 5 link by link, 7.

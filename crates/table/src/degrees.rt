@@ -1,4 +1,4 @@
-// Counts by probe. The checks of a table, the plan and the fleet call these, within the bounds that they ask.
+// Each probe's number of links, counted.
 use super::numbers::wide;
 ghost use mathlib.Core.Path.{_≡_};
 ghost use mathlib.Core.List.{[]};

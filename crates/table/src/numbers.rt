@@ -1,4 +1,4 @@
-// The checks of a table. The table's text, the plan, the ends and the fleet call these, within the bounds that they ask.
+// Entries of slices as numbers.
 ghost use mathlib.Core.Path.{_≡_};
 
 pub fn wide(x: u16) -> usize

@@ -1,5 +1,4 @@
-// An end's record: its links and its bytes counted. The ends and the fleet call these, within the bounds that they ask.
-// What an event alters, and its entry. The ends and the fleet call these, within the bounds that they ask.
+// The ends of a link.
 ghost use mathlib.Core.Path.{_≡_};
 ghost use mathlib.Core.List.{[]};
 ghost use Prim.Native.Nat.{_<_};

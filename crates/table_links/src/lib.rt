@@ -1,4 +1,4 @@
-// The link between two probes.
+// The links of a table in slices: their ends, their order, each probe's spare, and the link between two probes.
 
 pub mod ends;
 pub mod order;

@@ -1,4 +1,4 @@
-// The order of the links in slices: in a legal table the later of two links of equal cost is the dearer.
+// The order of two links.
 ghost use mathlib.Core.Path.{_≡_};
 ghost use mathlib.Core.Bool.{cond, _||_, _&&_};
 ghost use Prim.Native.Nat.{_<_, _≤_};

@@ -1,4 +1,4 @@
-// The search, each function within the bounds that it asks.
+// The link between two probes, found by halving.
 ghost use mathlib.Core.Path.{_≡_};
 ghost use mathlib.Core.Bool.{_&&_, not};
 ghost use mathlib.Core.List.{[]};

@@ -1,4 +1,4 @@
-// A probe's number of links and its spare. The plan, the ends and the fleet call these, within the bounds that they ask.
+// A probe's number of links and its spare.
 use super::ends::touches;
 ghost use mathlib.Core.Path.{_≡_};
 ghost use mathlib.Core.List.{[]};

@@ -1,4 +1,4 @@
-// The functions, each within the bounds that it asks.
+// 1 to 6 of a table's text, line by line.
 ghost use mathlib.Core.Path.{_≡_};
 ghost use mathlib.Core.Bool.{true};
 ghost use Prim.Native.Nat.{_+_, _*_, _<_, _≤_};

@@ -1,4 +1,4 @@
-// The functions, each within the bounds that it asks.
+// The faults of a table's text as a whole, and its numbers stored.
 ghost use mathlib.Core.Path.{_≡_};
 ghost use Prim.Native.Nat.{ℕ, _+_, _*_, _<_, _≤_};
 ghost use lib.ListN.{length};

@@ -1,6 +1,4 @@
 // A table in slices, written as text.
-// The lines of a table's text, written one by one. The writers of a table, of a frame and of a plan call these, within the bounds that they ask.
-// A table's text, written as a whole.
 ghost use Rattle.table.specs.Slices.{slicesOf};
 ghost use Rattle.table_write.specs.Writing.{WritesTable};
 

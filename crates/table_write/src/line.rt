@@ -1,4 +1,4 @@
-// The functions, each within the bounds that it asks.
+// The lines of a table's text, written one by one. The writers of a table, of a frame and of a plan call these.
 ghost use mathlib.Core.Path.{_≡_};
 ghost use Prim.Native.Nat.{_+_, _≤_};
 ghost use lib.ListN.{length};

@@ -1,4 +1,4 @@
-// The functions, each within the bounds that it asks.
+// A table's text, written as a whole.
 ghost use mathlib.Core.Path.{_≡_};
 ghost use Prim.Native.Nat.{_+_, _≤_};
 ghost use lib.ListN.{length};

@@ -1,5 +1,4 @@
-// The wake log in a lent slice of entries. The count of used entries goes beside it.
-// The entries of the wake log, and the answer to an event.
+// The entries of the wake log, the answer to an event, and the log in a lent slice. The count of used entries goes beside it.
 ghost use mathlib.Core.Path.{_≡_};
 ghost use lib.ListN.{getD, set};
 ghost use Rattle.wake_log.specs.Log.{noEntry};

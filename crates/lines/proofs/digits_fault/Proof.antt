@@ -1,4 +1,5 @@
 -- `lines::digits_fault` meets its contract.
+-- Invariant: the bytes before j are digits. Measure: the bytes that are left.
 use borrow.Author.Needs.{needs}
 use Rattle.lines.proofs.digits_fault.Statement.{statement}
 use Rattle.lines.proofs.digits_fault.Tie as tie

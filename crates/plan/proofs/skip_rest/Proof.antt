@@ -1,4 +1,5 @@
 -- `plan::skip_rest` meets its contract.
+-- Invariant: nothing. Measure: the turns that are left.
 use borrow.Author.Needs.{needs}
 use Rattle.plan.proofs.skip_rest.Statement.{statement}
 use Rattle.plan.proofs.skip_rest.Tie as tie

@@ -1,4 +1,5 @@
 -- `script::handle_all` meets its contract.
+-- Invariant: the lengths stay, and the piece lies in the text. Measure: the turns that are left.
 use borrow.Author.Needs.{needs}
 use Rattle.script.proofs.handle_all.Statement.{statement}
 use Rattle.script.proofs.handle_all.Tie as tie

@@ -1,4 +1,5 @@
 -- `fleet_state::checks::bytes_fault` meets its contract.
+-- Invariant: no byte before j is over 2. Measure: the bytes that are left.
 use borrow.Author.Needs.{needs}
 use Rattle.fleet_state.proofs.checks.bytes_fault.Statement.{statement}
 use Rattle.fleet_state.proofs.checks.bytes_fault.Tie as tie

@@ -46,17 +46,17 @@ count-bytes-requires-2 c κs =
     let ends = fits-ends (a .probes) (a .links) (a .needs .now) (a .lows .now) (a .highs .now) p in
     (p .in-lows, p .in-highs, omega (arith, s .within), c .before .before .before .before .before .before .before .before .before .before .before .pre .1, search needs, search needs, ends, zeros-at 256)
 
-slice-aggregate-counted-fault : tie.Need-slice-aggregate-counted-fault
-slice-aggregate-counted-fault c = search needs
+slice-aggregate-over-spare-fault : tie.Need-slice-aggregate-over-spare-fault
+slice-aggregate-over-spare-fault c = search needs
 
-slice-aggregate-counted-fault-2 : tie.Need-slice-aggregate-counted-fault-2
-slice-aggregate-counted-fault-2 c = search needs
+slice-aggregate-over-spare-fault-2 : tie.Need-slice-aggregate-over-spare-fault-2
+slice-aggregate-over-spare-fault-2 c = search needs
 
-slice-aggregate-counted-fault-3 : tie.Need-slice-aggregate-counted-fault-3
-slice-aggregate-counted-fault-3 c = search needs
+slice-aggregate-over-spare-fault-3 : tie.Need-slice-aggregate-over-spare-fault-3
+slice-aggregate-over-spare-fault-3 c = search needs
 
-counted-fault-requires : tie.Need-counted-fault-requires
-counted-fault-requires c κs =
+over-spare-fault-requires : tie.Need-over-spare-fault-requires
+over-spare-fault-requires c κs =
     let a = c .before .before .before .before .before .before .before .before .before .before .before .before .before .before .before .before .args in
     let p = c .before .before .before .before .before .before .before .before .before .before .before .before .before .before .before .before .pre .0 in
     let s = legal-table 256 2048 (ofSlices 0 (a .probes) (a .links) (a .needs .now) (a .lows .now) (a .highs .now) []) (p .legal) .size in
@@ -69,7 +69,7 @@ returns : tie.Need-returns
 returns c =
     let a = c .before .before .before .before .before .before .before .before .before .before .before .before .before .before .before .before .before .args in
     let t : Table = ofSlices 0 (a .probes) (a .links) (a .needs .now) (a .lows .now) (a .highs .now) [] in
-    c .counted-fault .ensures ∙ first-same _ _ (a .probes) (λ v l. over-counted t (a .rec .now) v _ _ _ (c .before .before .before .before .before .before .before .before .before .before .before .count-degrees .ensures v) (c .before .before .before .before .before .before .before .before .count-bytes .ensures v) (c .before .before .before .before .before .count-bytes2 .ensures v))
+    c .over-spare-fault .ensures ∙ first-same _ _ (a .probes) (λ v l. over-counted t (a .rec .now) v _ _ _ (c .before .before .before .before .before .before .before .before .before .before .before .count-degrees .ensures v) (c .before .before .before .before .before .before .before .before .count-bytes .ensures v) (c .before .before .before .before .before .count-bytes2 .ensures v))
 
 pub spares-fault-spec : {M : Type 1} → statement M
 spares-fault-spec =
@@ -81,8 +81,8 @@ spares-fault-spec =
     count-bytes-requires
     slice-aggregate-count-bytes-2
     count-bytes-requires-2
-    slice-aggregate-counted-fault
-    slice-aggregate-counted-fault-2
-    slice-aggregate-counted-fault-3
-    counted-fault-requires
+    slice-aggregate-over-spare-fault
+    slice-aggregate-over-spare-fault-2
+    slice-aggregate-over-spare-fault-3
+    over-spare-fault-requires
     returns)

@@ -1,4 +1,5 @@
 -- `fleet_state::counts::count_bytes` meets its contract.
+-- Invariant: each probe's count is that of the first i links. Measure: the links that are left.
 use borrow.Author.Needs.{needs}
 use Rattle.fleet_state.proofs.counts.count_bytes.Statement.{statement}
 use Rattle.fleet_state.proofs.counts.count_bytes.Tie as tie

@@ -1,4 +1,5 @@
 -- `fleet_state::finishing::none_alters` meets its contract.
+-- Invariant: on no link before i would a frame alter a byte. Measure: the links that are left.
 use borrow.Author.Needs.{needs}
 use Rattle.fleet_state.proofs.finishing.none_alters.Statement.{statement}
 use Rattle.fleet_state.proofs.finishing.none_alters.Tie as tie

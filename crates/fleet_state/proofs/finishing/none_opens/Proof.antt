@@ -1,4 +1,5 @@
 -- `fleet_state::finishing::none_opens` meets its contract.
+-- Invariant: no probe before v would open a link. Measure: the probes that are left.
 use borrow.Author.Needs.{needs}
 use Rattle.fleet_state.proofs.finishing.none_opens.Statement.{statement}
 use Rattle.fleet_state.proofs.finishing.none_opens.Tie as tie

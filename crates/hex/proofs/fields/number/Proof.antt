@@ -1,4 +1,5 @@
 -- `hex::fields::number` meets its contract.
+-- Invariant: n is what the first i digits write. Measure: the digits that are left.
 use borrow.Author.Needs.{needs}
 use Rattle.hex.proofs.fields.number.Statement.{statement}
 use Rattle.hex.proofs.fields.number.Tie as tie

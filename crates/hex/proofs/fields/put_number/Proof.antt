@@ -1,4 +1,5 @@
 -- `hex::fields::put_number` meets its contract.
+-- Invariant: storing the i digits of v that are left gives what is promised. Measure: the digits that are left.
 use borrow.Author.Needs.{needs}
 use Rattle.hex.proofs.fields.put_number.Statement.{statement}
 use Rattle.hex.proofs.fields.put_number.Tie as tie

@@ -1,4 +1,5 @@
 -- `plan_methods::counts::kept_cost` meets its contract.
+-- Invariant: n is the cost of the kept links before i. Measure: the links that are left.
 use borrow.Author.Needs.{needs}
 use Rattle.plan_methods.proofs.counts.kept_cost.Statement.{statement}
 use Rattle.plan_methods.proofs.counts.kept_cost.Tie as tie

@@ -1,4 +1,5 @@
 -- `plan_methods::counts::kept_count` meets its contract.
+-- Invariant: n is the number of kept links before i. Measure: the links that are left.
 use borrow.Author.Needs.{needs}
 use Rattle.plan_methods.proofs.counts.kept_count.Statement.{statement}
 use Rattle.plan_methods.proofs.counts.kept_count.Tie as tie

@@ -1,4 +1,5 @@
 -- `plan_output::plan_lines::put_kept` meets its contract.
+-- Invariant: the lines of the kept links before i are stored, up to `at`. Measure: the links that are left.
 use borrow.Author.Needs.{needs}
 use Rattle.plan_output.proofs.plan_lines.put_kept.Statement.{statement}
 use Rattle.plan_output.proofs.plan_lines.put_kept.Tie as tie

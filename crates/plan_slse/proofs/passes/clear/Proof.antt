@@ -1,4 +1,5 @@
 -- `plan_slse::passes::clear` meets its contract.
+-- Invariant: the bytes before j are 0. Measure: the bytes that are left.
 use borrow.Author.Needs.{needs}
 use Rattle.plan_slse.proofs.passes.clear.Statement.{statement}
 use Rattle.plan_slse.proofs.passes.clear.Tie as tie

@@ -1,4 +1,5 @@
 -- `plan_turns::method::clear` meets its contract.
+-- Invariant: the bytes before i are 0. Measure: the bytes that are left.
 use borrow.Author.Needs.{needs}
 use Rattle.plan_turns.proofs.method.clear.Statement.{statement}
 use Rattle.plan_turns.proofs.method.clear.Tie as tie

@@ -1,4 +1,5 @@
 -- `plan_turns::method::write_plan` meets its contract.
+-- Invariant: the bytes before i are the plan's. Measure: the links that are left.
 use borrow.Author.Needs.{needs}
 use Rattle.plan_turns.proofs.method.write_plan.Statement.{statement}
 use Rattle.plan_turns.proofs.method.write_plan.Tie as tie

@@ -1,4 +1,5 @@
 -- `plan_turns::offers::+displace+make_offer` meets its contract.
+-- Each call lowers twice the count of untried offers: an offer made leaves one less; a displacement hands on to an offer after it.
 use borrow.Author.Needs.{needs}
 use Prim.Native.Nat.{ℕ, _<_, _+_, _*_}
 use mathlib.Core.Path.{_≡_, sym, _∙_, ap}
@@ -29,7 +30,7 @@ use Rattle.plan_turns_search.specs.Record.{atSource, endOf, siteOf, put, untrie
 use Rattle.plan_turns_search.specs.Offers.{stands, Cheapest}
 use Rattle.plan_turns_search.proofs.Record.{target-below, source-below}
 use Rattle.plan_turns_search.proofs.Chain.{opposite-below, opposite-end}
-use Rattle.plan_turns_search.proofs.Kept.{mark-other, less-at, cursor-moved, held-moved}
+use Rattle.plan_turns_search.proofs.MarkLaws.{mark-other, less-at, cursor-moved, held-moved}
 use Rattle.plan_turns_search.proofs.Steps.{offered-none, offered-take, taken-kept, displaces, offered-displacing, some-held, displaced-ready, displaced-room, displaced-fewer, displaced-offered, held-stands, displaced-kept}
 use Rattle.plan_turns_search.specs.Record.{siteSlicesOf}
 

@@ -1,4 +1,5 @@
 -- `plan_turns::turns::take_turns` meets its contract.
+-- Invariant: the probes before p are satisfied. Measure: the probes that are left.
 use borrow.Author.Needs.{needs}
 use Rattle.plan_turns.proofs.turns.take_turns.Statement.{statement}
 use Rattle.plan_turns.proofs.turns.take_turns.Tie as tie

@@ -1,4 +1,5 @@
 -- `plan_turns::turns::turn` meets its contract.
+-- Invariant: offers were made and each probe that was satisfied still is. Measure: the untried offers.
 use borrow.Author.Needs.{needs}
 use Rattle.plan_turns.proofs.turns.turn.Statement.{statement}
 use Rattle.plan_turns.proofs.turns.turn.Tie as tie

@@ -1,4 +1,5 @@
 -- `plan_turns_search::chains::chain_links` meets its contract.
+-- Invariant: the directions of the links from k on are in chains. Measure: the links that are left.
 use borrow.Author.Needs.{needs}
 use Rattle.plan_turns_search.proofs.chains.chain_links.Statement.{statement}
 use Rattle.plan_turns_search.proofs.chains.chain_links.Tie as tie

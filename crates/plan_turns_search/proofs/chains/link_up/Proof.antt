@@ -49,14 +49,14 @@ chain-links-requires-2 c κs =
     let t = c .before .before .before .before .before .before .before .before .before .before .before .turn-round in
     (p .0, p .1, p .2, search needs, p .8, λ i l. (p .4 i l .0, rw (length-replicate {A = ℕ} 256 65535) (p .4 i l .1)), round-below (a .links) (a .lows .now) (a .highs .now) (a .costs .now) (p .0) (λ i. c .before .before .before .before .before .before .before .before .before .before .before .before .before .before .before .before .before .shared-slice-known3 .given i .fits) (o .last .0) (o .ensures) (replicate 2048 0) (t .last .0) (p .0) (t .ensures), λ v l. rw (getD-replicate {A = ℕ} 256 v 65535 0 l) (omega (arith, p .0)))
 
-slice-aggregate-start : tie.Need-slice-aggregate-start
-slice-aggregate-start c = search needs
+slice-aggregate-start-marks : tie.Need-slice-aggregate-start-marks
+slice-aggregate-start-marks c = search needs
 
-slice-aggregate-start-2 : tie.Need-slice-aggregate-start-2
-slice-aggregate-start-2 c = search needs
+slice-aggregate-start-marks-2 : tie.Need-slice-aggregate-start-marks-2
+slice-aggregate-start-marks-2 c = search needs
 
-start-requires : tie.Need-start-requires
-start-requires c κs =
+start-marks-requires : tie.Need-start-marks-requires
+start-marks-requires c κs =
     let p = c .before .before .before .before .before .before .before .before .before .before .before .before .before .before .before .before .before .before .before .before .before .before .before .before .before .before .before .before .before .before .pre in
     (p .5, c .before .before .before .before .before .before .before .before .before .before .before .before .before .chain-links .kept .0, c .before .before .before .before .before .before .chain-links2 .kept .0, p .6)
 
@@ -79,7 +79,7 @@ returns c =
     let m = c .before .before .before .before .before .before .before .before .before .chain-links2 in
     let n = k .kept .1 .0 in
     let q = m .kept .1 .0 in
-    let s = c .before .before .start .ensures in
+    let s = c .before .before .start-marks .ensures in
     let x : length (k .last .0) ≡ 256 = k .kept .0 in
     let y : length (m .last .0) ≡ 256 = m .kept .0 in
     let down = chains-down (a .links) (a .lows .now) (a .highs .now) (a .costs .now) (p .0) (λ i. c .before .before .before .before .before .before .before .before .before .before .before .before .before .before .before .before .before .before .before .before .before .before .before .before .before .before .before .shared-slice-known3 .given i .fits) (o .last .0) (o .ensures) (k .last .0) (k .last .1 .0) (k .ensures) (omega (arith, p .7)) in
@@ -101,9 +101,9 @@ link-up-spec =
     slice-aggregate-chain-links-3
     slice-aggregate-chain-links-4
     chain-links-requires-2
-    slice-aggregate-start
-    slice-aggregate-start-2
-    start-requires
+    slice-aggregate-start-marks
+    slice-aggregate-start-marks-2
+    start-marks-requires
     same-length
     same-length-2
     same-length-3

@@ -1,4 +1,5 @@
 -- `plan_turns_search::chains::turn_round` meets its contract.
+-- Invariant: the entries before k are those from the end. Measure: the entries that are left.
 use borrow.Author.Needs.{needs}
 use Rattle.plan_turns_search.proofs.chains.turn_round.Statement.{statement}
 use Rattle.plan_turns_search.proofs.chains.turn_round.Tie as tie

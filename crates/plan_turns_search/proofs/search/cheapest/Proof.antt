@@ -1,4 +1,5 @@
 -- `plan_turns_search::search::cheapest` meets its contract.
+-- Invariant: below f the end holds no offer. Measure: the directions dearer than f.
 use Rattle.plan_turns_search.proofs.search.cheapest.Statement.{statement}
 use Rattle.plan_turns_search.proofs.search.cheapest.Tie as tie
 use Prim.Native.Nat.{_*_}

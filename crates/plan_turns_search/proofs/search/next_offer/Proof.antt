@@ -1,4 +1,5 @@
 -- `plan_turns_search::search::next_offer` meets its contract.
+-- Invariant: above e nothing is left to offer; in the inner loop, below f the target holds no offer. Measure: the directions cheaper than e, and those dearer than f.
 use borrow.Author.Needs.{needs}
 use Rattle.plan_turns_search.proofs.search.next_offer.Statement.{statement}
 use Rattle.plan_turns_search.proofs.search.next_offer.Tie as tie

@@ -1,4 +1,5 @@
 -- `probe_record::checks::bytes_fault` meets its contract.
+-- Invariant: no link before i has a bad byte. Measure: the links that are left.
 use borrow.Author.Needs.{needs}
 use Rattle.probe_record.proofs.checks.bytes_fault.Statement.{statement}
 use Rattle.probe_record.proofs.checks.bytes_fault.Tie as tie

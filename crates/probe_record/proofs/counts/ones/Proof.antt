@@ -1,4 +1,5 @@
 -- `probe_record::counts::ones` meets its contract.
+-- Invariant: n is the number of bytes 1 before i. Measure: the links that are left.
 use borrow.Author.Needs.{needs}
 use Rattle.probe_record.proofs.counts.ones.Statement.{statement}
 use Rattle.probe_record.proofs.counts.ones.Tie as tie

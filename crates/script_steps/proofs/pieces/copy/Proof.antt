@@ -1,4 +1,5 @@
 -- `script_steps::pieces::copy` meets its contract.
+-- Invariant: the bytes before i are copied. Measure: the bytes that are left.
 use borrow.Author.Needs.{needs}
 use Rattle.script_steps.proofs.pieces.copy.Statement.{statement}
 use Rattle.script_steps.proofs.pieces.copy.Tie as tie

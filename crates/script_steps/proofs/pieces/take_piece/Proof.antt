@@ -1,4 +1,5 @@
 -- `script_steps::pieces::take_piece` meets its contract.
+-- Invariant: record, line, output and place are those after i bytes of the piece. Measure: the bytes that are left.
 use borrow.Author.Needs.{needs}
 use Rattle.script_steps.proofs.pieces.take_piece.Statement.{statement}
 use Rattle.script_steps.proofs.pieces.take_piece.Tie as tie

@@ -1,4 +1,5 @@
 -- `table::checks::links_fault` meets its contract.
+-- Invariant: no link before i has a fault. Measure: the links that are left.
 use borrow.Author.Needs.{needs}
 use Rattle.table.proofs.checks.links_fault.Statement.{statement}
 use Rattle.table.proofs.checks.links_fault.Tie as tie

@@ -20,18 +20,18 @@ count-degrees-requires c κs =
     let a = at-start .args in
     (search needs, search needs, search needs, ends-within (a .probes) (a .links) 256 (item (a .lows .now)) (item (a .highs .now)) (at-start .pre .5) (at-start .pre .0), zeros-at 256)
 
-slice-aggregate-counted-fault : tie.Need-slice-aggregate-counted-fault
-slice-aggregate-counted-fault c = search needs
+slice-aggregate-above-fault : tie.Need-slice-aggregate-above-fault
+slice-aggregate-above-fault c = search needs
 
-counted-fault-requires : tie.Need-counted-fault-requires
-counted-fault-requires c κs = search needs
+above-fault-requires : tie.Need-above-fault-requires
+above-fault-requires c κs = search needs
 
 returns : tie.Need-returns
 returns c =
     let a = c .before .before .before .before .before .before .before .before .args in
     let t = ofSlices 0 (a .probes) (a .links) (a .needs .now) (a .lows .now) (a .highs .now) [] in
     let d = c .before .before .before .count-degrees in
-    c .counted-fault .ensures ∙ first-same _ (needFault t) (a .probes) (λ v l. ap (λ (k : ℕ). aboveFault k (item (a .needs .now) v)) (d .ensures v))
+    c .above-fault .ensures ∙ first-same _ (needFault t) (a .probes) (λ v l. ap (λ (k : ℕ). aboveFault k (item (a .needs .now) v)) (d .ensures v))
 
 pub needs-fault-spec : {M : Type 1} → statement M
 needs-fault-spec =
@@ -39,6 +39,6 @@ needs-fault-spec =
     (tie.spec
     slice-aggregate-count-degrees
     count-degrees-requires
-    slice-aggregate-counted-fault
-    counted-fault-requires
+    slice-aggregate-above-fault
+    above-fault-requires
     returns)

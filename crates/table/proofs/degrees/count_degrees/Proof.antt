@@ -1,4 +1,5 @@
 -- `table::degrees::count_degrees` meets its contract.
+-- Invariant: each probe's count is that of the first i links. Measure: the links that are left.
 use borrow.Author.Needs.{needs}
 use Rattle.table.proofs.degrees.count_degrees.Statement.{statement}
 use Rattle.table.proofs.degrees.count_degrees.Tie as tie

@@ -1,4 +1,5 @@
 -- `table_links::pairs::first_from` meets its contract.
+-- Invariant: links before `start` come before the given ends, links from `end` on do not. Measure: the links between them.
 use Rattle.table_links.proofs.pairs.first_from.Statement.{statement}
 use Rattle.table_links.proofs.pairs.first_from.Tie as tie
 use borrow.Author.Needs.{needs}

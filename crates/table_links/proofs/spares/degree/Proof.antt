@@ -1,4 +1,5 @@
 -- `table_links::spares::degree` meets its contract.
+-- Invariant: n is the number of the probe's links before i. Measure: the links that are left.
 use borrow.Author.Needs.{needs}
 use Rattle.table_links.proofs.spares.degree.Statement.{statement}
 use Rattle.table_links.proofs.spares.degree.Tie as tie

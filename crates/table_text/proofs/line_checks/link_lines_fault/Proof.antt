@@ -1,4 +1,5 @@
 -- `table_text::line_checks::link_lines_fault` meets its contract.
+-- Invariant: no link line before i has a fault. Measure: the link lines that are left.
 use borrow.Author.Needs.{needs}
 use Rattle.table_text.proofs.line_checks.link_lines_fault.Statement.{statement}
 use Rattle.table_text.proofs.line_checks.link_lines_fault.Tie as tie

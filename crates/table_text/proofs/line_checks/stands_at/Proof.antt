@@ -1,4 +1,5 @@
 -- `table_text::line_checks::stands_at` meets its contract.
+-- Invariant: the first k bytes agree. Measure: the bytes that are left.
 use borrow.Author.Needs.{needs}
 use Rattle.table_text.proofs.line_checks.stands_at.Statement.{statement}
 use Rattle.table_text.proofs.line_checks.stands_at.Tie as tie

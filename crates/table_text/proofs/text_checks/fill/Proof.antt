@@ -1,4 +1,5 @@
 -- `table_text::text_checks::fill` meets its contract.
+-- Invariant: the entries before i are read. Measure: the entries that are left.
 use borrow.Author.Needs.{needs}
 use Rattle.table_text.proofs.text_checks.fill.Statement.{statement}
 use Rattle.table_text.proofs.text_checks.fill.Tie as tie

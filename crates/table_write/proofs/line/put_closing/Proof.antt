@@ -1,4 +1,5 @@
 -- `table_write::line::put_closing` meets its contract.
+-- Invariant: the first k bytes of the closing line are stored. Measure: the bytes that are left.
 use borrow.Author.Needs.{needs}
 use Rattle.table_write.proofs.line.put_closing.Statement.{statement}
 use Rattle.table_write.proofs.line.put_closing.Tie as tie

@@ -1,4 +1,5 @@
 -- `table_write::text::put_links` meets its contract.
+-- Invariant: the lines of the links before i are stored. Measure: the links that are left.
 use borrow.Author.Needs.{needs}
 use Rattle.table_write.proofs.text.put_links.Statement.{statement}
 use Rattle.table_write.proofs.text.put_links.Tie as tie

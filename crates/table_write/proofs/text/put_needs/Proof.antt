@@ -1,4 +1,5 @@
 -- `table_write::text::put_needs` meets its contract.
+-- Invariant: the lines of the probes before v are stored. Measure: the probes that are left.
 use borrow.Author.Needs.{needs}
 use Rattle.table_write.proofs.text.put_needs.Statement.{statement}
 use Rattle.table_write.proofs.text.put_needs.Tie as tie

@@ -1,7 +1,8 @@
--- `table::checks::counted_fault` meets its contract.
+-- `table::checks::above_fault` meets its contract.
+-- Invariant: no probe before v needs more than its links. Measure: the probes that are left.
 use borrow.Author.Needs.{needs}
-use Rattle.table.proofs.checks.counted_fault.Statement.{statement}
-use Rattle.table.proofs.checks.counted_fault.Tie as tie
+use Rattle.table.proofs.checks.above_fault.Statement.{statement}
+use Rattle.table.proofs.checks.above_fault.Tie as tie
 use Prim.Native.Nat.{ℕ, _-_, _≤_}
 use mathlib.Core.Path.{_≡_, refl, sym, _∙_}
 use mathlib.Core.List.{List}
@@ -61,8 +62,8 @@ returns-2 c =
     let e : c .before .loop .v ≡ c .before .before .args .probes = omega arith in
     rw (← e) (sym (c .before .loop .inv .1))
 
-pub counted-fault-spec : {M : Type 1} → statement M
-counted-fault-spec =
+pub above-fault-spec : {M : Type 1} → statement M
+above-fault-spec =
     tie.close
     (tie.spec
     Inv-loop

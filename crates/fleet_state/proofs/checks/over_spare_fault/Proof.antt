@@ -1,7 +1,8 @@
--- `fleet_state::checks::counted_fault` meets its contract.
+-- `fleet_state::checks::over_spare_fault` meets its contract.
+-- Invariant: no probe before v is over its spare. Measure: the probes that are left.
 use borrow.Author.Needs.{needs}
-use Rattle.fleet_state.proofs.checks.counted_fault.Statement.{statement}
-use Rattle.fleet_state.proofs.checks.counted_fault.Tie as tie
+use Rattle.fleet_state.proofs.checks.over_spare_fault.Statement.{statement}
+use Rattle.fleet_state.proofs.checks.over_spare_fault.Tie as tie
 use Prim.Native.Nat.{ℕ, _-_, _≤_}
 use mathlib.Core.Path.{_≡_, refl, sym, _∙_}
 use mathlib.Core.List.{List}
@@ -79,8 +80,8 @@ returns-3 c =
     let e : c .before .loop .v ≡ c .before .before .before .before .before .before .args .probes = omega arith in
     rw (← e) (sym (c .before .loop .inv .1))
 
-pub counted-fault-spec : {M : Type 1} → statement M
-counted-fault-spec =
+pub over-spare-fault-spec : {M : Type 1} → statement M
+over-spare-fault-spec =
     tie.close
     (tie.spec
     Inv-loop

@@ -1,13 +1,14 @@
--- `plan_turns_search::chains::start` meets its contract.
+-- `plan_turns_search::chains::start_marks` meets its contract.
+-- Invariant: the marks of the probes before v are those of no offer. Measure: the probes that are left.
 use borrow.Author.Needs.{needs}
-use Rattle.plan_turns_search.proofs.chains.start.Statement.{statement}
-use Rattle.plan_turns_search.proofs.chains.start.Tie as tie
+use Rattle.plan_turns_search.proofs.chains.start_marks.Statement.{statement}
+use Rattle.plan_turns_search.proofs.chains.start_marks.Tie as tie
 use Prim.Native.Nat.{_-_, _≤_}
 use mathlib.Core.Path.{_≡_, sym, _∙_}
 use native.Mathlib.Omega.{arith}
 use lib.ListN.{length}
 use Rattle.plan_turns_search.specs.Record.{FirstMarks}
-use Rattle.plan_turns_search.proofs.Kept.{first-next}
+use Rattle.plan_turns_search.proofs.MarkLaws.{first-next}
 
 abbrev Inv-loop : tie.InvT-loop
 Inv-loop marks₀ cursors lasts v₀ marks v = (v ≤ 256) × FirstMarks cursors lasts marks v × (length marks ≡ 1024)
@@ -78,8 +79,8 @@ returns c =
     let e : c .before .loop .v ≡ 256 = omega arith in
     rw e at (c .before .loop .inv .1)
 
-pub start-spec : {M : Type 1} → statement M
-start-spec =
+pub start-marks-spec : {M : Type 1} → statement M
+start-marks-spec =
     tie.close
     (tie.spec
     Inv-loop
