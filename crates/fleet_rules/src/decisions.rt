@@ -9,7 +9,7 @@ ghost use Prim.Native.Nat.{ℕ, _+_, _*_, _<_, _≤_};
 ghost use lib.Dec.{leb, eqb};
 ghost use lib.ListN.{length};
 ghost use Rattle.table.specs.Table.{item, ofSlices};
-ghost use Rattle.table_links.specs.Order.{OrderedLinks, dearerAt};
+ghost use Rattle.table_links.specs.Order.{OrderedLinks, dearerByPlace};
 ghost use Rattle.probe_record.specs.Record.{sideByte, sideBetter};
 ghost use Rattle.probe_rules.specs.Rules.{opening, offer, befalls};
 ghost use Rattle.probe_rules.specs.Within.{EventWithin};
@@ -41,7 +41,7 @@ fn side_byte(value: u8, rec: &[u8], lows: &[u16], highs: &[u16], probe: usize, k
 fn best_with(value: u8, byte: u8, costs: &[u16], links: usize, k: usize, best: usize) -> usize
     requires { ⌜ (links ≤ length (now costs)) × (k < links) ⌝ }
     ensures { λ r. let cost = item (now (costs .entry)) in
-        ⌜ r ≡ cond (eqb byte value && (leb links best || cond (eqb value 1) (dearerAt cost best k) (dearerAt cost k best))) k best ⌝ }
+        ⌜ r ≡ cond (eqb byte value && (leb links best || cond (eqb value 1) (dearerByPlace cost best k) (dearerByPlace cost k best))) k best ⌝ }
 {
     if byte != value {
         return best;

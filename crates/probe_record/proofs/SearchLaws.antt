@@ -14,7 +14,7 @@ use Rattle.table.specs.Legal.{Legal, RisingLinks}
 use Rattle.table.proofs.LegalLaws.{legal-table}
 use Rattle.plan_theory.proofs.Places.{Order, reversed}
 use Rattle.plan_theory.proofs.Order.{dearer-by-place, dearer-order}
-use Rattle.table_links.specs.Order.{dearerAt}
+use Rattle.table_links.specs.Order.{dearerByPlace}
 use Rattle.probe_record.specs.Record.{outbound, inbound, ownWith, dearestUntried, cheapestHeld, sideByte, sideBetter}
 
 module _ (t : Table) (legal : Legal t) (p : ℕ) (e : List ℕ) where
@@ -38,12 +38,12 @@ side-is (suc (suc n)) e i l = absurd (omega arith)
 -- the code's test of a link against the best so far
 module _ (t : Table) (order : RisingLinks t) (value k b : ℕ) (l : k < t .links) where
   abbrev by-side : Bool
-  by-side = cond (eqb value 1) (dearerAt (t .cost) b k) (dearerAt (t .cost) k b)
+  by-side = cond (eqb value 1) (dearerByPlace (t .cost) b k) (dearerByPlace (t .cost) k b)
 
   better-is : b < t .links → sideBetter value t k b ≡ by-side
   better-is m = go (eqb value 1)
     where
-      go : (c : Bool) → cond c (cheaper t) (dearer t) k b ≡ cond c (dearerAt (t .cost) b k) (dearerAt (t .cost) k b)
+      go : (c : Bool) → cond c (cheaper t) (dearer t) k b ≡ cond c (dearerByPlace (t .cost) b k) (dearerByPlace (t .cost) k b)
       go true = dearer-by-place t order b k m l
       go false = dearer-by-place t order k b l m
 

@@ -5,7 +5,7 @@ ghost use Prim.Native.Nat.{_<_, _≤_};
 ghost use lib.Dec.{ltb, leb, eqb};
 ghost use lib.ListN.{length};
 ghost use Rattle.table.specs.Table.{item};
-ghost use Rattle.table_links.specs.Order.{dearerAt};
+ghost use Rattle.table_links.specs.Order.{dearerByPlace};
 
 // Whether the link i is dearer than the link j.
 pub fn dearer(costs: &[u16], i: usize, j: usize) -> bool
@@ -25,7 +25,7 @@ pub fn dearer(costs: &[u16], i: usize, j: usize) -> bool
 pub fn goes_before(cheapest: bool, costs: &[u16], links: usize, k: usize, best: usize) -> bool
     requires { ⌜ (links ≤ length (now costs)) × (k < links) ⌝ }
     ensures { λ r. let cost = item (now (costs .entry)) in
-        ⌜ r ≡ (leb links best || cond cheapest (dearerAt cost best k) (dearerAt cost k best)) ⌝ }
+        ⌜ r ≡ (leb links best || cond cheapest (dearerByPlace cost best k) (dearerByPlace cost k best)) ⌝ }
 {
     if links <= best {
         return true;

@@ -17,14 +17,17 @@ same-length c = search needs
 
 returns : tie.Need-returns
 returns c =
-    let a = c .before .before .before .before .before .before .before .before .before .args in
+    let at-start = c .before .before .before .before .before .before .before .before .before in
+    let a = at-start .args in
     state-refused (a .number) (a .probes) (a .links) (a .needs .now) (a .lows .now) (a .highs .now) (a .costs .now) (a .used) (a .room) (a .line .now) (a .rec .now) _ (state-is (a .number) (a .probes) (a .links) (a .needs .now) (a .lows .now) (a .highs .now) (a .costs .now) (a .used) (a .room) (a .line .now) (a .rec .now) _ (c .before .state-fault .ensures)) (c .if1 .taken)
 
 handle-line-requires : tie.Need-handle-line-requires
 handle-line-requires c κs =
-    let a = c .before .before .before .before .before .before .before .before .before .before .args in
+    let at-state-fault = c .before .before in
+    let at-start = at-state-fault .before .before .before .before .before .before .before .before in
+    let a = at-start .args in
     let x : Slices = slicesOf (a .number) (a .probes) (a .links) (a .needs .now) (a .lows .now) (a .highs .now) (a .costs .now) in
-    let z : orElse (slicesFault x) (fleetFault (tableOf x) (a .rec .now)) ≡ 0 = sym (state-is (a .number) (a .probes) (a .links) (a .needs .now) (a .lows .now) (a .highs .now) (a .costs .now) (a .used) (a .room) (a .line .now) (a .rec .now) _ (c .before .before .state-fault .ensures)) ∙ c .before .if1 .left in
+    let z : orElse (slicesFault x) (fleetFault (tableOf x) (a .rec .now)) ≡ 0 = sym (state-is (a .number) (a .probes) (a .links) (a .needs .now) (a .lows .now) (a .highs .now) (a .costs .now) (a .used) (a .room) (a .line .now) (a .rec .now) _ (at-state-fault .state-fault .ensures)) ∙ c .before .if1 .left in
     (or-left (slicesFault x) (fleetFault (tableOf x) (a .rec .now)) z, or-right (slicesFault x) (fleetFault (tableOf x) (a .rec .now)) z)
 
 same-length-2 : tie.Need-same-length-2

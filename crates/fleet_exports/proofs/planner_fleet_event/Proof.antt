@@ -16,8 +16,10 @@ same-length c = search needs
 
 returns : tie.Need-returns
 returns c =
-    let a = c .before .before .before .before .before .before .before .before .before .before .before .args in
-    handled-packed (slicesOf (a .number) (a .probes) (a .links) (a .needs .now) (a .lows .now) (a .highs .now) (a .costs .now)) (a .used) (a .room) (a .line .now) _ _ (a .rec .now) _ (c .before .before .before .event .ensures) (c .packed-answer .ensures)
+    let at-event = c .before .before .before in
+    let at-start = at-event .before .before .before .before .before .before .before .before in
+    let a = at-start .args in
+    handled-packed (slicesOf (a .number) (a .probes) (a .links) (a .needs .now) (a .lows .now) (a .highs .now) (a .costs .now)) (a .used) (a .room) (a .line .now) _ _ (a .rec .now) _ (at-event .event .ensures) (c .packed-answer .ensures)
 
 pub planner-fleet-event-spec : {M : Type 1} → statement M
 planner-fleet-event-spec =

@@ -16,8 +16,10 @@ same-length c = search needs
 
 returns : tie.Need-returns
 returns c =
-    let a = c .before .before .before .before .before .before .before .before .before .before .before .args in
-    let b = c .before .before .before .event .ensures in
+    let at-event = c .before .before .before in
+    let at-start = at-event .before .before .before .before .before .before .before .before in
+    let a = at-start .args in
+    let b = at-event .event .ensures in
     record { told = c .tell .ensures ∙ ap (toldOf (a .used) (a .room)) (b .answer); record-after = b .record-after }
 
 pub event-told-spec : {M : Type 1} → statement M

@@ -24,7 +24,8 @@ returns-2 c = record { answer = rw (le-ltb _ _ (c .before .before .if1 .left), �
 
 is-sendable-requires : tie.Need-is-sendable-requires
 is-sendable-requires c κs =
-    let a = c .before .before .before .before .before .before .before .before .before .args in
+    let at-start = c .before .before .before .before .before .before .before .before .before in
+    let a = at-start .args in
     let t : Table = ofSlices 0 (a .probes) (a .links) (a .needs .now) (a .lows .now) (a .highs .now) (a .costs .now) in
     let s = sliceFault 256 2048 (slicesOf 0 (a .probes) (a .links) (a .needs .now) (a .lows .now) (a .highs .now) (a .costs .now)) in
     let p = link-parts s t (a .probe) (a .rec .now) (a .link) (sym (c .before .link-call-fault .ensures) ∙ c .if2 .left) in
@@ -37,10 +38,13 @@ returns-3 c = record { answer = rw (le-ltb _ _ (c .before .before .before .befor
 
 other-requires : tie.Need-other-requires
 other-requires c κs =
-    let a = c .before .before .before .before .before .before .before .before .before .before .before .args in
+    let at-test-2 = c .before .before in
+    let at-link-call-fault = at-test-2 .before in
+    let at-start = at-link-call-fault .before .before .before .before .before .before .before .before in
+    let a = at-start .args in
     let t : Table = ofSlices 0 (a .probes) (a .links) (a .needs .now) (a .lows .now) (a .highs .now) (a .costs .now) in
     let s = sliceFault 256 2048 (slicesOf 0 (a .probes) (a .links) (a .needs .now) (a .lows .now) (a .highs .now) (a .costs .now)) in
-    let p = link-parts s t (a .probe) (a .rec .now) (a .link) (sym (c .before .before .before .link-call-fault .ensures) ∙ c .before .before .if2 .left) in
+    let p = link-parts s t (a .probe) (a .rec .now) (a .link) (sym (at-link-call-fault .link-call-fault .ensures) ∙ at-test-2 .if2 .left) in
     let g = legal-slices 256 2048 (slicesOf 0 (a .probes) (a .links) (a .needs .now) (a .lows .now) (a .highs .now) (a .costs .now)) (p .0) in
     (omega (arith, g .in-lows, p .2), omega (arith, g .in-highs, p .2))
 
@@ -56,8 +60,16 @@ same-length c = search needs
 returns-4 : tie.Need-returns-4
 unfolding linkCallFault
 returns-4 c =
-    let w = rw (c .before .before .before .kind-of .ensures, c .before .before .before .before .before .other .ensures) at (c .before .before .write-frame .ensures) in
-    record { answer = rw (le-ltb _ _ (c .before .before .before .before .before .before .before .before .before .before .if1 .left), ← c .before .before .before .before .before .before .before .before .before .link-call-fault .ensures, eq-eqb _ _ (c .before .before .before .before .before .before .before .before .if2 .left), sym (c .before .before .before .before .before .before .before .is-sendable .ensures) ∙ not-false _ (c .before .before .before .before .before .before .if3 .left)); line = rw (le-ltb _ _ (c .before .before .before .before .before .before .before .before .before .before .if1 .left), ← c .before .before .before .before .before .before .before .before .before .link-call-fault .ensures, eq-eqb _ _ (c .before .before .before .before .before .before .before .before .if2 .left), sym (c .before .before .before .before .before .before .before .is-sendable .ensures) ∙ not-false _ (c .before .before .before .before .before .before .if3 .left)) w }
+    let at-write-frame = c .before .before in
+    let at-kind-of = at-write-frame .before in
+    let at-other = at-kind-of .before .before in
+    let at-test-3 = at-other .before in
+    let at-is-sendable = at-test-3 .before in
+    let at-test-2 = at-is-sendable .before in
+    let at-link-call-fault = at-test-2 .before in
+    let at-test = at-link-call-fault .before in
+    let w = rw (at-kind-of .kind-of .ensures, at-other .other .ensures) at (at-write-frame .write-frame .ensures) in
+    record { answer = rw (le-ltb _ _ (at-test .if1 .left), ← at-link-call-fault .link-call-fault .ensures, eq-eqb _ _ (at-test-2 .if2 .left), sym (at-is-sendable .is-sendable .ensures) ∙ not-false _ (at-test-3 .if3 .left)); line = rw (le-ltb _ _ (at-test .if1 .left), ← at-link-call-fault .link-call-fault .ensures, eq-eqb _ _ (at-test-2 .if2 .left), sym (at-is-sendable .is-sendable .ensures) ∙ not-false _ (at-test-3 .if3 .left)) w }
 
 pub ask-spec : {M : Type 1} → statement M
 ask-spec =

@@ -25,7 +25,8 @@ returns c = refused-call _ _ _ _ _ _ (c .before .hear-fault .ensures) (c .if1 .t
 
 event-of-requires : tie.Need-event-of-requires
 event-of-requires c κs =
-    let a = c .before .before .before .before .before .before .before .before .before .args in
+    let at-start = c .before .before .before .before .before .before .before .before .before in
+    let a = at-start .args in
     let t : Table = ofSlices (a .number) (a .probes) (a .links) (a .needs .now) (a .lows .now) (a .highs .now) (a .costs .now) in
     let s = sliceFault 256 2048 (slicesOf 0 (a .probes) (a .links) (a .needs .now) (a .lows .now) (a .highs .now) (a .costs .now)) in
     let p = hear-parts s t (a .probe) (a .rec .now) (a .frame .now) (a .free) (sym (c .before .hear-fault .ensures) ∙ c .if1 .left) in
@@ -33,10 +34,13 @@ event-of-requires c κs =
 
 apply-requires : tie.Need-apply-requires
 apply-requires c κs =
-    let a = c .before .before .before .before .before .before .before .before .before .before .before .args in
+    let at-test = c .before .before in
+    let at-hear-fault = at-test .before in
+    let at-start = at-hear-fault .before .before .before .before .before .before .before .before in
+    let a = at-start .args in
     let t : Table = ofSlices (a .number) (a .probes) (a .links) (a .needs .now) (a .lows .now) (a .highs .now) (a .costs .now) in
     let s = sliceFault 256 2048 (slicesOf 0 (a .probes) (a .links) (a .needs .now) (a .lows .now) (a .highs .now) (a .costs .now)) in
-    let p = hear-parts s t (a .probe) (a .rec .now) (a .frame .now) (a .free) (sym (c .before .before .before .hear-fault .ensures) ∙ c .before .before .if1 .left) in
+    let p = hear-parts s t (a .probe) (a .rec .now) (a .frame .now) (a .free) (sym (at-hear-fault .hear-fault .ensures) ∙ at-test .if1 .left) in
     (ordered-links (slicesOf 0 (a .probes) (a .links) (a .needs .now) (a .lows .now) (a .highs .now) (a .costs .now)) (legal-slices 256 2048 (slicesOf 0 (a .probes) (a .links) (a .needs .now) (a .lows .now) (a .highs .now) (a .costs .now)) (p .0)), ready 0 (a .probes) (a .links) (a .needs .now) (a .lows .now) (a .highs .now) (a .costs .now) (a .probe) (a .rec .now) (p .1), rw (c .before .event-of .ensures) (heard-within t (a .probe) (a .frame .now) (p .2)))
 
 same-length-2 : tie.Need-same-length-2
@@ -44,9 +48,14 @@ same-length-2 c = search needs
 
 returns-2 : tie.Need-returns-2
 returns-2 c =
-    let a = c .before .before .before .before .before .before .before .before .before .before .before .before .before .before .args in
+    let at-apply = c .before .before in
+    let at-event-of = at-apply .before .before in
+    let at-test = at-event-of .before in
+    let at-hear-fault = at-test .before in
+    let at-start = at-hear-fault .before .before .before .before .before .before .before .before in
+    let a = at-start .args in
     let t : Table = ofSlices (a .number) (a .probes) (a .links) (a .needs .now) (a .lows .now) (a .highs .now) (a .costs .now) in
-    accepted-call _ (a .number) (a .probes) (a .links) (a .needs .now) (a .lows .now) (a .highs .now) (a .costs .now) (a .probe) (heardOf t (frameOf (a .frame .now))) (a .rec .now) _ _ (sym (c .before .before .before .before .before .before .hear-fault .ensures) ∙ c .before .before .before .before .before .if1 .left) (rw (c .before .before .before .before .event-of .ensures) at (c .before .before .apply .ensures .0)) (rw (c .before .before .before .before .event-of .ensures) at (c .before .before .apply .ensures .1))
+    accepted-call _ (a .number) (a .probes) (a .links) (a .needs .now) (a .lows .now) (a .highs .now) (a .costs .now) (a .probe) (heardOf t (frameOf (a .frame .now))) (a .rec .now) _ _ (sym (at-hear-fault .hear-fault .ensures) ∙ at-test .if1 .left) (rw (at-event-of .event-of .ensures) at (at-apply .apply .ensures .0)) (rw (at-event-of .event-of .ensures) at (at-apply .apply .ensures .1))
 
 pub hear-spec : {M : Type 1} → statement M
 hear-spec =

@@ -26,10 +26,12 @@ returns c = refused-call _ _ _ _ _ _ (c .before .open-fault .ensures) (c .if1 .t
 apply-requires : tie.Need-apply-requires
 unfolding openFault
 apply-requires c κs =
-    let a = c .before .before .before .before .before .before .before .before .before .args in
+    let at-open-fault = c .before .before in
+    let at-start = at-open-fault .before .before .before .before .before .before .before in
+    let a = at-start .args in
     let t : Table = ofSlices 0 (a .probes) (a .links) (a .needs .now) (a .lows .now) (a .highs .now) (a .costs .now) in
     let s = sliceFault 256 2048 (slicesOf 0 (a .probes) (a .links) (a .needs .now) (a .lows .now) (a .highs .now) (a .costs .now)) in
-    let p = open-parts s t (a .probe) (a .rec .now) (a .free) (sym (c .before .before .open-fault .ensures) ∙ c .before .if1 .left) in
+    let p = open-parts s t (a .probe) (a .rec .now) (a .free) (sym (at-open-fault .open-fault .ensures) ∙ c .before .if1 .left) in
     (ordered-links (slicesOf 0 (a .probes) (a .links) (a .needs .now) (a .lows .now) (a .highs .now) (a .costs .now)) (legal-slices 256 2048 (slicesOf 0 (a .probes) (a .links) (a .needs .now) (a .lows .now) (a .highs .now) (a .costs .now)) (p .0)), ready 0 (a .probes) (a .links) (a .needs .now) (a .lows .now) (a .highs .now) (a .costs .now) (a .probe) (a .rec .now) (p .1), tt)
 
 same-length-2 : tie.Need-same-length-2
@@ -38,8 +40,12 @@ same-length-2 c = search needs
 returns-2 : tie.Need-returns-2
 unfolding openFault
 returns-2 c =
-    let a = c .before .before .before .before .before .before .before .before .before .before .before .before .args in
-    accepted-call _ (a .number) (a .probes) (a .links) (a .needs .now) (a .lows .now) (a .highs .now) (a .costs .now) (a .probe) Opening (a .rec .now) _ _ (sym (c .before .before .before .before .before .open-fault .ensures) ∙ c .before .before .before .before .if1 .left) (c .before .before .apply .ensures .0) (c .before .before .apply .ensures .1)
+    let at-apply = c .before .before in
+    let at-test = at-apply .before .before in
+    let at-open-fault = at-test .before in
+    let at-start = at-open-fault .before .before .before .before .before .before .before in
+    let a = at-start .args in
+    accepted-call _ (a .number) (a .probes) (a .links) (a .needs .now) (a .lows .now) (a .highs .now) (a .costs .now) (a .probe) Opening (a .rec .now) _ _ (sym (at-open-fault .open-fault .ensures) ∙ at-test .if1 .left) (at-apply .apply .ensures .0) (at-apply .apply .ensures .1)
 
 pub open-spec : {M : Type 1} → statement M
 open-spec =

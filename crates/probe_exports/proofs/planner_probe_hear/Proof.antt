@@ -18,9 +18,11 @@ same-length c = search needs
 
 returns : tie.Need-returns
 returns c =
-    let a = c .before .before .before .before .before .before .before .before .before .before .before .args in
+    let at-hear = c .before .before .before in
+    let at-start = at-hear .before .before .before .before .before .before .before .before in
+    let a = at-start .args in
     let t : Table = ofSlices (a .number) (a .probes) (a .links) (a .needs .now) (a .lows .now) (a .highs .now) (a .costs .now) in
-    befallen-packed _ t (a .probe) (heardOf t (frameOf (a .frame .now))) _ _ (a .rec .now) _ (c .before .before .before .hear .ensures) (c .packed-answer .ensures)
+    befallen-packed _ t (a .probe) (heardOf t (frameOf (a .frame .now))) _ _ (a .rec .now) _ (at-hear .hear .ensures) (c .packed-answer .ensures)
 
 pub planner-probe-hear-spec : {M : Type 1} → statement M
 planner-probe-hear-spec =

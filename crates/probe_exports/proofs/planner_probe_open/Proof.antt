@@ -17,8 +17,10 @@ same-length c = search needs
 
 returns : tie.Need-returns
 returns c =
-    let a = c .before .before .before .before .before .before .before .before .before .before .args in
-    befallen-packed _ (ofSlices (a .number) (a .probes) (a .links) (a .needs .now) (a .lows .now) (a .highs .now) (a .costs .now)) (a .probe) Opening _ _ (a .rec .now) _ (c .before .before .before .«open» .ensures) (c .packed-answer .ensures)
+    let at-open = c .before .before .before in
+    let at-start = at-open .before .before .before .before .before .before .before in
+    let a = at-start .args in
+    befallen-packed _ (ofSlices (a .number) (a .probes) (a .links) (a .needs .now) (a .lows .now) (a .highs .now) (a .costs .now)) (a .probe) Opening _ _ (a .rec .now) _ (at-open .«open» .ensures) (c .packed-answer .ensures)
 
 pub planner-probe-open-spec : {M : Type 1} → statement M
 planner-probe-open-spec =

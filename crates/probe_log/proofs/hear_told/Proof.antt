@@ -19,8 +19,11 @@ same-length c = search needs
 
 returns : tie.Need-returns
 returns c =
-    let a = c .before .before .before .before .before .before .before .before .before .before .before .before .args in
-    let b = rw (c .before .before .before .before .free .ensures) at (c .before .before .before .hear .ensures) in
+    let at-hear = c .before .before .before in
+    let at-free = at-hear .before in
+    let at-start = at-free .before .before .before .before .before .before .before .before in
+    let a = at-start .args in
+    let b = rw (at-free .free .ensures) at (at-hear .hear .ensures) in
     record { told = c .tell .ensures ∙ ap (toldOf (a .used) (a .room)) (b .answer); record-after = b .record-after }
 
 pub hear-told-spec : {M : Type 1} → statement M

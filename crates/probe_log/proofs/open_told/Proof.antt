@@ -19,8 +19,11 @@ same-length c = search needs
 
 returns : tie.Need-returns
 returns c =
-    let a = c .before .before .before .before .before .before .before .before .before .before .before .args in
-    let b = rw (c .before .before .before .before .free .ensures) at (c .before .before .before .«open» .ensures) in
+    let at-open = c .before .before .before in
+    let at-free = at-open .before in
+    let at-start = at-free .before .before .before .before .before .before .before in
+    let a = at-start .args in
+    let b = rw (at-free .free .ensures) at (at-open .«open» .ensures) in
     record { told = c .tell .ensures ∙ ap (toldOf (a .used) (a .room)) (b .answer); record-after = b .record-after }
 
 pub open-told-spec : {M : Type 1} → statement M

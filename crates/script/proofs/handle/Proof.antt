@@ -25,9 +25,11 @@ array-share-prefix-out c =
 
 slice-aggregate-write-all : tie.Need-slice-aggregate-write-all
 slice-aggregate-write-all c =
-    let k = c .before .before .before .before .before .before .before .before .before .script-piece in
+    let at-handled = c .before .before in
+    let at-script-piece = at-handled .before .before .before .before .before .before .before in
+    let k = at-script-piece .script-piece in
     let m = k .kept .1 .1 .1 .1 .1 .1 .1 .1 .1 .1 .1 .0 in
-    let l = handled-within _ _ _ _ _ _ _ _ _ _ _ (k .ensures) (c .before .before .handled .given .1) m in
+    let l = handled-within _ _ _ _ _ _ _ _ _ _ _ (k .ensures) (at-handled .handled .given .1) m in
     sym (length-take-le _ (k .last .1 .1 .1 .1 .1 .1 .1 .1 .1 .1 .1 .0) (omega (arith, m)))
 
 write-all-requires : tie.Need-write-all-requires

@@ -52,8 +52,10 @@ slice-aggregate-handle-all-5 c = search needs
 
 handle-all-requires : tie.Need-handle-all-requires
 handle-all-requires c κs =
-    let k = c .before .before .before .before .before .before .before .before .before .before .before .before .read-table-prefix in
-    let e = c .before .before .before .before .before .before .read .given .1 in
+    let at-read = c .before .before .before .before .before .before in
+    let at-read-table-prefix = at-read .before .before .before .before .before .before in
+    let k = at-read-table-prefix .read-table-prefix in
+    let e = at-read .read .given .1 in
     let w = rest-within _ _ _ _ _ _ (k .ensures) _ _ _ _ e in
     (read-links _ _ _ _ _ _ (k .ensures) _ _ _ _ e, omega (arith, w .1), search needs)
 

@@ -11,10 +11,12 @@ script-end-requires c κs = search needs
 
 packed-output-requires : tie.Need-packed-output-requires
 packed-output-requires c κs =
+    let at-script-end = c .before .before in
+    let at-start = at-script-end .before .before .before .before .before .before .before .before in
     λ n is.
-    let k = c .before .before .script-end in
+    let k = at-script-end .script-end in
     let l = printed-within _ n _ _ _ _ (k .ensures) is (k .kept .1 .1 .1 .1 .1 .1 .1 .1 .1 .0) in
-    omega (arith, c .before .before .before .before .before .before .before .before .before .before .good .1 .1 .1 .1 .1 .1 .1 .1 .1 .1 .0)
+    omega (arith, at-start .good .1 .1 .1 .1 .1 .1 .1 .1 .1 .1 .0)
 
 same-length : tie.Need-same-length
 same-length c = search needs

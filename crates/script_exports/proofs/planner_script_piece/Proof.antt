@@ -11,7 +11,8 @@ use Rattle.script_exports.proofs.Answers.{piece-unhandled, piece-refuse
 
 returns : tie.Need-returns
 returns c =
-    let a = c .before .before .before .before .before .before .before .before .before .before .args in
+    let at-start = c .before .before .before .before .before .before .before .before .before .before in
+    let a = at-start .args in
     piece-unhandled _ _ (a .rec .now) (a .line .now) (a .numbers .now) (a .out .now) (c .if1 .taken)
 
 slice-read-t21 : tie.Need-slice-read-t21
@@ -33,16 +34,22 @@ slice-write-numbers : tie.Need-slice-write-numbers
 slice-write-numbers c = search needs
 
 slice-write-numbers-2 : tie.Need-slice-write-numbers-2
-slice-write-numbers-2 c = simp length-set (omega (arith, c .before .before .before .before .before .before .before .before .before .before .before .before .before .before .before .before .if1 .left))
+slice-write-numbers-2 c =
+    let at-test = c .before .before .before .before .before .before .before .before .before .before .before .before .before .before .before .before in
+    simp length-set (omega (arith, at-test .if1 .left))
 
 slice-write-numbers-3 : tie.Need-slice-write-numbers-3
-slice-write-numbers-3 c = simp length-set (omega (arith, c .before .before .before .before .before .before .before .before .before .before .before .before .before .before .before .before .if1 .left))
+slice-write-numbers-3 c =
+    let at-test = c .before .before .before .before .before .before .before .before .before .before .before .before .before .before .before .before in
+    simp length-set (omega (arith, at-test .if1 .left))
 
 add-result : tie.Need-add-result
 add-result c =
-    let k = c .before .before .before .before .before .before .before .before .before .script-piece in
+    let at-script-piece = c .before .before .before .before .before .before .before .before .before in
+    let at-start = at-script-piece .before .before .before .before .before .before .before .before .before .before .before .before .before .before .before .before .before in
+    let k = at-script-piece .script-piece in
     let l = handled-within _ _ _ _ _ _ _ _ _ _ _ (k .ensures) (c .before .handled .given .1) (k .kept .1 .1 .1 .1 .1 .1 .1 .1 .1 .1 .1 .0) in
-    omega (arith, c .before .before .before .before .before .before .before .before .before .before .before .before .before .before .before .before .before .before .before .before .before .before .before .before .before .before .good .1 .1 .1 .1 .1 .1 .1 .1 .1 .1 .1 .0)
+    omega (arith, at-start .good .1 .1 .1 .1 .1 .1 .1 .1 .1 .1 .1 .0)
 
 enum-known-handled-2 : tie.Need-enum-known-handled-2
 enum-known-handled-2 c = search needs
@@ -64,9 +71,12 @@ same-length-4 c = search needs
 
 returns-2 : tie.Need-returns-2
 returns-2 c =
-    let k = c .before .before .before .before .before .before .before .before .before .script-piece in
-    let a = c .before .before .before .before .before .before .before .before .before .before .before .before .before .before .before .before .before .before .before .before .before .before .before .before .before .before .args in
-    rw (le-ltb _ _ (c .before .before .before .before .before .before .before .before .before .before .before .before .before .before .before .before .if1 .left)) (piece-handled _ _ _ (a .rec .now) _ (a .line .now) _ (a .out .now) _ (k .ensures) _ _ _ (a .numbers .now) _ (c .before .handled .given .1) (c .before .before .before .before .before .before .before .before .before .before .before .before .before .before .before .before .if1 .left) refl refl)
+    let at-script-piece = c .before .before .before .before .before .before .before .before .before in
+    let at-test = at-script-piece .before .before .before .before .before .before .before in
+    let at-start = at-test .before .before .before .before .before .before .before .before .before .before in
+    let k = at-script-piece .script-piece in
+    let a = at-start .args in
+    rw (le-ltb _ _ (at-test .if1 .left)) (piece-handled _ _ _ (a .rec .now) _ (a .line .now) _ (a .out .now) _ (k .ensures) _ _ _ (a .numbers .now) _ (c .before .handled .given .1) (at-test .if1 .left) refl refl)
 
 same-length-5 : tie.Need-same-length-5
 same-length-5 c = search needs
@@ -79,9 +89,12 @@ same-length-7 c = search needs
 
 returns-3 : tie.Need-returns-3
 returns-3 c =
-    let k = c .before .before .before .before .before .before .before .before .before .script-piece in
-    let a = c .before .before .before .before .before .before .before .before .before .before .before .before .before .before .before .before .before .before .before .before .before .before .before .before .before .before .args in
-    rw (le-ltb _ _ (c .before .before .before .before .before .before .before .before .before .before .before .before .before .before .before .before .if1 .left)) (piece-refused _ _ _ (a .rec .now) _ (a .line .now) _ (a .out .now) _ (k .ensures) _ (a .numbers .now) (c .before .handled2 .given .1))
+    let at-script-piece = c .before .before .before .before .before .before .before .before .before in
+    let at-test = at-script-piece .before .before .before .before .before .before .before in
+    let at-start = at-test .before .before .before .before .before .before .before .before .before .before in
+    let k = at-script-piece .script-piece in
+    let a = at-start .args in
+    rw (le-ltb _ _ (at-test .if1 .left)) (piece-refused _ _ _ (a .rec .now) _ (a .line .now) _ (a .out .now) _ (k .ensures) _ (a .numbers .now) (c .before .handled2 .given .1))
 
 pub planner-script-piece-spec : {M : Type 1} → statement M
 planner-script-piece-spec =

@@ -24,9 +24,12 @@ same-length c = search needs
 
 returns : tie.Need-returns
 returns c =
-    let a = c .before .before .before .before .before .before .before .before .before .before .before .before .before .args in
+    let at-piece-fault = c .before .before .before in
+    let at-begun = at-piece-fault .before in
+    let at-start = at-begun .before .before .before .before .before .before .before .before .before in
+    let a = at-start .args in
     let x = slicesOf (a .number) (a .probes) (a .links) (a .needs .now) (a .lows .now) (a .highs .now) (a .costs .now) in
-    let g = call-is x (a .rec .now) (a .line .now) (a .progress .held) _ (length (a .out .now)) (length (a .piece .now)) _ _ (c .before .before .before .before .begun .ensures .1) (c .before .before .before .piece-fault .ensures) (c .before .call-fault .ensures (a .number)) in
+    let g = call-is x (a .rec .now) (a .line .now) (a .progress .held) _ (length (a .out .now)) (length (a .piece .now)) _ _ (at-begun .begun .ensures .1) (at-piece-fault .piece-fault .ensures) (c .before .call-fault .ensures (a .number)) in
     unhandled _ _ _ (a .rec .now) (a .line .now) (a .out .now) g (c .if1 .taken)
 
 slice-aggregate-copy : tie.Need-slice-aggregate-copy
@@ -37,9 +40,14 @@ cast-copy c = search needs
 
 copy-requires : tie.Need-copy-requires
 copy-requires c κs =
-    let a = c .before .before .before .before .before .before .before .before .before .before .before .before .before .before .before .before .args in
+    let at-test = c .before .before .before in
+    let at-call-fault = at-test .before in
+    let at-piece-fault = at-call-fault .before .before in
+    let at-begun = at-piece-fault .before in
+    let at-start = at-begun .before .before .before .before .before .before .before .before .before in
+    let a = at-start .args in
     let x = slicesOf (a .number) (a .probes) (a .links) (a .needs .now) (a .lows .now) (a .highs .now) (a .costs .now) in
-    let g = call-given x (a .rec .now) (a .line .now) (a .progress .held) _ (length (a .out .now)) (length (a .piece .now)) _ _ (c .before .before .before .before .before .before .before .begun .ensures .1) (c .before .before .before .before .before .before .piece-fault .ensures) (c .before .before .before .before .call-fault .ensures (a .number)) (c .before .before .before .if1 .left) in
+    let g = call-given x (a .rec .now) (a .line .now) (a .progress .held) _ (length (a .out .now)) (length (a .piece .now)) _ _ (at-begun .begun .ensures .1) (at-piece-fault .piece-fault .ensures) (at-call-fault .call-fault .ensures (a .number)) (at-test .if1 .left) in
     (omega (arith, g .few), omega (arith, g .few, g .long))
 
 slice-aggregate-take-piece : tie.Need-slice-aggregate-take-piece
@@ -47,10 +55,16 @@ slice-aggregate-take-piece c = search needs
 
 take-piece-requires : tie.Need-take-piece-requires
 take-piece-requires c κs =
-    let a = c .before .before .before .before .before .before .before .before .before .before .before .before .before .before .before .before .before .before .before .before .before .args in
+    let at-copy = c .before .before .before .before in
+    let at-test = at-copy .before .before .before .before in
+    let at-call-fault = at-test .before in
+    let at-piece-fault = at-call-fault .before .before in
+    let at-begun = at-piece-fault .before in
+    let at-start = at-begun .before .before .before .before .before .before .before .before .before in
+    let a = at-start .args in
     let x = slicesOf (a .number) (a .probes) (a .links) (a .needs .now) (a .lows .now) (a .highs .now) (a .costs .now) in
-    let g = call-given x (a .rec .now) (a .line .now) (a .progress .held) _ (length (a .out .now)) (length (a .piece .now)) _ _ (c .before .before .before .before .before .before .before .before .before .before .before .before .begun .ensures .1) (c .before .before .before .before .before .before .before .before .before .before .before .piece-fault .ensures) (c .before .before .before .before .before .before .before .before .before .call-fault .ensures (a .number)) (c .before .before .before .before .before .before .before .before .if1 .left) in
-    (g .fine, g .good, g .few, c .before .before .before .before .copy .kept .0, g .room)
+    let g = call-given x (a .rec .now) (a .line .now) (a .progress .held) _ (length (a .out .now)) (length (a .piece .now)) _ _ (at-begun .begun .ensures .1) (at-piece-fault .piece-fault .ensures) (at-call-fault .call-fault .ensures (a .number)) (at-test .if1 .left) in
+    (g .fine, g .good, g .few, at-copy .copy .kept .0, g .room)
 
 slice-aggregate-copy-2 : tie.Need-slice-aggregate-copy-2
 slice-aggregate-copy-2 c = search needs
@@ -60,11 +74,18 @@ cast-copy-2 c = search needs
 
 copy-requires-2 : tie.Need-copy-requires-2
 copy-requires-2 c κs =
-    let a = c .before .before .before .before .before .before .before .before .before .before .before .before .before .before .before .before .before .before .before .before .before .before .before .before .before .before .before .before .before .before .before .args in
+    let at-take-piece = c .before .before .before .before .before .before .before .before .before in
+    let at-copy = at-take-piece .before .before .before .before .before in
+    let at-test = at-copy .before .before .before .before in
+    let at-call-fault = at-test .before in
+    let at-piece-fault = at-call-fault .before .before in
+    let at-begun = at-piece-fault .before in
+    let at-start = at-begun .before .before .before .before .before .before .before .before .before in
+    let a = at-start .args in
     let x = slicesOf (a .number) (a .probes) (a .links) (a .needs .now) (a .lows .now) (a .highs .now) (a .costs .now) in
-    let g = call-given x (a .rec .now) (a .line .now) (a .progress .held) _ (length (a .out .now)) (length (a .piece .now)) _ _ (c .before .before .before .before .before .before .before .before .before .before .before .before .before .before .before .before .before .before .before .before .before .before .begun .ensures .1) (c .before .before .before .before .before .before .before .before .before .before .before .before .before .before .before .before .before .before .before .before .before .piece-fault .ensures) (c .before .before .before .before .before .before .before .before .before .before .before .before .before .before .before .before .before .before .before .call-fault .ensures (a .number)) (c .before .before .before .before .before .before .before .before .before .before .before .before .before .before .before .before .before .before .if1 .left) in
-    let k = c .before .before .before .before .before .before .before .before .before .take-piece in
-    (omega (arith, k .ensures .2, g .long), omega (arith, k .ensures .2, k .kept .1 .1 .1 .1 .1 .1 .1 .1 .0, c .before .before .before .before .before .before .before .before .before .before .before .before .before .before .copy .kept .0))
+    let g = call-given x (a .rec .now) (a .line .now) (a .progress .held) _ (length (a .out .now)) (length (a .piece .now)) _ _ (at-begun .begun .ensures .1) (at-piece-fault .piece-fault .ensures) (at-call-fault .call-fault .ensures (a .number)) (at-test .if1 .left) in
+    let k = at-take-piece .take-piece in
+    (omega (arith, k .ensures .2, g .long), omega (arith, k .ensures .2, k .kept .1 .1 .1 .1 .1 .1 .1 .1 .0, at-copy .copy .kept .0))
 
 same-length-2 : tie.Need-same-length-2
 same-length-2 c = search needs
@@ -77,17 +98,25 @@ same-length-4 c = search needs
 
 returns-2 : tie.Need-returns-2
 returns-2 c =
-    let a = c .before .before .before .before .before .before .before .before .before .before .before .before .before .before .before .before .before .before .before .before .before .before .before .before .before .before .before .before .before .before .before .before .before .before .args in
+    let at-copy2 = c .before .before in
+    let at-take-piece = at-copy2 .before .before .before .before .before .before .before .before .before .before in
+    let at-copy = at-take-piece .before .before .before .before .before in
+    let at-test = at-copy .before .before .before .before in
+    let at-call-fault = at-test .before in
+    let at-piece-fault = at-call-fault .before .before in
+    let at-begun = at-piece-fault .before in
+    let at-start = at-begun .before .before .before .before .before .before .before .before .before in
+    let a = at-start .args in
     let x = slicesOf (a .number) (a .probes) (a .links) (a .needs .now) (a .lows .now) (a .highs .now) (a .costs .now) in
-    let m = c .before .before .before .before .before .before .before .before .before .before .before .before .before .before .before .before .before .before .before .before .before .before .before .before .before .begun .ensures in
-    let s = c .before .before .before .before .before .before .before .before .before .before .before .before .before .before .before .before .before .before .before .before .before .before .before .before .piece-fault .ensures in
-    let f = c .before .before .before .before .before .before .before .before .before .before .before .before .before .before .before .before .before .before .before .before .before .before .call-fault .ensures (a .number) in
-    let g = call-given x (a .rec .now) (a .line .now) (a .progress .held) _ (length (a .out .now)) (length (a .piece .now)) _ _ (m .1) s f (c .before .before .before .before .before .before .before .before .before .before .before .before .before .before .before .before .before .before .before .before .before .if1 .left) in
+    let m = at-begun .begun .ensures in
+    let s = at-piece-fault .piece-fault .ensures in
+    let f = at-call-fault .call-fault .ensures (a .number) in
+    let g = call-given x (a .rec .now) (a .line .now) (a .progress .held) _ (length (a .out .now)) (length (a .piece .now)) _ _ (m .1) s f (at-test .if1 .left) in
     let e = call-is x (a .rec .now) (a .line .now) (a .progress .held) _ (length (a .out .now)) (length (a .piece .now)) _ _ (m .1) s f in
-    let k = c .before .before .before .before .before .before .before .before .before .before .before .before .take-piece in
+    let k = at-take-piece .take-piece in
     let zeros : List ℕ = replicate 17 0 in
-    let same = copied-same _ (a .progress) (a .rec .now) (a .line .now) zeros _ m (g .long) (omega arith) (c .before .before .before .before .before .before .before .before .before .before .before .before .before .before .before .before .before .copy .ensures) in
-    handled-all _ _ _ (a .rec .now) _ (a .line .now) _ _ (a .out .now) _ (sym e ∙ c .before .before .before .before .before .before .before .before .before .before .before .before .before .before .before .before .before .before .before .before .before .if1 .left) (rw same at (k .ensures .0)) (c .before .before .copy2 .ensures) (omega (arith, k .ensures .2, g .long)) (omega (arith, k .ensures .1, g .room))
+    let same = copied-same _ (a .progress) (a .rec .now) (a .line .now) zeros _ m (g .long) (omega arith) (at-copy .copy .ensures) in
+    handled-all _ _ _ (a .rec .now) _ (a .line .now) _ _ (a .out .now) _ (sym e ∙ at-test .if1 .left) (rw same at (k .ensures .0)) (at-copy2 .copy2 .ensures) (omega (arith, k .ensures .2, g .long)) (omega (arith, k .ensures .1, g .room))
 
 pub script-piece-spec : {M : Type 1} → statement M
 script-piece-spec =

@@ -55,16 +55,22 @@ slice-aggregate-print-script-4 c = search needs
 
 sub-print-script : tie.Need-sub-print-script
 sub-print-script c =
-    let a = c .before .before .before .before .before .before .before .before .before .before .before .before .before .before .before .before .before .before .before .args in
-    let k = c .before .before .before .before .before .before .before .before .before .before .before .read-table-prefix in
-    let w = rest-within (a .text .now) _ _ _ _ _ (k .ensures) _ _ _ _ (c .before .before .before .before .before .read .given .1) in
+    let at-read = c .before .before .before .before .before in
+    let at-read-table-prefix = at-read .before .before .before .before .before .before in
+    let at-start = at-read-table-prefix .before .before .before .before .before .before .before .before in
+    let a = at-start .args in
+    let k = at-read-table-prefix .read-table-prefix in
+    let w = rest-within (a .text .now) _ _ _ _ _ (k .ensures) _ _ _ _ (at-read .read .given .1) in
     omega (arith, w .1)
 
 part-print-script-start : tie.Need-part-print-script-start
 part-print-script-start c =
-    let a = c .before .before .before .before .before .before .before .before .before .before .before .before .before .before .before .before .before .before .before .args in
-    let k = c .before .before .before .before .before .before .before .before .before .before .before .read-table-prefix in
-    let w = rest-within (a .text .now) _ _ _ _ _ (k .ensures) _ _ _ _ (c .before .before .before .before .before .read .given .1) in
+    let at-read = c .before .before .before .before .before in
+    let at-read-table-prefix = at-read .before .before .before .before .before .before in
+    let at-start = at-read-table-prefix .before .before .before .before .before .before .before .before in
+    let a = at-start .args in
+    let k = at-read-table-prefix .read-table-prefix in
+    let w = rest-within (a .text .now) _ _ _ _ _ (k .ensures) _ _ _ _ (at-read .read .given .1) in
     w .1
 
 part-print-script-end : tie.Need-part-print-script-end
@@ -72,12 +78,16 @@ part-print-script-end c = search needs
 
 print-script-requires : tie.Need-print-script-requires
 print-script-requires c κs =
-    let a = c .before .before .before .before .before .before .before .before .before .before .before .before .before .before .before .before .before .before .before .before .before .args in
-    let k = c .before .before .before .before .before .before .before .before .before .before .before .before .before .read-table-prefix in
-    let e = c .before .before .before .before .before .before .before .read .given .1 in
+    let at-read = c .before .before .before .before .before .before .before in
+    let at-read-table-prefix = at-read .before .before .before .before .before .before in
+    let at-test = at-read-table-prefix .before .before .before .before .before in
+    let at-start = at-test .before .before .before in
+    let a = at-start .args in
+    let k = at-read-table-prefix .read-table-prefix in
+    let e = at-read .read .given .1 in
     let w = rest-within (a .text .now) _ _ _ _ _ (k .ensures) _ _ _ _ e in
     let n = behind-length (a .text .now) _ _ _ _ _ (k .ensures) _ _ _ _ e in
-    (read-fine (a .text .now) _ _ _ _ _ (k .ensures) _ _ _ _ e, omega (arith, c .before .before .before .before .before .before .before .before .before .before .before .before .before .before .before .before .before .before .if1 .left, w .0, w .1))
+    (read-fine (a .text .now) _ _ _ _ _ (k .ensures) _ _ _ _ e, omega (arith, at-test .if1 .left, w .0, w .1))
 
 enum-known-read-2 : tie.Need-enum-known-read-2
 enum-known-read-2 c = search needs
@@ -90,19 +100,29 @@ same-length c = search needs
 
 returns-2 : tie.Need-returns-2
 returns-2 c =
-    let a = c .before .before .before .before .before .before .before .before .before .before .before .before .before .before .before .before .before .before .before .before .before .before .before .before .args in
-    let k = c .before .before .before .before .before .before .before .before .before .before .before .before .before .before .before .before .read-table-prefix in
-    let p = c .before .before .print-script .ensures in
-    rw (le-ltb (length (a .out .now)) (5 * length (a .text .now) + 5) (omega (arith, c .before .before .before .before .before .before .before .before .before .before .before .before .before .before .before .before .before .before .before .before .before .if1 .left))) (script-printed (a .text .now) _ _ _ _ _ (k .ensures) _ _ _ _ (c .before .before .before .before .before .before .before .before .before .before .read .given .1) _ (a .out .now) _ (p .0) (p .1) (p .2))
+    let at-print-script = c .before .before in
+    let at-read = at-print-script .before .before .before .before .before .before .before .before in
+    let at-read-table-prefix = at-read .before .before .before .before .before .before in
+    let at-test = at-read-table-prefix .before .before .before .before .before in
+    let at-start = at-test .before .before .before in
+    let a = at-start .args in
+    let k = at-read-table-prefix .read-table-prefix in
+    let p = at-print-script .print-script .ensures in
+    rw (le-ltb (length (a .out .now)) (5 * length (a .text .now) + 5) (omega (arith, at-test .if1 .left))) (script-printed (a .text .now) _ _ _ _ _ (k .ensures) _ _ _ _ (at-read .read .given .1) _ (a .out .now) _ (p .0) (p .1) (p .2))
 
 same-length-2 : tie.Need-same-length-2
 same-length-2 c = search needs
 
 returns-3 : tie.Need-returns-3
 returns-3 c =
-    let a = c .before .before .before .before .before .before .before .before .before .before .before .before .before .before .before .before .before .before .before .args in
-    let k = c .before .before .before .before .before .before .before .before .before .before .before .read-table-prefix in
-    rw (le-ltb (length (a .out .now)) (5 * length (a .text .now) + 5) (omega (arith, c .before .before .before .before .before .before .before .before .before .before .before .before .before .before .before .before .if1 .left))) (refusal-printed (a .text .now) _ _ _ _ _ (k .ensures) _ _ (a .out .now) _ (c .before .before .before .before .before .read2 .given .1) (omega (arith, c .before .before .before .before .before .before .before .before .before .before .before .before .before .before .before .before .if1 .left)) (c .before .before .print-refusal .ensures))
+    let at-print-refusal = c .before .before in
+    let at-read2 = at-print-refusal .before .before .before in
+    let at-read-table-prefix = at-read2 .before .before .before .before .before .before in
+    let at-test = at-read-table-prefix .before .before .before .before .before in
+    let at-start = at-test .before .before .before in
+    let a = at-start .args in
+    let k = at-read-table-prefix .read-table-prefix in
+    rw (le-ltb (length (a .out .now)) (5 * length (a .text .now) + 5) (omega (arith, at-test .if1 .left))) (refusal-printed (a .text .now) _ _ _ _ _ (k .ensures) _ _ (a .out .now) _ (at-read2 .read2 .given .1) (omega (arith, at-test .if1 .left)) (at-print-refusal .print-refusal .ensures))
 
 pub script-text-spec : {M : Type 1} → statement M
 script-text-spec =

@@ -54,9 +54,17 @@ find-ends-requires c κs = search needs
 
 returns-4 : tie.Need-returns-4
 returns-4 c =
-    let z = sym (c .before .before .before .before .before .before .before .before .before .frame-fault .ensures) ∙ c .before .before .before .before .before .before .before .before .if1 .left in
-    let k = c .before .before .before .before .before .before .if2 .left in
-    (rw (z, ← c .before .before .before .before .before .before .before .field .ensures, lt-ltb (c .before .before .before .before .before .before .before .field .result) 3 (omega arith), ← c .before .before .before .before .before .field2 .ensures, eq-eqb _ _ (c .before .before .before .if3 .left ∙ c .before .before .before .before .wide .ensures), ← c .before .before .field3 .ensures, ← c .before .field4 .ensures) (c .find-ends .ensures .0), λ y m. rw (← c .before .before .field3 .ensures, ← c .before .field4 .ensures) (c .find-ends .ensures .1 y (rw (c .before .before .before .before .before .before .before .field .ensures) m)))
+    let at-field3 = c .before .before in
+    let at-test-3 = at-field3 .before in
+    let at-wide = at-test-3 .before in
+    let at-field2 = at-wide .before in
+    let at-test-2 = at-field2 .before in
+    let at-field = at-test-2 .before in
+    let at-test = at-field .before in
+    let at-frame-fault = at-test .before in
+    let z = sym (at-frame-fault .frame-fault .ensures) ∙ at-test .if1 .left in
+    let k = at-test-2 .if2 .left in
+    (rw (z, ← at-field .field .ensures, lt-ltb (at-field .field .result) 3 (omega arith), ← at-field2 .field2 .ensures, eq-eqb _ _ (at-test-3 .if3 .left ∙ at-wide .wide .ensures), ← at-field3 .field3 .ensures, ← c .before .field4 .ensures) (c .find-ends .ensures .0), λ y m. rw (← at-field3 .field3 .ensures, ← c .before .field4 .ensures) (c .find-ends .ensures .1 y (rw (at-field .field .ensures) m)))
 
 pub check-line-spec : {M : Type 1} → statement M
 check-line-spec =

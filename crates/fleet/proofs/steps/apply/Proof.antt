@@ -27,22 +27,27 @@ alter-fleet-requires c κs =
 
 entry-of-requires : tie.Need-entry-of-requires
 entry-of-requires c κs =
-    let a = c .before .before .before .before .before .before .before .before .before .before .before .args in
-    let p = c .before .before .before .before .before .before .before .before .before .before .before .pre in
+    let at-decide = c .before .before .before .before in
+    let at-start = at-decide .before .before .before .before .before .before .before in
+    let a = at-start .args in
+    let p = at-start .pre in
     let t : Table = ofSlices 0 0 (a .links) (a .needs .now) (a .lows .now) (a .highs .now) (a .costs .now) in
     let o : Outcome = befalls t (a .probe) (a .event) (own t (a .probe) (a .rec .now)) in
     let w = befalls-within t (a .probe) (a .event) (own t (a .probe) (a .rec .now)) (p .2) in
-    rw (c .before .before .before .before .decide .ensures) (within-wider (a .links) 65536 o (omega (arith, p .0 .few)) w, within-wider (a .links) (length (a .lows .now)) o (p .0 .in-lows) w, within-wider (a .links) (length (a .highs .now)) o (p .0 .in-highs) w)
+    rw (at-decide .decide .ensures) (within-wider (a .links) 65536 o (omega (arith, p .0 .few)) w, within-wider (a .links) (length (a .lows .now)) o (p .0 .in-lows) w, within-wider (a .links) (length (a .highs .now)) o (p .0 .in-highs) w)
 
 same-length : tie.Need-same-length
 same-length c = search needs
 
 returns : tie.Need-returns
 returns c =
-    let a = c .before .before .before .before .before .before .before .before .before .before .before .before .args in
+    let at-alter-fleet = c .before .before .before in
+    let at-decide = at-alter-fleet .before .before in
+    let at-start = at-decide .before .before .before .before .before .before .before in
+    let a = at-start .args in
     let t : Table = ofSlices 0 0 (a .links) (a .needs .now) (a .lows .now) (a .highs .now) (a .costs .now) in
-    let o = c .before .before .before .before .before .decide .ensures in
-    (c .entry-of .ensures ∙ entry-same 0 0 (a .links) (a .needs .now) (a .lows .now) (a .highs .now) (a .costs .now) (a .probe) (c .before .before .before .before .before .decide .result) ∙ ap (entryOf t (a .probe)) o, c .before .before .before .alter-fleet .ensures ∙ ap (λ (k : Outcome). alterFleet t (a .probe) k (a .rec .now)) o)
+    let o = at-decide .decide .ensures in
+    (c .entry-of .ensures ∙ entry-same 0 0 (a .links) (a .needs .now) (a .lows .now) (a .highs .now) (a .costs .now) (a .probe) (at-decide .decide .result) ∙ ap (entryOf t (a .probe)) o, at-alter-fleet .alter-fleet .ensures ∙ ap (λ (k : Outcome). alterFleet t (a .probe) k (a .rec .now)) o)
 
 pub apply-spec : {M : Type 1} → statement M
 apply-spec =

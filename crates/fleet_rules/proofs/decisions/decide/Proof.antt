@@ -27,15 +27,19 @@ in-byte-requires c κs =
 
 returns : tie.Need-returns
 returns c =
-    let a = c .before .before .before .before .before .before .before .before .before .before .args in
+    let at-event = c .before .before .before in
+    let at-start = at-event .before .before .before .before .before .before .before in
+    let a = at-start .args in
     let t : Table = (ofSlices 0 0 (a .links) (a .needs .now) (a .lows .now) (a .highs .now) (a .costs .now)) in
-    let w = rw (c .before .before .before .event .given .1) at (c .before .before .before .before .before .before .before .before .before .before .pre .2) in
-    rw (c .before .before .before .event .given .1, in-is t (a .probe) (a .rec .now) _ w ∙ sym (c .before .in-byte .ensures), ne-eqb _ _ (c .if1 .taken))
+    let w = rw (at-event .event .given .1) at (at-start .pre .2) in
+    rw (at-event .event .given .1, in-is t (a .probe) (a .rec .now) _ w ∙ sym (c .before .in-byte .ensures), ne-eqb _ _ (c .if1 .taken))
 
 decide-offer-requires : tie.Need-decide-offer-requires
 decide-offer-requires c κs =
-    let p = c .before .before .before .before .before .before .before .before .before .before .pre in
-    (p .0, p .1, rw (c .before .before .before .event .given .1) at (p .2))
+    let at-event = c .before .before .before in
+    let at-start = at-event .before .before .before .before .before .before .before in
+    let p = at-start .pre in
+    (p .0, p .1, rw (at-event .event .given .1) at (p .2))
 
 enum-known-event-2 : tie.Need-enum-known-event-2
 enum-known-event-2 c = search needs
@@ -50,27 +54,34 @@ out-byte-requires c κs =
 
 returns-2 : tie.Need-returns-2
 returns-2 c =
-    let a = c .before .before .before .before .before .before .before .before .before .before .args in
+    let at-event2 = c .before .before .before in
+    let at-start = at-event2 .before .before .before .before .before .before .before in
+    let a = at-start .args in
     let t : Table = (ofSlices 0 0 (a .links) (a .needs .now) (a .lows .now) (a .highs .now) (a .costs .now)) in
-    let w = rw (c .before .before .before .event2 .given .1) at (c .before .before .before .before .before .before .before .before .before .before .pre .2) in
-    rw (c .before .before .before .event2 .given .1, out-is t (a .probe) (a .rec .now) _ w ∙ sym (c .before .out-byte .ensures), eq-eqb _ _ (c .if2 .taken))
+    let w = rw (at-event2 .event2 .given .1) at (at-start .pre .2) in
+    rw (at-event2 .event2 .given .1, out-is t (a .probe) (a .rec .now) _ w ∙ sym (c .before .out-byte .ensures), eq-eqb _ _ (c .if2 .taken))
 
 returns-3 : tie.Need-returns-3
 returns-3 c = rw (c .before .enum-told .given .1) (c .decide-opening .ensures)
 
 returns-4 : tie.Need-returns-4
 returns-4 c =
-    let a = c .before .before .before .before .before .before .before .before .before .before .before .args in
+    let at-in-byte = c .before .before in
+    let at-event = at-in-byte .before .before in
+    let at-start = at-event .before .before .before .before .before .before .before in
+    let a = at-start .args in
     let t : Table = (ofSlices 0 0 (a .links) (a .needs .now) (a .lows .now) (a .highs .now) (a .costs .now)) in
-    let w = rw (c .before .before .before .before .event .given .1) at (c .before .before .before .before .before .before .before .before .before .before .before .pre .2) in
-    rw (c .before .before .before .before .event .given .1, in-is t (a .probe) (a .rec .now) _ w ∙ sym (c .before .before .in-byte .ensures), eq-eqb _ _ (c .before .if1 .left)) (c .decide-offer .ensures)
+    let w = rw (at-event .event .given .1) at (at-start .pre .2) in
+    rw (at-event .event .given .1, in-is t (a .probe) (a .rec .now) _ w ∙ sym (at-in-byte .in-byte .ensures), eq-eqb _ _ (c .before .if1 .left)) (c .decide-offer .ensures)
 
 returns-5 : tie.Need-returns-5
 returns-5 c =
-    let a = c .before .before .before .before .before .before .before .before .before .before .args in
+    let at-event2 = c .before .before .before in
+    let at-start = at-event2 .before .before .before .before .before .before .before in
+    let a = at-start .args in
     let t : Table = (ofSlices 0 0 (a .links) (a .needs .now) (a .lows .now) (a .highs .now) (a .costs .now)) in
-    let w = rw (c .before .before .before .event2 .given .1) at (c .before .before .before .before .before .before .before .before .before .before .pre .2) in
-    rw (c .before .before .before .event2 .given .1, out-is t (a .probe) (a .rec .now) _ w ∙ sym (c .before .out-byte .ensures), ne-eqb _ _ (c .if2 .left))
+    let w = rw (at-event2 .event2 .given .1) at (at-start .pre .2) in
+    rw (at-event2 .event2 .given .1, out-is t (a .probe) (a .rec .now) _ w ∙ sym (c .before .out-byte .ensures), ne-eqb _ _ (c .if2 .left))
 
 pub decide-spec : {M : Type 1} → statement M
 decide-spec =

@@ -18,36 +18,53 @@ spare-of-requires c κs = search needs
 
 returns : tie.Need-returns
 returns c =
-    let a = c .before .before .before .before .before .before .before .before .before .args in
+    let at-spare-of = c .before .before in
+    let at-survey = at-spare-of .before in
+    let at-start = at-survey .before .before .before .before .before .before in
+    let a = at-start .args in
     let t : Table = (ofSlices 0 0 (a .links) (a .needs .now) (a .lows .now) (a .highs .now) (a .costs .now)) in
-    offer-taken t (a .probe) (own t (a .probe) (a .rec .now)) (c .before .before .before .survey .result) _ (c .before .before .spare-of .ensures) (surveyed-same 1 (a .links) (a .needs .now) (a .lows .now) (a .highs .now) (a .costs .now) (a .probe) (a .rec .now) _ (c .before .before .before .survey .ensures)) (a .i) (c .if1 .taken)
+    offer-taken t (a .probe) (own t (a .probe) (a .rec .now)) (at-survey .survey .result) _ (at-spare-of .spare-of .ensures) (surveyed-same 1 (a .links) (a .needs .now) (a .lows .now) (a .highs .now) (a .costs .now) (a .probe) (a .rec .now) _ (at-survey .survey .ensures)) (a .i) (c .if1 .taken)
 
 returns-2 : tie.Need-returns-2
 returns-2 c =
-    let a = c .before .before .before .before .before .before .before .before .before .before .args in
+    let at-spare-of = c .before .before .before in
+    let at-survey = at-spare-of .before in
+    let at-start = at-survey .before .before .before .before .before .before in
+    let a = at-start .args in
     let t : Table = (ofSlices 0 0 (a .links) (a .needs .now) (a .lows .now) (a .highs .now) (a .costs .now)) in
-    offer-none t (a .probe) (own t (a .probe) (a .rec .now)) (c .before .before .before .before .survey .result) _ (c .before .before .before .spare-of .ensures) (surveyed-same 1 (a .links) (a .needs .now) (a .lows .now) (a .highs .now) (a .costs .now) (a .probe) (a .rec .now) _ (c .before .before .before .before .survey .ensures)) (a .i) (c .before .if1 .left) (c .if2 .taken)
+    offer-none t (a .probe) (own t (a .probe) (a .rec .now)) (at-survey .survey .result) _ (at-spare-of .spare-of .ensures) (surveyed-same 1 (a .links) (a .needs .now) (a .lows .now) (a .highs .now) (a .costs .now) (a .probe) (a .rec .now) _ (at-survey .survey .ensures)) (a .i) (c .before .if1 .left) (c .if2 .taken)
 
 dearer-requires : tie.Need-dearer-requires
 dearer-requires c κs =
-    let p = c .before .before .before .before .before .before .before .before .before .before .pre in
+    let at-start = c .before .before .before .before .before .before .before .before .before .before in
+    let p = at-start .pre in
     (omega (arith, p .0 .in-costs, p .2), omega (arith, p .0 .in-costs, c .if2 .left))
 
 returns-3 : tie.Need-returns-3
 returns-3 c =
-    let a = c .before .before .before .before .before .before .before .before .before .before .before .before .args in
-    let p = c .before .before .before .before .before .before .before .before .before .before .before .before .pre in
+    let at-test-2 = c .before .before in
+    let at-test = at-test-2 .before in
+    let at-spare-of = at-test .before .before in
+    let at-survey = at-spare-of .before in
+    let at-start = at-survey .before .before .before .before .before .before in
+    let a = at-start .args in
+    let p = at-start .pre in
     let t : Table = (ofSlices 0 0 (a .links) (a .needs .now) (a .lows .now) (a .highs .now) (a .costs .now)) in
-    let d = dearer-by-place t (record { rising = p .0 .order .rising }) (a .i) _ (p .2) (c .before .before .if2 .left) ∙ sym (c .before .dearer .ensures) ∙ c .if3 .taken in
-    offer-displacing t (a .probe) (own t (a .probe) (a .rec .now)) (c .before .before .before .before .before .before .survey .result) _ (c .before .before .before .before .before .spare-of .ensures) (surveyed-same 1 (a .links) (a .needs .now) (a .lows .now) (a .highs .now) (a .costs .now) (a .probe) (a .rec .now) _ (c .before .before .before .before .before .before .survey .ensures)) (a .i) (c .before .before .before .if1 .left) (c .before .before .if2 .left) d
+    let d = dearer-by-place t (record { rising = p .0 .order .rising }) (a .i) _ (p .2) (at-test-2 .if2 .left) ∙ sym (c .before .dearer .ensures) ∙ c .if3 .taken in
+    offer-displacing t (a .probe) (own t (a .probe) (a .rec .now)) (at-survey .survey .result) _ (at-spare-of .spare-of .ensures) (surveyed-same 1 (a .links) (a .needs .now) (a .lows .now) (a .highs .now) (a .costs .now) (a .probe) (a .rec .now) _ (at-survey .survey .ensures)) (a .i) (at-test .if1 .left) (at-test-2 .if2 .left) d
 
 returns-4 : tie.Need-returns-4
 returns-4 c =
-    let a = c .before .before .before .before .before .before .before .before .before .before .before .before .args in
-    let p = c .before .before .before .before .before .before .before .before .before .before .before .before .pre in
+    let at-test-2 = c .before .before in
+    let at-test = at-test-2 .before in
+    let at-spare-of = at-test .before .before in
+    let at-survey = at-spare-of .before in
+    let at-start = at-survey .before .before .before .before .before .before in
+    let a = at-start .args in
+    let p = at-start .pre in
     let t : Table = (ofSlices 0 0 (a .links) (a .needs .now) (a .lows .now) (a .highs .now) (a .costs .now)) in
-    let d = dearer-by-place t (record { rising = p .0 .order .rising }) (a .i) _ (p .2) (c .before .before .if2 .left) ∙ sym (c .before .dearer .ensures) ∙ c .if3 .left in
-    offer-refused t (a .probe) (own t (a .probe) (a .rec .now)) (c .before .before .before .before .before .before .survey .result) _ (c .before .before .before .before .before .spare-of .ensures) (surveyed-same 1 (a .links) (a .needs .now) (a .lows .now) (a .highs .now) (a .costs .now) (a .probe) (a .rec .now) _ (c .before .before .before .before .before .before .survey .ensures)) (a .i) (c .before .before .before .if1 .left) (c .before .before .if2 .left) d
+    let d = dearer-by-place t (record { rising = p .0 .order .rising }) (a .i) _ (p .2) (at-test-2 .if2 .left) ∙ sym (c .before .dearer .ensures) ∙ c .if3 .left in
+    offer-refused t (a .probe) (own t (a .probe) (a .rec .now)) (at-survey .survey .result) _ (at-spare-of .spare-of .ensures) (surveyed-same 1 (a .links) (a .needs .now) (a .lows .now) (a .highs .now) (a .costs .now) (a .probe) (a .rec .now) _ (at-survey .survey .ensures)) (a .i) (at-test .if1 .left) (at-test-2 .if2 .left) d
 
 pub decide-offer-spec : {M : Type 1} → statement M
 decide-offer-spec =

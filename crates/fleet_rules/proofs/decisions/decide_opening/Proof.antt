@@ -15,21 +15,32 @@ spare-of-requires c κs = search needs
 
 returns : tie.Need-returns
 returns c =
-    let a = c .before .before .before .before .before .before .before .before .before .args in
+    let at-spare-of = c .before .before in
+    let at-survey = at-spare-of .before in
+    let at-start = at-survey .before .before .before .before .before .before in
+    let a = at-start .args in
     let t : Table = (ofSlices 0 0 (a .links) (a .needs .now) (a .lows .now) (a .highs .now) (a .costs .now)) in
-    opening-full t (a .probe) (own t (a .probe) (a .rec .now)) (c .before .before .before .survey .result) _ (c .before .before .spare-of .ensures) (surveyed-same 0 (a .links) (a .needs .now) (a .lows .now) (a .highs .now) (a .costs .now) (a .probe) (a .rec .now) _ (c .before .before .before .survey .ensures)) (c .if1 .taken)
+    opening-full t (a .probe) (own t (a .probe) (a .rec .now)) (at-survey .survey .result) _ (at-spare-of .spare-of .ensures) (surveyed-same 0 (a .links) (a .needs .now) (a .lows .now) (a .highs .now) (a .costs .now) (a .probe) (a .rec .now) _ (at-survey .survey .ensures)) (c .if1 .taken)
 
 returns-2 : tie.Need-returns-2
 returns-2 c =
-    let a = c .before .before .before .before .before .before .before .before .before .before .before .args in
+    let at-test = c .before .before in
+    let at-spare-of = at-test .before .before in
+    let at-survey = at-spare-of .before in
+    let at-start = at-survey .before .before .before .before .before .before in
+    let a = at-start .args in
     let t : Table = (ofSlices 0 0 (a .links) (a .needs .now) (a .lows .now) (a .highs .now) (a .costs .now)) in
-    opening-none t (a .probe) (own t (a .probe) (a .rec .now)) (c .before .before .before .before .before .survey .result) _ (c .before .before .before .before .spare-of .ensures) (surveyed-same 0 (a .links) (a .needs .now) (a .lows .now) (a .highs .now) (a .costs .now) (a .probe) (a .rec .now) _ (c .before .before .before .before .before .survey .ensures)) (c .before .before .if1 .left) (c .if2 .taken)
+    opening-none t (a .probe) (own t (a .probe) (a .rec .now)) (at-survey .survey .result) _ (at-spare-of .spare-of .ensures) (surveyed-same 0 (a .links) (a .needs .now) (a .lows .now) (a .highs .now) (a .costs .now) (a .probe) (a .rec .now) _ (at-survey .survey .ensures)) (at-test .if1 .left) (c .if2 .taken)
 
 returns-3 : tie.Need-returns-3
 returns-3 c =
-    let a = c .before .before .before .before .before .before .before .before .before .before .before .args in
+    let at-test = c .before .before in
+    let at-spare-of = at-test .before .before in
+    let at-survey = at-spare-of .before in
+    let at-start = at-survey .before .before .before .before .before .before in
+    let a = at-start .args in
     let t : Table = (ofSlices 0 0 (a .links) (a .needs .now) (a .lows .now) (a .highs .now) (a .costs .now)) in
-    opening-one t (a .probe) (own t (a .probe) (a .rec .now)) (c .before .before .before .before .before .survey .result) _ (c .before .before .before .before .spare-of .ensures) (surveyed-same 0 (a .links) (a .needs .now) (a .lows .now) (a .highs .now) (a .costs .now) (a .probe) (a .rec .now) _ (c .before .before .before .before .before .survey .ensures)) (c .before .before .if1 .left) (c .if2 .left)
+    opening-one t (a .probe) (own t (a .probe) (a .rec .now)) (at-survey .survey .result) _ (at-spare-of .spare-of .ensures) (surveyed-same 0 (a .links) (a .needs .now) (a .lows .now) (a .highs .now) (a .costs .now) (a .probe) (a .rec .now) _ (at-survey .survey .ensures)) (at-test .if1 .left) (c .if2 .left)
 
 pub decide-opening-spec : {M : Type 1} → statement M
 decide-opening-spec =

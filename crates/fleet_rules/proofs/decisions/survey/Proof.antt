@@ -13,7 +13,7 @@ use borrow.Author.Tests.{not-true, not-false}
 use Rattle.table.specs.Table.{Table, item, ofSlices}
 use Rattle.fleet_theory.specs.Fleet.{own}
 use Rattle.fleet_theory.proofs.Own.{own-same}
-use Rattle.table_links.specs.Order.{dearerAt}
+use Rattle.table_links.specs.Order.{dearerByPlace}
 use Rattle.probe_record.specs.Record.{sideByte, sideBetter}
 use Rattle.probe_record.proofs.SearchLaws.{side-before, side-behind}
 use Rattle.fleet_rules.proofs.Passing.{one-most, Passing, passing-start, passing-skip, passing-own, passing-all}
@@ -59,18 +59,25 @@ side-byte-requires c κs =
 
 add-t14 : tie.Need-add-t14 Inv-loop μ-loop
 add-t14 c =
-    let g = c .before .before .before .before .before .loop .inv .1 .few-links in
-    omega (arith, c .before .before .before .before .loop-test .taken, c .before .before .before .before .before .before .before .before .before .before .fits .links)
+    let at-loop-test = c .before .before .before .before in
+    let at-loop = at-loop-test .before in
+    let at-start = at-loop .before .before .before .before .before in
+    let g = at-loop .loop .inv .1 .few-links in
+    omega (arith, at-loop-test .loop-test .taken, at-start .fits .links)
 
 one-if-requires : tie.Need-one-if-requires Inv-loop μ-loop
 one-if-requires c κs = search needs
 
 add-t16 : tie.Need-add-t16 Inv-loop μ-loop
 add-t16 c =
-    let g = c .before .before .before .before .before .before .before .loop .inv .1 .few-ones in
+    let at-side-byte = c .before .before .before in
+    let at-loop-test = at-side-byte .before .before .before in
+    let at-loop = at-loop-test .before in
+    let at-start = at-loop .before .before .before .before .before in
+    let g = at-loop .loop .inv .1 .few-ones in
     let o = c .before .one-if .ensures in
-    let m = one-most (eqb (c .before .before .before .side-byte .result) 1) in
-    omega (arith, c .before .before .before .before .before .before .loop-test .taken, c .before .before .before .before .before .before .before .before .before .before .before .before .fits .links)
+    let m = one-most (eqb (at-side-byte .side-byte .result) 1) in
+    omega (arith, at-loop-test .loop-test .taken, at-start .fits .links)
 
 best-with-requires : tie.Need-best-with-requires Inv-loop μ-loop
 best-with-requires c κs = search needs
@@ -80,16 +87,23 @@ loop-less-2 c = search needs
 
 loop-again-2 : tie.Need-loop-again-2 Inv-loop μ-loop
 loop-again-2 c =
-    let a = c .before .before .before .before .before .before .before .before .before .before .before .before .before .args in
+    let at-one-if = c .before .before in
+    let at-side-byte = at-one-if .before .before in
+    let at-test = at-side-byte .before in
+    let at-touches = at-test .before in
+    let at-loop-test = at-touches .before in
+    let at-loop = at-loop-test .before in
+    let at-start = at-loop .before .before .before .before .before in
+    let a = at-start .args in
     let t : Table = ofSlices 0 0 (a .links) [] (a .lows .now) (a .highs .now) (a .costs .now) in
-    let l = c .before .before .before .before .before .before .before .before .loop in
-    let w = c .before .before .before .before .before .before .before .loop-test .taken in
-    let p = c .before .before .before .before .before .before .before .before .before .before .before .before .before .pre in
+    let l = at-loop .loop in
+    let w = at-loop-test .loop-test .taken in
+    let p = at-start .pre in
     let k = l .i in
     let b = l .s .best in
-    let test : Bool = (leb (a .links) b || cond (eqb (a .value) 1) (dearerAt (item (a .costs .now)) b k) (dearerAt (item (a .costs .now)) k b)) in
+    let test : Bool = (leb (a .links) b || cond (eqb (a .value) 1) (dearerByPlace (item (a .costs .now)) b k) (dearerByPlace (item (a .costs .now)) k b)) in
     let same = own-same 0 0 (a .links) [] (a .lows .now) (a .highs .now) (a .costs .now) (a .probe) (a .rec .now) in
-    (omega arith, passing-own t (a .probe) (sideByte (a .value) (own t (a .probe) (a .rec .now))) (sideBetter (a .value) t) (a .value) k (l .s) w (sym (c .before .before .before .before .before .before .touches .ensures) ∙ not-false _ (c .before .before .before .before .before .if1 .left)) (c .before .before .before .before .side-byte .result) (ap (λ (e : List ℕ). sideByte (a .value) e k) (sym same) ∙ sym (c .before .before .before .before .side-byte .ensures (a .links) w)) test (side-before t (p .0 .order) (a .value) k b w) (side-behind t (p .0 .order) (a .value) k b w) (l .inv .1) _ _ _ refl (ap (λ (z : ℕ). l .s .count + z) (c .before .before .one-if .ensures)) (c .best-with .ensures))
+    (omega arith, passing-own t (a .probe) (sideByte (a .value) (own t (a .probe) (a .rec .now))) (sideBetter (a .value) t) (a .value) k (l .s) w (sym (at-touches .touches .ensures) ∙ not-false _ (at-test .if1 .left)) (at-side-byte .side-byte .result) (ap (λ (e : List ℕ). sideByte (a .value) e k) (sym same) ∙ sym (at-side-byte .side-byte .ensures (a .links) w)) test (side-before t (p .0 .order) (a .value) k b w) (side-behind t (p .0 .order) (a .value) k b w) (l .inv .1) _ _ _ refl (ap (λ (z : ℕ). l .s .count + z) (at-one-if .one-if .ensures)) (c .best-with .ensures))
 
 returns : tie.Need-returns Inv-loop μ-loop
 returns c =

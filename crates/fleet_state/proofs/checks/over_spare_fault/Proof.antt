@@ -40,11 +40,15 @@ cast-if1 c = omega (arith, c .shared-slice-known5 .given (c .before .before .bef
 
 returns : tie.Need-returns Inv-loop μ-loop
 returns c =
-    let l = c .before .before .before .before .loop in
-    let a = c .before .before .before .before .before .before .before .before .before .args in
+    let at-spare-at = c .before .before in
+    let at-loop-test = at-spare-at .before in
+    let at-loop = at-loop-test .before in
+    let at-start = at-loop .before .before .before .before .before in
+    let l = at-loop .loop in
+    let a = at-start .args in
     let f : ℕ → ℕ = fault (a .needs .now) (a .degrees .now) (a .standing .now) (a .held .now) in
-    let e : f (l .v) ≡ 22 = rw (← c .before .before .spare-at .ensures, lt-ltb _ _ (c .if1 .taken)) in
-    sym (first-some f (a .probes) (l .v) (l .inv .1) (c .before .before .before .loop-test .taken) (λ z. omega arith) ∙ e)
+    let e : f (l .v) ≡ 22 = rw (← at-spare-at .spare-at .ensures, lt-ltb _ _ (c .if1 .taken)) in
+    sym (first-some f (a .probes) (l .v) (l .inv .1) (at-loop-test .loop-test .taken) (λ z. omega arith) ∙ e)
 
 mul-if2 : tie.Need-mul-if2 Inv-loop μ-loop
 mul-if2 c = search needs
@@ -57,11 +61,16 @@ cast-if2 c = omega (arith, c .shared-slice-known6 .given (c .before .before .bef
 
 returns-2 : tie.Need-returns-2 Inv-loop μ-loop
 returns-2 c =
-    let l = c .before .before .before .before .before .before .loop in
-    let a = c .before .before .before .before .before .before .before .before .before .before .before .args in
+    let at-test = c .before .before in
+    let at-spare-at = at-test .before .before in
+    let at-loop-test = at-spare-at .before in
+    let at-loop = at-loop-test .before in
+    let at-start = at-loop .before .before .before .before .before in
+    let l = at-loop .loop in
+    let a = at-start .args in
     let f : ℕ → ℕ = fault (a .needs .now) (a .degrees .now) (a .standing .now) (a .held .now) in
-    let e : f (l .v) ≡ 22 = rw (← c .before .before .before .before .spare-at .ensures, le-ltb _ _ (c .before .before .if1 .left), lt-ltb _ _ (c .if2 .taken)) in
-    sym (first-some f (a .probes) (l .v) (l .inv .1) (c .before .before .before .before .before .loop-test .taken) (λ z. omega arith) ∙ e)
+    let e : f (l .v) ≡ 22 = rw (← at-spare-at .spare-at .ensures, le-ltb _ _ (at-test .if1 .left), lt-ltb _ _ (c .if2 .taken)) in
+    sym (first-some f (a .probes) (l .v) (l .inv .1) (at-loop-test .loop-test .taken) (λ z. omega arith) ∙ e)
 
 add-v : tie.Need-add-v Inv-loop μ-loop
 add-v c = search needs
@@ -71,9 +80,13 @@ loop-less c = search needs
 
 loop-again : tie.Need-loop-again Inv-loop μ-loop
 loop-again c =
-    let l = c .before .before .before .before .before .before .loop in
-    let a = c .before .before .before .before .before .before .before .before .before .before .before .args in
-    (search needs, first-none (fault (a .needs .now) (a .degrees .now) (a .standing .now) (a .held .now)) (l .v) (l .inv .1) (rw (← c .before .before .before .before .spare-at .ensures, le-ltb _ _ (c .before .before .if1 .left), le-ltb _ _ (c .if2 .left))))
+    let at-test = c .before .before in
+    let at-spare-at = at-test .before .before in
+    let at-loop = at-spare-at .before .before in
+    let at-start = at-loop .before .before .before .before .before in
+    let l = at-loop .loop in
+    let a = at-start .args in
+    (search needs, first-none (fault (a .needs .now) (a .degrees .now) (a .standing .now) (a .held .now)) (l .v) (l .inv .1) (rw (← at-spare-at .spare-at .ensures, le-ltb _ _ (at-test .if1 .left), le-ltb _ _ (c .if2 .left))))
 
 returns-3 : tie.Need-returns-3 Inv-loop μ-loop
 returns-3 c =

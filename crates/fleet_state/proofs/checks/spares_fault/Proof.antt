@@ -40,11 +40,12 @@ slice-aggregate-count-bytes-2 c = search needs
 
 count-bytes-requires-2 : tie.Need-count-bytes-requires-2
 count-bytes-requires-2 c κs =
-    let a = c .before .before .before .before .before .before .before .before .before .before .before .args in
-    let p = c .before .before .before .before .before .before .before .before .before .before .before .pre .0 in
+    let at-start = c .before .before .before .before .before .before .before .before .before .before .before in
+    let a = at-start .args in
+    let p = at-start .pre .0 in
     let s = legal-table 256 2048 (ofSlices 0 (a .probes) (a .links) (a .needs .now) (a .lows .now) (a .highs .now) []) (p .legal) .size in
     let ends = fits-ends (a .probes) (a .links) (a .needs .now) (a .lows .now) (a .highs .now) p in
-    (p .in-lows, p .in-highs, omega (arith, s .within), c .before .before .before .before .before .before .before .before .before .before .before .pre .1, search needs, search needs, ends, zeros-at 256)
+    (p .in-lows, p .in-highs, omega (arith, s .within), at-start .pre .1, search needs, search needs, ends, zeros-at 256)
 
 slice-aggregate-over-spare-fault : tie.Need-slice-aggregate-over-spare-fault
 slice-aggregate-over-spare-fault c = search needs
@@ -57,19 +58,27 @@ slice-aggregate-over-spare-fault-3 c = search needs
 
 over-spare-fault-requires : tie.Need-over-spare-fault-requires
 over-spare-fault-requires c κs =
-    let a = c .before .before .before .before .before .before .before .before .before .before .before .before .before .before .before .before .args in
-    let p = c .before .before .before .before .before .before .before .before .before .before .before .before .before .before .before .before .pre .0 in
+    let at-count-bytes2 = c .before .before .before .before in
+    let at-count-bytes = at-count-bytes2 .before .before .before in
+    let at-count-degrees = at-count-bytes .before .before .before in
+    let at-start = at-count-degrees .before .before .before .before .before .before in
+    let a = at-start .args in
+    let p = at-start .pre .0 in
     let s = legal-table 256 2048 (ofSlices 0 (a .probes) (a .links) (a .needs .now) (a .lows .now) (a .highs .now) []) (p .legal) .size in
-    let d : length (c .before .before .before .before .before .before .before .before .before .before .count-degrees .last .0) ≡ 256 = c .before .before .before .before .before .before .before .before .before .before .count-degrees .kept .0 in
-    let e : length (c .before .before .before .before .before .before .before .count-bytes .last .0) ≡ 256 = c .before .before .before .before .before .before .before .count-bytes .kept .0 in
-    let f : length (c .before .before .before .before .count-bytes2 .last .0) ≡ 256 = c .before .before .before .before .count-bytes2 .kept .0 in
+    let d : length (at-count-degrees .count-degrees .last .0) ≡ 256 = at-count-degrees .count-degrees .kept .0 in
+    let e : length (at-count-bytes .count-bytes .last .0) ≡ 256 = at-count-bytes .count-bytes .kept .0 in
+    let f : length (at-count-bytes2 .count-bytes2 .last .0) ≡ 256 = at-count-bytes2 .count-bytes2 .kept .0 in
     (omega (arith, s .few), omega (arith, s .few), omega (arith, s .few))
 
 returns : tie.Need-returns
 returns c =
-    let a = c .before .before .before .before .before .before .before .before .before .before .before .before .before .before .before .before .before .args in
+    let at-count-bytes2 = c .before .before .before .before .before in
+    let at-count-bytes = at-count-bytes2 .before .before .before in
+    let at-count-degrees = at-count-bytes .before .before .before in
+    let at-start = at-count-degrees .before .before .before .before .before .before in
+    let a = at-start .args in
     let t : Table = ofSlices 0 (a .probes) (a .links) (a .needs .now) (a .lows .now) (a .highs .now) [] in
-    c .over-spare-fault .ensures ∙ first-same _ _ (a .probes) (λ v l. over-counted t (a .rec .now) v _ _ _ (c .before .before .before .before .before .before .before .before .before .before .before .count-degrees .ensures v) (c .before .before .before .before .before .before .before .before .count-bytes .ensures v) (c .before .before .before .before .before .count-bytes2 .ensures v))
+    c .over-spare-fault .ensures ∙ first-same _ _ (a .probes) (λ v l. over-counted t (a .rec .now) v _ _ _ (at-count-degrees .count-degrees .ensures v) (at-count-bytes .count-bytes .ensures v) (at-count-bytes2 .count-bytes2 .ensures v))
 
 pub spares-fault-spec : {M : Type 1} → statement M
 spares-fault-spec =

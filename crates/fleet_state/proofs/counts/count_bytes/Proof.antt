@@ -53,12 +53,16 @@ shared-slice-read-add-if c = search needs
 
 add-if-requires : tie.Need-add-if-requires Inv-loop μ-loop
 add-if-requires c κs =
-    let l = c .before .before .before .before .before .before .before .loop in
-    let a = c .before .before .before .before .before .before .before .before .before .before .before .before .args in
-    let g = c .before .before .before .before .before .before .before .before .before .before .before .before .pre .6 (l .i) (c .before .before .before .before .before .before .loop-test .taken) in
-    let e = c .before .before .before .before .wide .ensures in
-    let n = count-le (l .i) (endWith (item (a .lows .now)) (item (a .highs .now)) (a .rec .now) (a .k) (a .m) (a .value) (c .before .before .before .before .wide .result)) in
-    let q = l .inv .1 (c .before .before .before .before .wide .result) in
+    let at-wide = c .before .before .before .before in
+    let at-loop-test = at-wide .before .before in
+    let at-loop = at-loop-test .before in
+    let at-start = at-loop .before .before .before .before .before in
+    let l = at-loop .loop in
+    let a = at-start .args in
+    let g = at-start .pre .6 (l .i) (at-loop-test .loop-test .taken) in
+    let e = at-wide .wide .ensures in
+    let n = count-le (l .i) (endWith (item (a .lows .now)) (item (a .highs .now)) (a .rec .now) (a .k) (a .m) (a .value) (at-wide .wide .result)) in
+    let q = l .inv .1 (at-wide .wide .result) in
     let s = l .inv .2 in
     (omega arith, omega arith)
 
@@ -73,15 +77,21 @@ shared-slice-read-add-if-2 c = search needs
 
 add-if-requires-2 : tie.Need-add-if-requires-2 Inv-loop μ-loop
 add-if-requires-2 c κs =
-    let l = c .before .before .before .before .before .before .before .before .before .before .before .before .loop in
-    let a = c .before .before .before .before .before .before .before .before .before .before .before .before .before .before .before .before .before .args in
-    let g = c .before .before .before .before .before .before .before .before .before .before .before .before .before .before .before .before .before .pre .6 (l .i) (c .before .before .before .before .before .before .before .before .before .before .before .loop-test .taken) in
-    let e = c .before .before .before .before .before .before .before .before .before .wide .ensures in
-    let f = c .before .before .before .before .before .before .before .wide2 .ensures in
-    let n = count-le (l .i) (endWith (item (a .lows .now)) (item (a .highs .now)) (a .rec .now) (a .k) (a .m) (a .value) (c .before .before .before .before .before .before .before .wide2 .result)) in
-    let q = l .inv .1 (c .before .before .before .before .before .before .before .wide2 .result) in
-    let o = ap (λ x. getD x (c .before .before .before .before .before .before .before .wide2 .result) 0) (c .before .before .before .before .add-if .ensures) ∙ getD-set-other (l .counts) (c .before .before .before .before .before .before .before .before .before .wide .result) (c .before .before .before .before .before .before .before .wide2 .result) _ 0 (λ z. omega arith) in
-    let s = simp length-set at (ap length (c .before .before .before .before .add-if .ensures)) in
+    let at-add-if = c .before .before .before .before in
+    let at-wide2 = at-add-if .before .before .before in
+    let at-wide = at-wide2 .before .before in
+    let at-loop-test = at-wide .before .before in
+    let at-loop = at-loop-test .before in
+    let at-start = at-loop .before .before .before .before .before in
+    let l = at-loop .loop in
+    let a = at-start .args in
+    let g = at-start .pre .6 (l .i) (at-loop-test .loop-test .taken) in
+    let e = at-wide .wide .ensures in
+    let f = at-wide2 .wide2 .ensures in
+    let n = count-le (l .i) (endWith (item (a .lows .now)) (item (a .highs .now)) (a .rec .now) (a .k) (a .m) (a .value) (at-wide2 .wide2 .result)) in
+    let q = l .inv .1 (at-wide2 .wide2 .result) in
+    let o = ap (λ x. getD x (at-wide2 .wide2 .result) 0) (at-add-if .add-if .ensures) ∙ getD-set-other (l .counts) (at-wide .wide .result) (at-wide2 .wide2 .result) _ 0 (λ z. omega arith) in
+    let s = simp length-set at (ap length (at-add-if .add-if .ensures)) in
     let w = l .inv .2 in
     (omega arith, omega arith)
 
@@ -93,15 +103,22 @@ loop-less c = search needs
 
 loop-again : tie.Need-loop-again Inv-loop μ-loop
 loop-again c =
-    let l = c .before .before .before .before .before .before .before .before .before .before .before .before .before .before .before .loop in
-    let a = c .before .before .before .before .before .before .before .before .before .before .before .before .before .before .before .before .before .before .before .before .args in
-    let g = c .before .before .before .before .before .before .before .before .before .before .before .before .before .before .before .before .before .before .before .before .pre .6 (l .i) (c .before .before .before .before .before .before .before .before .before .before .before .before .before .before .loop-test .taken) in
-    let one = c .before .before .before .before .before .before .before .add-if .ensures in
-    let two = c .before .before .add-if2 .ensures in
+    let at-add-if2 = c .before .before in
+    let at-add-if = at-add-if2 .before .before .before .before .before in
+    let at-wide2 = at-add-if .before .before .before in
+    let at-wide = at-wide2 .before .before in
+    let at-loop-test = at-wide .before .before in
+    let at-loop = at-loop-test .before in
+    let at-start = at-loop .before .before .before .before .before in
+    let l = at-loop .loop in
+    let a = at-start .args in
+    let g = at-start .pre .6 (l .i) (at-loop-test .loop-test .taken) in
+    let one = at-add-if .add-if .ensures in
+    let two = at-add-if2 .add-if2 .ensures in
     let s = simp length-set at (ap length one) in
     let t = simp length-set at (ap length two) in
     let w = l .inv .2 in
-    (search needs, λ v. counted-next (item (a .lows .now)) (item (a .highs .now)) (a .rec .now) (a .k) (a .m) (a .value) (l .i) _ _ (l .counts) _ _ (c .before .before .before .before .before .before .before .before .before .before .before .before .wide .ensures) (c .before .before .before .before .before .before .before .before .before .before .wide2 .ensures) (omega arith) (omega arith) (g .rises) one two v (l .inv .1 v), omega arith)
+    (search needs, λ v. counted-next (item (a .lows .now)) (item (a .highs .now)) (a .rec .now) (a .k) (a .m) (a .value) (l .i) _ _ (l .counts) _ _ (at-wide .wide .ensures) (at-wide2 .wide2 .ensures) (omega arith) (omega arith) (g .rises) one two v (l .inv .1 v), omega arith)
 
 same-length : tie.Need-same-length Inv-loop μ-loop
 same-length c = c .before .loop .inv .2

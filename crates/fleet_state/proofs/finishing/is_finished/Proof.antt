@@ -41,22 +41,24 @@ slice-aggregate-count-bytes c = search needs
 
 count-bytes-requires : tie.Need-count-bytes-requires
 count-bytes-requires c κs =
-    let a = c .before .before .before .before .before .before .before .before .before .before .args in
-    let p = c .before .before .before .before .before .before .before .before .before .before .pre .0 in
+    let at-start = c .before .before .before .before .before .before .before .before .before .before in
+    let a = at-start .args in
+    let p = at-start .pre .0 in
     let s = legal-table 256 2048 (ofSlices 0 (a .probes) (a .links) (a .needs .now) (a .lows .now) (a .highs .now) []) (p .legal) .size in
     let ends = fits-ends (a .probes) (a .links) (a .needs .now) (a .lows .now) (a .highs .now) p in
-    (p .in-lows, p .in-highs, omega (arith, s .within), c .before .before .before .before .before .before .before .before .before .before .pre .1, search needs, search needs, ends, zeros-at 256)
+    (p .in-lows, p .in-highs, omega (arith, s .within), at-start .pre .1, search needs, search needs, ends, zeros-at 256)
 
 slice-aggregate-count-bytes-2 : tie.Need-slice-aggregate-count-bytes-2
 slice-aggregate-count-bytes-2 c = search needs
 
 count-bytes-requires-2 : tie.Need-count-bytes-requires-2
 count-bytes-requires-2 c κs =
-    let a = c .before .before .before .before .before .before .before .before .before .before .before .before .before .args in
-    let p = c .before .before .before .before .before .before .before .before .before .before .before .before .before .pre .0 in
+    let at-start = c .before .before .before .before .before .before .before .before .before .before .before .before .before in
+    let a = at-start .args in
+    let p = at-start .pre .0 in
     let s = legal-table 256 2048 (ofSlices 0 (a .probes) (a .links) (a .needs .now) (a .lows .now) (a .highs .now) []) (p .legal) .size in
     let ends = fits-ends (a .probes) (a .links) (a .needs .now) (a .lows .now) (a .highs .now) p in
-    (p .in-lows, p .in-highs, omega (arith, s .within), c .before .before .before .before .before .before .before .before .before .before .before .before .before .pre .1, search needs, search needs, ends, zeros-at 256)
+    (p .in-lows, p .in-highs, omega (arith, s .within), at-start .pre .1, search needs, search needs, ends, zeros-at 256)
 
 slice-aggregate-none-opens : tie.Need-slice-aggregate-none-opens
 slice-aggregate-none-opens c = search needs
@@ -69,20 +71,30 @@ slice-aggregate-none-opens-3 c = search needs
 
 none-opens-requires : tie.Need-none-opens-requires
 none-opens-requires c κs =
-    let a = c .before .before .before .before .before .before .before .before .before .before .before .before .before .before .before .before .before .before .args in
-    let p = c .before .before .before .before .before .before .before .before .before .before .before .before .before .before .before .before .before .before .pre .0 in
+    let at-count-bytes2 = c .before .before .before .before in
+    let at-count-bytes = at-count-bytes2 .before .before .before in
+    let at-count-degrees = at-count-bytes .before .before .before in
+    let at-start = at-count-degrees .before .before .before .before .before .before .before .before in
+    let a = at-start .args in
+    let p = at-start .pre .0 in
     let s = legal-table 256 2048 (ofSlices 0 (a .probes) (a .links) (a .needs .now) (a .lows .now) (a .highs .now) []) (p .legal) .size in
-    let d : length (c .before .before .before .before .before .before .before .before .before .before .count-degrees .last .0) ≡ 256 = c .before .before .before .before .before .before .before .before .before .before .count-degrees .kept .0 in
-    let e : length (c .before .before .before .before .before .before .before .count-bytes .last .0) ≡ 256 = c .before .before .before .before .before .before .before .count-bytes .kept .0 in
-    let f : length (c .before .before .before .before .count-bytes2 .last .0) ≡ 256 = c .before .before .before .before .count-bytes2 .kept .0 in
+    let d : length (at-count-degrees .count-degrees .last .0) ≡ 256 = at-count-degrees .count-degrees .kept .0 in
+    let e : length (at-count-bytes .count-bytes .last .0) ≡ 256 = at-count-bytes .count-bytes .kept .0 in
+    let f : length (at-count-bytes2 .count-bytes2 .last .0) ≡ 256 = at-count-bytes2 .count-bytes2 .kept .0 in
     (omega (arith, s .few), omega (arith, s .few), omega (arith, s .few))
 
 returns-2 : tie.Need-returns-2
 returns-2 c =
-    let a = c .before .before .before .before .before .before .before .before .before .before .before .before .before .before .before .before .before .before .before .args in
+    let at-count-bytes2 = c .before .before .before .before .before in
+    let at-count-bytes = at-count-bytes2 .before .before .before in
+    let at-count-degrees = at-count-bytes .before .before .before in
+    let at-test = at-count-degrees .before .before in
+    let at-none-alters = at-test .before in
+    let at-start = at-none-alters .before .before .before .before .before in
+    let a = at-start .args in
     λ number costs.
     let t : Table = ofSlices number (a .probes) (a .links) (a .needs .now) (a .lows .now) (a .highs .now) costs in
-    finished-counted t (a .rec .now) (c .before .before .before .before .before .before .before .before .before .before .before .before .before .before .before .before .before .before .before .pre .0 .legal) _ _ (c .before .before .before .before .before .before .before .before .before .before .before .before .before .before .none-alters .ensures) (not-false _ (c .before .before .before .before .before .before .before .before .before .before .before .before .before .if1 .left)) (c .none-opens .ensures ∙ ap (λ (k : ℕ). eqb k 0) (weigh-same (a .probes) _ (opens t (a .rec .now)) (λ i. 1) (λ v l. open-counted t (a .rec .now) v _ _ _ (c .before .before .before .before .before .before .before .before .before .before .before .count-degrees .ensures v) (c .before .before .before .before .before .before .before .before .count-bytes .ensures v) (c .before .before .before .before .before .count-bytes2 .ensures v))))
+    finished-counted t (a .rec .now) (at-start .pre .0 .legal) _ _ (at-none-alters .none-alters .ensures) (not-false _ (at-test .if1 .left)) (c .none-opens .ensures ∙ ap (λ (k : ℕ). eqb k 0) (weigh-same (a .probes) _ (opens t (a .rec .now)) (λ i. 1) (λ v l. open-counted t (a .rec .now) v _ _ _ (at-count-degrees .count-degrees .ensures v) (at-count-bytes .count-bytes .ensures v) (at-count-bytes2 .count-bytes2 .ensures v))))
 
 pub is-finished-spec : {M : Type 1} → statement M
 is-finished-spec =

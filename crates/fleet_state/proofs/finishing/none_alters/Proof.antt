@@ -71,11 +71,14 @@ may-alter-requires-2 c κs = search needs
 
 returns-2 : tie.Need-returns-2 Inv-loop μ-loop
 returns-2 c =
-    let l = c .before .before .before .before .before .before .before .before .before .loop in
-    let a = c .before .before .before .before .before .before .before .before .before .before .before .args in
+    let at-loop-test = c .before .before .before .before .before .before .before .before in
+    let at-loop = at-loop-test .before in
+    let at-start = at-loop .before .before in
+    let l = at-loop .loop in
+    let a = at-start .args in
     let r = a .rec .now in
     let i = l .i in
-    some-counted (a .links) (altersOf r) i (c .before .before .before .before .before .before .before .before .loop-test .taken) (or-intro-right (mayAlter (item r (4 * i)) (item r (4 * i + 1))) (mayAlter (item r (4 * i + 2)) (item r (4 * i + 3))) (sym (c .before .may-alter2 .ensures) ∙ c .if2 .taken))
+    some-counted (a .links) (altersOf r) i (at-loop-test .loop-test .taken) (or-intro-right (mayAlter (item r (4 * i)) (item r (4 * i + 1))) (mayAlter (item r (4 * i + 2)) (item r (4 * i + 3))) (sym (c .before .may-alter2 .ensures) ∙ c .if2 .taken))
 
 add-i : tie.Need-add-i Inv-loop μ-loop
 add-i c = search needs
@@ -85,9 +88,13 @@ loop-less c = search needs
 
 loop-again : tie.Need-loop-again Inv-loop μ-loop
 loop-again c =
-    let l = c .before .before .before .before .before .before .before .before .before .loop in
-    let a = c .before .before .before .before .before .before .before .before .before .before .before .args in
-    (search needs, count-miss (altersOf (a .rec .now)) (l .i) (rw (sym (c .before .before .before .before .before .may-alter .ensures) ∙ c .before .before .before .before .if1 .left, sym (c .before .may-alter2 .ensures) ∙ c .if2 .left)) ∙ l .inv .1)
+    let at-test = c .before .before .before .before in
+    let at-may-alter = at-test .before in
+    let at-loop = at-may-alter .before .before .before .before in
+    let at-start = at-loop .before .before in
+    let l = at-loop .loop in
+    let a = at-start .args in
+    (search needs, count-miss (altersOf (a .rec .now)) (l .i) (rw (sym (at-may-alter .may-alter .ensures) ∙ at-test .if1 .left, sym (c .before .may-alter2 .ensures) ∙ c .if2 .left)) ∙ l .inv .1)
 
 returns-3 : tie.Need-returns-3 Inv-loop μ-loop
 returns-3 c =

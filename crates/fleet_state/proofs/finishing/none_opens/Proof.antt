@@ -49,9 +49,12 @@ loop-less c = search needs
 
 loop-again : tie.Need-loop-again Inv-loop μ-loop
 loop-again c =
-    let l = c .before .before .before .before .loop in
-    let a = c .before .before .before .before .before .before .before .before .before .args in
-    (search needs, count-miss (may (a .needs .now) (a .degrees .now) (a .standing .now) (a .untried .now)) (l .v) (rw (← c .before .before .spare-at .ensures, le-ltb _ _ (c .if1 .taken))) ∙ l .inv .1)
+    let at-spare-at = c .before .before in
+    let at-loop = at-spare-at .before .before in
+    let at-start = at-loop .before .before .before .before .before in
+    let l = at-loop .loop in
+    let a = at-start .args in
+    (search needs, count-miss (may (a .needs .now) (a .degrees .now) (a .standing .now) (a .untried .now)) (l .v) (rw (← at-spare-at .spare-at .ensures, le-ltb _ _ (c .if1 .taken))) ∙ l .inv .1)
 
 mul-if2 : tie.Need-mul-if2 Inv-loop μ-loop
 mul-if2 c = search needs
@@ -64,16 +67,23 @@ loop-less-2 c = search needs
 
 loop-again-2 : tie.Need-loop-again-2 Inv-loop μ-loop
 loop-again-2 c =
-    let l = c .before .before .before .before .before .before .loop in
-    let a = c .before .before .before .before .before .before .before .before .before .before .before .args in
+    let at-loop = c .before .before .before .before .before .before in
+    let at-start = at-loop .before .before .before .before .before in
+    let l = at-loop .loop in
+    let a = at-start .args in
     (search needs, count-miss (may (a .needs .now) (a .degrees .now) (a .standing .now) (a .untried .now)) (l .v) (rw (c .if2 .taken) (and-false (ltb (item (a .standing .now) (l .v)) (item (a .degrees .now) (l .v) - item (a .needs .now) (l .v))))) ∙ l .inv .1)
 
 returns : tie.Need-returns Inv-loop μ-loop
 returns c =
-    let l = c .before .before .before .before .before .before .loop in
-    let a = c .before .before .before .before .before .before .before .before .before .before .before .args in
+    let at-test = c .before .before in
+    let at-spare-at = at-test .before .before in
+    let at-loop-test = at-spare-at .before in
+    let at-loop = at-loop-test .before in
+    let at-start = at-loop .before .before .before .before .before in
+    let l = at-loop .loop in
+    let a = at-start .args in
     let n = c .if2 .left in
-    some-counted (a .probes) (may (a .needs .now) (a .degrees .now) (a .standing .now) (a .untried .now)) (l .v) (c .before .before .before .before .before .loop-test .taken) (rw (← c .before .before .before .before .spare-at .ensures, lt-ltb _ _ (c .before .before .if1 .left), lt-ltb 0 (item (a .untried .now) (l .v)) (omega arith)))
+    some-counted (a .probes) (may (a .needs .now) (a .degrees .now) (a .standing .now) (a .untried .now)) (l .v) (at-loop-test .loop-test .taken) (rw (← at-spare-at .spare-at .ensures, lt-ltb _ _ (at-test .if1 .left), lt-ltb 0 (item (a .untried .now) (l .v)) (omega arith)))
 
 returns-2 : tie.Need-returns-2 Inv-loop μ-loop
 returns-2 c =

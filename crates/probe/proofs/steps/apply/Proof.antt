@@ -26,22 +26,27 @@ alter-requires c κs =
 
 entry-of-requires : tie.Need-entry-of-requires
 entry-of-requires c κs =
-    let a = c .before .before .before .before .before .before .before .before .before .before .before .args in
-    let p = c .before .before .before .before .before .before .before .before .before .before .before .pre in
+    let at-decide = c .before .before .before .before in
+    let at-start = at-decide .before .before .before .before .before .before .before in
+    let a = at-start .args in
+    let p = at-start .pre in
     let t : Table = ofSlices 0 0 (a .links) (a .needs .now) (a .lows .now) (a .highs .now) (a .costs .now) in
     let w = befalls-within t (a .probe) (a .event) (a .rec .now) (p .2) in
     let few : a .links ≤ 65536 = omega (arith, p .0 .few) in
-    rw (c .before .before .before .before .decide .ensures) (within-wider (a .links) 65536 (befalls t (a .probe) (a .event) (a .rec .now)) few w, within-wider (a .links) (length (a .lows .now)) (befalls t (a .probe) (a .event) (a .rec .now)) (p .0 .in-lows) w, within-wider (a .links) (length (a .highs .now)) (befalls t (a .probe) (a .event) (a .rec .now)) (p .0 .in-highs) w)
+    rw (at-decide .decide .ensures) (within-wider (a .links) 65536 (befalls t (a .probe) (a .event) (a .rec .now)) few w, within-wider (a .links) (length (a .lows .now)) (befalls t (a .probe) (a .event) (a .rec .now)) (p .0 .in-lows) w, within-wider (a .links) (length (a .highs .now)) (befalls t (a .probe) (a .event) (a .rec .now)) (p .0 .in-highs) w)
 
 same-length : tie.Need-same-length
 same-length c = search needs
 
 returns : tie.Need-returns
 returns c =
-    let a = c .before .before .before .before .before .before .before .before .before .before .before .before .args in
+    let at-alter = c .before .before .before in
+    let at-decide = at-alter .before .before in
+    let at-start = at-decide .before .before .before .before .before .before .before in
+    let a = at-start .args in
     let t : Table = ofSlices 0 0 (a .links) (a .needs .now) (a .lows .now) (a .highs .now) (a .costs .now) in
-    let e = rw (c .before .before .before .before .before .decide .ensures) at (c .entry-of .ensures) in
-    (e ∙ entry-same 0 0 (a .links) (a .needs .now) (a .lows .now) (a .highs .now) (a .costs .now) (a .probe) (befalls t (a .probe) (a .event) (a .rec .now)), c .before .before .before .alter .ensures ∙ ap (λ (o : Outcome). alter o (a .rec .now)) (c .before .before .before .before .before .decide .ensures))
+    let e = rw (at-decide .decide .ensures) at (c .entry-of .ensures) in
+    (e ∙ entry-same 0 0 (a .links) (a .needs .now) (a .lows .now) (a .highs .now) (a .costs .now) (a .probe) (befalls t (a .probe) (a .event) (a .rec .now)), at-alter .alter .ensures ∙ ap (λ (o : Outcome). alter o (a .rec .now)) (at-decide .decide .ensures))
 
 pub apply-spec : {M : Type 1} → statement M
 apply-spec =

@@ -48,11 +48,22 @@ field-requires-3 c κs = (sym (c .before .before .before .before .before .before
 returns-5 : tie.Need-returns-5
 unfolding heardFault
 returns-5 c =
-    let z = sym (c .before .before .before .before .before .before .before .before .before .frame-fault .ensures) ∙ c .before .before .before .before .before .before .before .before .if1 .left in
-    rw (z, ← c .before .before .before .before .before .before .before .field .ensures, known-kind _ (c .before .before .before .before .before .before .if2 .left) (c .before .before .before .before .before .if3 .left), ← c .before .before .before .before .field2 .ensures, eq-eqb _ _ (c .before .before .if4 .left ∙ c .before .before .before .wide .ensures), ← c .before .field3 .ensures, ne-eqb _ _ (c .if5 .taken))
+    let at-test-4 = c .before .before in
+    let at-wide = at-test-4 .before in
+    let at-field2 = at-wide .before in
+    let at-test-3 = at-field2 .before in
+    let at-test-2 = at-test-3 .before in
+    let at-field = at-test-2 .before in
+    let at-test = at-field .before in
+    let at-frame-fault = at-test .before in
+    let z = sym (at-frame-fault .frame-fault .ensures) ∙ at-test .if1 .left in
+    rw (z, ← at-field .field .ensures, known-kind _ (at-test-2 .if2 .left) (at-test-3 .if3 .left), ← at-field2 .field2 .ensures, eq-eqb _ _ (at-test-4 .if4 .left ∙ at-wide .wide .ensures), ← c .before .field3 .ensures, ne-eqb _ _ (c .if5 .taken))
 
 field-requires-4 : tie.Need-field-requires-4
-field-requires-4 c κs = (sym (c .before .before .before .before .before .before .before .before .before .frame-fault .ensures) ∙ c .before .before .before .before .before .before .before .before .if1 .left, search needs, search needs)
+field-requires-4 c κs =
+    let at-test = c .before .before .before .before .before .before .before .before in
+    let at-frame-fault = at-test .before in
+    (sym (at-frame-fault .frame-fault .ensures) ∙ at-test .if1 .left, search needs, search needs)
 
 between-requires : tie.Need-between-requires
 between-requires c κs = search needs
@@ -60,14 +71,36 @@ between-requires c κs = search needs
 returns-6 : tie.Need-returns-6
 unfolding heardFault
 returns-6 c =
-    let z = sym (c .before .before .before .before .before .before .before .before .before .before .before .before .frame-fault .ensures) ∙ c .before .before .before .before .before .before .before .before .before .before .before .if1 .left in
-    rw (z, ← c .before .before .before .before .before .before .before .before .before .before .field .ensures, known-kind _ (c .before .before .before .before .before .before .before .before .before .if2 .left) (c .before .before .before .before .before .before .before .before .if3 .left), ← c .before .before .before .before .before .before .before .field2 .ensures, eq-eqb _ _ (c .before .before .before .before .before .if4 .left ∙ c .before .before .before .before .before .before .wide .ensures), ← c .before .before .before .before .field3 .ensures, eq-eqb _ _ (c .before .before .before .if5 .left), ← c .before .before .field4 .ensures, ← c .before .between .ensures, le-ltb _ _ (c .if6 .taken))
+    let at-field4 = c .before .before in
+    let at-test-5 = at-field4 .before in
+    let at-field3 = at-test-5 .before in
+    let at-test-4 = at-field3 .before in
+    let at-wide = at-test-4 .before in
+    let at-field2 = at-wide .before in
+    let at-test-3 = at-field2 .before in
+    let at-test-2 = at-test-3 .before in
+    let at-field = at-test-2 .before in
+    let at-test = at-field .before in
+    let at-frame-fault = at-test .before in
+    let z = sym (at-frame-fault .frame-fault .ensures) ∙ at-test .if1 .left in
+    rw (z, ← at-field .field .ensures, known-kind _ (at-test-2 .if2 .left) (at-test-3 .if3 .left), ← at-field2 .field2 .ensures, eq-eqb _ _ (at-test-4 .if4 .left ∙ at-wide .wide .ensures), ← at-field3 .field3 .ensures, eq-eqb _ _ (at-test-5 .if5 .left), ← at-field4 .field4 .ensures, ← c .before .between .ensures, le-ltb _ _ (c .if6 .taken))
 
 returns-7 : tie.Need-returns-7
 unfolding heardFault
 returns-7 c =
-    let z = sym (c .before .before .before .before .before .before .before .before .before .before .before .before .frame-fault .ensures) ∙ c .before .before .before .before .before .before .before .before .before .before .before .if1 .left in
-    rw (z, ← c .before .before .before .before .before .before .before .before .before .before .field .ensures, known-kind _ (c .before .before .before .before .before .before .before .before .before .if2 .left) (c .before .before .before .before .before .before .before .before .if3 .left), ← c .before .before .before .before .before .before .before .field2 .ensures, eq-eqb _ _ (c .before .before .before .before .before .if4 .left ∙ c .before .before .before .before .before .before .wide .ensures), ← c .before .before .before .before .field3 .ensures, eq-eqb _ _ (c .before .before .before .if5 .left), ← c .before .before .field4 .ensures, ← c .before .between .ensures, lt-ltb _ _ (c .if6 .left))
+    let at-field4 = c .before .before in
+    let at-test-5 = at-field4 .before in
+    let at-field3 = at-test-5 .before in
+    let at-test-4 = at-field3 .before in
+    let at-wide = at-test-4 .before in
+    let at-field2 = at-wide .before in
+    let at-test-3 = at-field2 .before in
+    let at-test-2 = at-test-3 .before in
+    let at-field = at-test-2 .before in
+    let at-test = at-field .before in
+    let at-frame-fault = at-test .before in
+    let z = sym (at-frame-fault .frame-fault .ensures) ∙ at-test .if1 .left in
+    rw (z, ← at-field .field .ensures, known-kind _ (at-test-2 .if2 .left) (at-test-3 .if3 .left), ← at-field2 .field2 .ensures, eq-eqb _ _ (at-test-4 .if4 .left ∙ at-wide .wide .ensures), ← at-field3 .field3 .ensures, eq-eqb _ _ (at-test-5 .if5 .left), ← at-field4 .field4 .ensures, ← c .before .between .ensures, lt-ltb _ _ (c .if6 .left))
 
 pub heard-fault-spec : {M : Type 1} → statement M
 heard-fault-spec =

@@ -42,19 +42,27 @@ touches-requires c κs =
 
 returns-3 : tie.Need-returns-3
 returns-3 c =
-    let a = c .before .before .before .before .before .before .before .before .before .before .args in
+    let at-test-2 = c .before .before in
+    let at-test = at-test-2 .before in
+    let at-state-fault = at-test .before in
+    let at-start = at-state-fault .before .before .before .before .before .before in
+    let a = at-start .args in
     let t : Table = ofSlices 0 (a .probes) (a .links) (a .needs .now) (a .lows .now) (a .highs .now) (a .costs .now) in
     let s : ℕ = sliceFault 256 2048 (slicesOf 0 (a .probes) (a .links) (a .needs .now) (a .lows .now) (a .highs .now) (a .costs .now)) in
-    let z : orElse s (recordFault t (a .probe) (a .rec .now)) ≡ 0 = sym (c .before .before .before .before .state-fault .ensures) ∙ c .before .before .before .if1 .left in
-    link-late s t (a .probe) (a .rec .now) _ (a .link) z (rw (lt-ltb _ _ (c .before .before .if2 .left), sym (c .before .touches .ensures) ∙ not-true _ (c .if3 .taken)))
+    let z : orElse s (recordFault t (a .probe) (a .rec .now)) ≡ 0 = sym (at-state-fault .state-fault .ensures) ∙ at-test .if1 .left in
+    link-late s t (a .probe) (a .rec .now) _ (a .link) z (rw (lt-ltb _ _ (at-test-2 .if2 .left), sym (c .before .touches .ensures) ∙ not-true _ (c .if3 .taken)))
 
 returns-4 : tie.Need-returns-4
 returns-4 c =
-    let a = c .before .before .before .before .before .before .before .before .before .before .args in
+    let at-test-2 = c .before .before in
+    let at-test = at-test-2 .before in
+    let at-state-fault = at-test .before in
+    let at-start = at-state-fault .before .before .before .before .before .before in
+    let a = at-start .args in
     let t : Table = ofSlices 0 (a .probes) (a .links) (a .needs .now) (a .lows .now) (a .highs .now) (a .costs .now) in
     let s : ℕ = sliceFault 256 2048 (slicesOf 0 (a .probes) (a .links) (a .needs .now) (a .lows .now) (a .highs .now) (a .costs .now)) in
-    let z : orElse s (recordFault t (a .probe) (a .rec .now)) ≡ 0 = sym (c .before .before .before .before .state-fault .ensures) ∙ c .before .before .before .if1 .left in
-    link-late s t (a .probe) (a .rec .now) _ (a .link) z (rw (lt-ltb _ _ (c .before .before .if2 .left), sym (c .before .touches .ensures) ∙ not-false _ (c .if3 .left)))
+    let z : orElse s (recordFault t (a .probe) (a .rec .now)) ≡ 0 = sym (at-state-fault .state-fault .ensures) ∙ at-test .if1 .left in
+    link-late s t (a .probe) (a .rec .now) _ (a .link) z (rw (lt-ltb _ _ (at-test-2 .if2 .left), sym (c .before .touches .ensures) ∙ not-false _ (c .if3 .left)))
 
 pub link-call-fault-spec : {M : Type 1} → statement M
 link-call-fault-spec =

@@ -31,18 +31,24 @@ returns-2 c =
 
 returns-3 : tie.Need-returns-3
 returns-3 c =
-    let a = c .before .before .before .before .before .before .before .before .before .args in
+    let at-test = c .before .before in
+    let at-state-fault = at-test .before in
+    let at-start = at-state-fault .before .before .before .before .before .before in
+    let a = at-start .args in
     let t : Table = ofSlices 0 (a .probes) (a .links) (a .needs .now) (a .lows .now) (a .highs .now) (a .costs .now) in
     let s : ℕ = sliceFault 256 2048 (slicesOf 0 (a .probes) (a .links) (a .needs .now) (a .lows .now) (a .highs .now) (a .costs .now)) in
-    let z : orElse s (recordFault t (a .probe) (a .rec .now)) ≡ 0 = sym (c .before .before .before .state-fault .ensures) ∙ c .before .before .if1 .left in
+    let z : orElse s (recordFault t (a .probe) (a .rec .now)) ≡ 0 = sym (at-state-fault .state-fault .ensures) ∙ at-test .if1 .left in
     open-late s t (a .probe) (a .rec .now) _ (a .free) z (rw (lt-ltb _ _ (c .before .if2 .left), eq-eqb _ _ (c .if3 .taken)))
 
 returns-4 : tie.Need-returns-4
 returns-4 c =
-    let a = c .before .before .before .before .before .before .before .before .before .args in
+    let at-test = c .before .before in
+    let at-state-fault = at-test .before in
+    let at-start = at-state-fault .before .before .before .before .before .before in
+    let a = at-start .args in
     let t : Table = ofSlices 0 (a .probes) (a .links) (a .needs .now) (a .lows .now) (a .highs .now) (a .costs .now) in
     let s : ℕ = sliceFault 256 2048 (slicesOf 0 (a .probes) (a .links) (a .needs .now) (a .lows .now) (a .highs .now) (a .costs .now)) in
-    let z : orElse s (recordFault t (a .probe) (a .rec .now)) ≡ 0 = sym (c .before .before .before .state-fault .ensures) ∙ c .before .before .if1 .left in
+    let z : orElse s (recordFault t (a .probe) (a .rec .now)) ≡ 0 = sym (at-state-fault .state-fault .ensures) ∙ at-test .if1 .left in
     open-late s t (a .probe) (a .rec .now) _ (a .free) z (rw (lt-ltb _ _ (c .before .if2 .left), ne-eqb _ _ (c .if3 .left)))
 
 pub open-fault-spec : {M : Type 1} → statement M

@@ -21,8 +21,11 @@ same-length c = search needs
 returns : tie.Need-returns
 unfolding frameLine
 returns c =
-    let a = c .before .before .before .before .before .before .before .before .before .args in
-    sets-then (a .out .now) _ _ 0 2 (digits 2 (a .kind)) (tripleLine (a .number) (a .from) (a .to)) (c .before .before .before .before .before .before .put-number .ensures) (omega (arith, length-digits 2 (a .kind))) (c .before .before .put-triple .ensures)
+    let at-put-triple = c .before .before in
+    let at-put-number = at-put-triple .before .before .before .before in
+    let at-start = at-put-number .before .before .before in
+    let a = at-start .args in
+    sets-then (a .out .now) _ _ 0 2 (digits 2 (a .kind)) (tripleLine (a .number) (a .from) (a .to)) (at-put-number .put-number .ensures) (omega (arith, length-digits 2 (a .kind))) (at-put-triple .put-triple .ensures)
 
 pub write-frame-spec : {M : Type 1} → statement M
 write-frame-spec = tie.close (tie.spec put-number-requires put-triple-requires same-length returns)

@@ -31,27 +31,46 @@ ones-requires c κs = search needs
 
 returns-3 : tie.Need-returns-3
 returns-3 c =
-    let a = c .before .before .before .before .before .before .before .before .before .before .args in
+    let at-spare = c .before .before in
+    let at-test-2 = at-spare .before in
+    let at-bytes-fault = at-test-2 .before in
+    let at-test = at-bytes-fault .before in
+    let at-start = at-test .before .before .before .before .before in
+    let a = at-start .args in
     let t : Table = ofSlices 0 0 (a .links) (a .needs .now) (a .lows .now) (a .highs .now) [] in
-    let fine : first (byteFault t (a .probe) (a .rec .now)) (a .links) ≡ 0 = sym (c .before .before .before .before .bytes-fault .ensures) ∙ c .before .before .before .if2 .left in
-    many-standing t (a .probe) (a .rec .now) (c .before .before .before .before .before .if1 .left) fine _ _ (c .before .before .spare .ensures) (c .before .ones .ensures .0) (c .if3 .taken)
+    let fine : first (byteFault t (a .probe) (a .rec .now)) (a .links) ≡ 0 = sym (at-bytes-fault .bytes-fault .ensures) ∙ at-test-2 .if2 .left in
+    many-standing t (a .probe) (a .rec .now) (at-test .if1 .left) fine _ _ (at-spare .spare .ensures) (c .before .ones .ensures .0) (c .if3 .taken)
 
 ones-requires-2 : tie.Need-ones-requires-2
 ones-requires-2 c κs = search needs
 
 returns-4 : tie.Need-returns-4
 returns-4 c =
-    let a = c .before .before .before .before .before .before .before .before .before .before .before .before .args in
+    let at-test-3 = c .before .before in
+    let at-ones = at-test-3 .before in
+    let at-spare = at-ones .before in
+    let at-test-2 = at-spare .before in
+    let at-bytes-fault = at-test-2 .before in
+    let at-test = at-bytes-fault .before in
+    let at-start = at-test .before .before .before .before .before in
+    let a = at-start .args in
     let t : Table = ofSlices 0 0 (a .links) (a .needs .now) (a .lows .now) (a .highs .now) [] in
-    let fine : first (byteFault t (a .probe) (a .rec .now)) (a .links) ≡ 0 = sym (c .before .before .before .before .before .before .bytes-fault .ensures) ∙ c .before .before .before .before .before .if2 .left in
-    many-held t (a .probe) (a .rec .now) (c .before .before .before .before .before .before .before .if1 .left) fine _ _ (c .before .before .before .before .spare .ensures) (c .before .before .before .ones .ensures .0) (c .before .before .if3 .left) _ (c .before .ones2 .ensures .0) (c .if4 .taken)
+    let fine : first (byteFault t (a .probe) (a .rec .now)) (a .links) ≡ 0 = sym (at-bytes-fault .bytes-fault .ensures) ∙ at-test-2 .if2 .left in
+    many-held t (a .probe) (a .rec .now) (at-test .if1 .left) fine _ _ (at-spare .spare .ensures) (at-ones .ones .ensures .0) (at-test-3 .if3 .left) _ (c .before .ones2 .ensures .0) (c .if4 .taken)
 
 returns-5 : tie.Need-returns-5
 returns-5 c =
-    let a = c .before .before .before .before .before .before .before .before .before .before .before .before .args in
+    let at-test-3 = c .before .before in
+    let at-ones = at-test-3 .before in
+    let at-spare = at-ones .before in
+    let at-test-2 = at-spare .before in
+    let at-bytes-fault = at-test-2 .before in
+    let at-test = at-bytes-fault .before in
+    let at-start = at-test .before .before .before .before .before in
+    let a = at-start .args in
     let t : Table = ofSlices 0 0 (a .links) (a .needs .now) (a .lows .now) (a .highs .now) [] in
-    let fine : first (byteFault t (a .probe) (a .rec .now)) (a .links) ≡ 0 = sym (c .before .before .before .before .before .before .bytes-fault .ensures) ∙ c .before .before .before .before .before .if2 .left in
-    none-over t (a .probe) (a .rec .now) (c .before .before .before .before .before .before .before .if1 .left) fine _ _ (c .before .before .before .before .spare .ensures) (c .before .before .before .ones .ensures .0) (c .before .before .if3 .left) _ (c .before .ones2 .ensures .0) (c .if4 .left)
+    let fine : first (byteFault t (a .probe) (a .rec .now)) (a .links) ≡ 0 = sym (at-bytes-fault .bytes-fault .ensures) ∙ at-test-2 .if2 .left in
+    none-over t (a .probe) (a .rec .now) (at-test .if1 .left) fine _ _ (at-spare .spare .ensures) (at-ones .ones .ensures .0) (at-test-3 .if3 .left) _ (c .before .ones2 .ensures .0) (c .if4 .left)
 
 pub record-fault-spec : {M : Type 1} → statement M
 record-fault-spec =

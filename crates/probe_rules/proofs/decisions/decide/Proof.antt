@@ -26,16 +26,20 @@ add-if1 c =
 
 shared-slice-read-if1 : tie.Need-shared-slice-read-if1
 shared-slice-read-if1 c =
-    let w = rw (c .before .before .event .given .1) at (c .before .before .before .before .before .before .before .before .before .pre .2) in
-    let r = c .before .before .before .before .before .before .before .before .before .pre .1 .room in omega arith
+    let at-event = c .before .before in
+    let at-start = at-event .before .before .before .before .before .before .before in
+    let w = rw (at-event .event .given .1) at (at-start .pre .2) in
+    let r = at-start .pre .1 .room in omega arith
 
 returns : tie.Need-returns
 returns c = rw (c .before .before .before .event .given .1, ne-eqb _ _ (c .if1 .taken))
 
 decide-offer-requires : tie.Need-decide-offer-requires
 decide-offer-requires c κs =
-    let p = c .before .before .before .before .before .before .before .before .before .before .pre in
-    (p .0, p .1, rw (c .before .before .before .event .given .1) at (p .2))
+    let at-event = c .before .before .before in
+    let at-start = at-event .before .before .before .before .before .before .before in
+    let p = at-start .pre in
+    (p .0, p .1, rw (at-event .event .given .1) at (p .2))
 
 enum-known-event-2 : tie.Need-enum-known-event-2
 enum-known-event-2 c = search needs
@@ -47,8 +51,10 @@ mul-if2 c =
 
 shared-slice-read-if2 : tie.Need-shared-slice-read-if2
 shared-slice-read-if2 c =
-    let w = rw (c .before .before .event2 .given .1) at (c .before .before .before .before .before .before .before .before .before .pre .2) in
-    let r = c .before .before .before .before .before .before .before .before .before .pre .1 .room in omega arith
+    let at-event2 = c .before .before in
+    let at-start = at-event2 .before .before .before .before .before .before .before in
+    let w = rw (at-event2 .event2 .given .1) at (at-start .pre .2) in
+    let r = at-start .pre .1 .room in omega arith
 
 returns-2 : tie.Need-returns-2
 returns-2 c = rw (c .before .before .before .event2 .given .1, eq-eqb _ _ (c .if2 .taken))

@@ -26,26 +26,42 @@ best-own-requires c κs = search needs
 
 returns-2 : tie.Need-returns-2
 returns-2 c =
-    let a = c .before .before .before .before .before .before .before .before .before .before .args in
+    let at-test = c .before .before in
+    let at-ones = at-test .before in
+    let at-spare = at-ones .before in
+    let at-start = at-spare .before .before .before .before .before .before in
+    let a = at-start .args in
     let t : Table = ofSlices 0 0 (a .links) (a .needs .now) (a .lows .now) (a .highs .now) (a .costs .now) in
-    rw (← ones-held t (a .probe) (a .rec .now) (c .before .before .before .before .before .before .before .before .before .before .pre .1 .bytes), ← c .before .before .before .ones .ensures .0, ← c .before .before .before .before .spare .ensures, le-ltb _ _ (c .before .before .if1 .left), sym (c .before .best-own .ensures ∙ best-same 1 (a .links) (a .needs .now) (a .lows .now) (a .highs .now) (a .costs .now) (a .probe) (a .rec .now)), le-ltb _ _ (c .if2 .taken))
+    rw (← ones-held t (a .probe) (a .rec .now) (at-start .pre .1 .bytes), ← at-ones .ones .ensures .0, ← at-spare .spare .ensures, le-ltb _ _ (at-test .if1 .left), sym (c .before .best-own .ensures ∙ best-same 1 (a .links) (a .needs .now) (a .lows .now) (a .highs .now) (a .costs .now) (a .probe) (a .rec .now)), le-ltb _ _ (c .if2 .taken))
 
 dearer-requires : tie.Need-dearer-requires
 dearer-requires c κs = search needs
 
 returns-3 : tie.Need-returns-3
 returns-3 c =
-    let a = c .before .before .before .before .before .before .before .before .before .before .before .before .args in
+    let at-test-2 = c .before .before in
+    let at-best-own = at-test-2 .before in
+    let at-test = at-best-own .before in
+    let at-ones = at-test .before in
+    let at-spare = at-ones .before in
+    let at-start = at-spare .before .before .before .before .before .before in
+    let a = at-start .args in
     let t : Table = ofSlices 0 0 (a .links) (a .needs .now) (a .lows .now) (a .highs .now) (a .costs .now) in
-    let d = dearer-by-place t (record { rising = c .before .before .before .before .before .before .before .before .before .before .before .before .pre .0 .order .rising }) (a .i) _ (c .before .before .before .before .before .before .before .before .before .before .before .before .pre .2) (c .before .before .if2 .left) ∙ sym (c .before .dearer .ensures) ∙ c .if3 .taken in
-    rw (← ones-held t (a .probe) (a .rec .now) (c .before .before .before .before .before .before .before .before .before .before .before .before .pre .1 .bytes), ← c .before .before .before .before .before .ones .ensures .0, ← c .before .before .before .before .before .before .spare .ensures, le-ltb _ _ (c .before .before .before .before .if1 .left), sym (c .before .before .before .best-own .ensures ∙ best-same 1 (a .links) (a .needs .now) (a .lows .now) (a .highs .now) (a .costs .now) (a .probe) (a .rec .now)), lt-ltb _ _ (c .before .before .if2 .left), d)
+    let d = dearer-by-place t (record { rising = at-start .pre .0 .order .rising }) (a .i) _ (at-start .pre .2) (at-test-2 .if2 .left) ∙ sym (c .before .dearer .ensures) ∙ c .if3 .taken in
+    rw (← ones-held t (a .probe) (a .rec .now) (at-start .pre .1 .bytes), ← at-ones .ones .ensures .0, ← at-spare .spare .ensures, le-ltb _ _ (at-test .if1 .left), sym (at-best-own .best-own .ensures ∙ best-same 1 (a .links) (a .needs .now) (a .lows .now) (a .highs .now) (a .costs .now) (a .probe) (a .rec .now)), lt-ltb _ _ (at-test-2 .if2 .left), d)
 
 returns-4 : tie.Need-returns-4
 returns-4 c =
-    let a = c .before .before .before .before .before .before .before .before .before .before .before .before .args in
+    let at-test-2 = c .before .before in
+    let at-best-own = at-test-2 .before in
+    let at-test = at-best-own .before in
+    let at-ones = at-test .before in
+    let at-spare = at-ones .before in
+    let at-start = at-spare .before .before .before .before .before .before in
+    let a = at-start .args in
     let t : Table = ofSlices 0 0 (a .links) (a .needs .now) (a .lows .now) (a .highs .now) (a .costs .now) in
-    let d = dearer-by-place t (record { rising = c .before .before .before .before .before .before .before .before .before .before .before .before .pre .0 .order .rising }) (a .i) _ (c .before .before .before .before .before .before .before .before .before .before .before .before .pre .2) (c .before .before .if2 .left) ∙ sym (c .before .dearer .ensures) ∙ c .if3 .left in
-    rw (← ones-held t (a .probe) (a .rec .now) (c .before .before .before .before .before .before .before .before .before .before .before .before .pre .1 .bytes), ← c .before .before .before .before .before .ones .ensures .0, ← c .before .before .before .before .before .before .spare .ensures, le-ltb _ _ (c .before .before .before .before .if1 .left), sym (c .before .before .before .best-own .ensures ∙ best-same 1 (a .links) (a .needs .now) (a .lows .now) (a .highs .now) (a .costs .now) (a .probe) (a .rec .now)), lt-ltb _ _ (c .before .before .if2 .left), d)
+    let d = dearer-by-place t (record { rising = at-start .pre .0 .order .rising }) (a .i) _ (at-start .pre .2) (at-test-2 .if2 .left) ∙ sym (c .before .dearer .ensures) ∙ c .if3 .left in
+    rw (← ones-held t (a .probe) (a .rec .now) (at-start .pre .1 .bytes), ← at-ones .ones .ensures .0, ← at-spare .spare .ensures, le-ltb _ _ (at-test .if1 .left), sym (at-best-own .best-own .ensures ∙ best-same 1 (a .links) (a .needs .now) (a .lows .now) (a .highs .now) (a .costs .now) (a .probe) (a .rec .now)), lt-ltb _ _ (at-test-2 .if2 .left), d)
 
 pub decide-offer-spec : {M : Type 1} → statement M
 decide-offer-spec =

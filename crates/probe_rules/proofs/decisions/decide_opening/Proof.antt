@@ -25,15 +25,23 @@ best-own-requires c κs = search needs
 
 returns-2 : tie.Need-returns-2
 returns-2 c =
-    let a = c .before .before .before .before .before .before .before .before .before .before .args in
+    let at-test = c .before .before in
+    let at-ones = at-test .before in
+    let at-spare = at-ones .before in
+    let at-start = at-spare .before .before .before .before .before .before in
+    let a = at-start .args in
     let t : Table = ofSlices 0 0 (a .links) (a .needs .now) (a .lows .now) (a .highs .now) (a .costs .now) in
-    rw (← ones-standing t (a .probe) (a .rec .now) (c .before .before .before .before .before .before .before .before .before .before .pre .1 .bytes), ← c .before .before .before .ones .ensures .0, ← c .before .before .before .before .spare .ensures, lt-ltb _ _ (c .before .before .if1 .left), sym (c .before .best-own .ensures ∙ best-same 0 (a .links) (a .needs .now) (a .lows .now) (a .highs .now) (a .costs .now) (a .probe) (a .rec .now)), le-ltb _ _ (c .if2 .taken))
+    rw (← ones-standing t (a .probe) (a .rec .now) (at-start .pre .1 .bytes), ← at-ones .ones .ensures .0, ← at-spare .spare .ensures, lt-ltb _ _ (at-test .if1 .left), sym (c .before .best-own .ensures ∙ best-same 0 (a .links) (a .needs .now) (a .lows .now) (a .highs .now) (a .costs .now) (a .probe) (a .rec .now)), le-ltb _ _ (c .if2 .taken))
 
 returns-3 : tie.Need-returns-3
 returns-3 c =
-    let a = c .before .before .before .before .before .before .before .before .before .before .args in
+    let at-test = c .before .before in
+    let at-ones = at-test .before in
+    let at-spare = at-ones .before in
+    let at-start = at-spare .before .before .before .before .before .before in
+    let a = at-start .args in
     let t : Table = ofSlices 0 0 (a .links) (a .needs .now) (a .lows .now) (a .highs .now) (a .costs .now) in
-    rw (← ones-standing t (a .probe) (a .rec .now) (c .before .before .before .before .before .before .before .before .before .before .pre .1 .bytes), ← c .before .before .before .ones .ensures .0, ← c .before .before .before .before .spare .ensures, lt-ltb _ _ (c .before .before .if1 .left), sym (c .before .best-own .ensures ∙ best-same 0 (a .links) (a .needs .now) (a .lows .now) (a .highs .now) (a .costs .now) (a .probe) (a .rec .now)), lt-ltb _ _ (c .if2 .left))
+    rw (← ones-standing t (a .probe) (a .rec .now) (at-start .pre .1 .bytes), ← at-ones .ones .ensures .0, ← at-spare .spare .ensures, lt-ltb _ _ (at-test .if1 .left), sym (c .before .best-own .ensures ∙ best-same 0 (a .links) (a .needs .now) (a .lows .now) (a .highs .now) (a .costs .now) (a .probe) (a .rec .now)), lt-ltb _ _ (c .if2 .left))
 
 pub decide-opening-spec : {M : Type 1} → statement M
 decide-opening-spec =

@@ -55,12 +55,25 @@ slice-write-out : tie.Need-slice-write-out
 slice-write-out c = search needs
 
 same-length : tie.Need-same-length
-same-length c = simp length-set (omega (arith, c .before .before .put-number4 .kept .0, c .before .before .before .before .before .before .before .put-number3 .kept .0, c .before .before .before .before .before .before .before .before .before .before .before .before .put-number2 .kept .0, c .before .before .before .before .before .before .before .before .before .before .before .before .before .before .before .before .before .put-number .kept .0))
+same-length c =
+    let at-put-number4 = c .before .before in
+    let at-put-number3 = at-put-number4 .before .before .before .before .before in
+    let at-put-number2 = at-put-number3 .before .before .before .before .before in
+    let at-put-number = at-put-number2 .before .before .before .before .before in
+    simp length-set (omega (arith, at-put-number4 .put-number4 .kept .0, at-put-number3 .put-number3 .kept .0, at-put-number2 .put-number2 .kept .0, at-put-number .put-number .kept .0))
 
 returns : tie.Need-returns
 returns c =
-    let a = c .before .before .before .before .before .before .before .before .before .before .before .before .before .before .before .before .before .before .before .before .before .args in
-    entry-then (a .e) (a .out .now) _ _ _ _ (a .at) _ _ _ (c .before .before .before .before .before .before .before .before .before .before .before .before .before .before .before .before .before .put-number .ensures) (c .before .before .before .before .before .before .before .before .before .before .before .before .before .code .ensures) (c .before .before .before .before .before .before .before .before .before .before .before .before .put-number2 .ensures) (c .before .before .before .before .before .before .before .before .link-place .ensures) (c .before .before .before .before .before .before .before .put-number3 .ensures) (c .before .before .before .displaced-probe .ensures) (c .before .before .put-number4 .ensures)
+    let at-put-number4 = c .before .before in
+    let at-displaced-probe = at-put-number4 .before in
+    let at-put-number3 = at-displaced-probe .before .before .before .before in
+    let at-link-place = at-put-number3 .before in
+    let at-put-number2 = at-link-place .before .before .before .before in
+    let at-code = at-put-number2 .before in
+    let at-put-number = at-code .before .before .before .before in
+    let at-start = at-put-number .before .before .before .before in
+    let a = at-start .args in
+    entry-then (a .e) (a .out .now) _ _ _ _ (a .at) _ _ _ (at-put-number .put-number .ensures) (at-code .code .ensures) (at-put-number2 .put-number2 .ensures) (at-link-place .link-place .ensures) (at-put-number3 .put-number3 .ensures) (at-displaced-probe .displaced-probe .ensures) (at-put-number4 .put-number4 .ensures)
 
 pub put-entry-spec : {M : Type 1} → statement M
 put-entry-spec =

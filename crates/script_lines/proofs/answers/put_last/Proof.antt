@@ -27,8 +27,12 @@ same-length c = simp length-set (omega (arith, c .before .before .put-number2 .k
 
 returns : tie.Need-returns
 returns c =
-    let a = c .before .before .before .before .before .before .before .before .before .before .args in
-    last-then (a .done) (a .changed) _ (a .at) (a .out .now) _ _ (⊎-elim (λ w. rw (w .0 .taken) (w .1)) (λ w. rw (w .0 .left) (w .1)) (c .before .before .before .before .before .before .before .before .if1 .came)) (c .before .before .before .before .before .before .put-number .ensures) (c .before .before .put-number2 .ensures)
+    let at-put-number2 = c .before .before in
+    let at-put-number = at-put-number2 .before .before .before .before in
+    let at-test = at-put-number .before .before in
+    let at-start = at-test .before .before in
+    let a = at-start .args in
+    last-then (a .done) (a .changed) _ (a .at) (a .out .now) _ _ (⊎-elim (λ w. rw (w .0 .taken) (w .1)) (λ w. rw (w .0 .left) (w .1)) (at-test .if1 .came)) (at-put-number .put-number .ensures) (at-put-number2 .put-number2 .ensures)
 
 pub put-last-spec : {M : Type 1} → statement M
 put-last-spec =

@@ -14,20 +14,23 @@ handle-line-requires c κs = search needs
 
 put-answer-requires : tie.Need-put-answer-requires
 put-answer-requires c κs =
-    let s = c .before .before .before .before .before .before .before .before .before .before .before .before .before .before in
+    let at-handle-line = c .before .before .before in
+    let s = at-handle-line .before .before .before .before .before .before .before .before .before .before .before in
     let a = s .args in
     let x = slicesOf (a .number) (a .probes) (a .links) (a .needs .now) (a .lows .now) (a .highs .now) (a .costs .now) in
-    let h = c .before .before .before .handle-line .ensures in
+    let h = at-handle-line .handle-line .ensures in
     let short = answer-short x (a .place .progress .used) 1024 (a .line .now) (a .rec .now) (s .pre .3) in
     rw (h .answer) (omega (arith, s .pre .2))
 
 add-used-requires : tie.Need-add-used-requires
 add-used-requires c κs =
-    let s = c .before .before .before .before .before .before .before .before .before .before .before .before .before .before .before .before .before in
+    let at-handle-line = c .before .before .before .before .before .before in
+    let at-struct-known = at-handle-line .before in
+    let s = at-struct-known .before .before .before .before .before .before .before .before .before .before in
     let a = s .args in
     let x = slicesOf (a .number) (a .probes) (a .links) (a .needs .now) (a .lows .now) (a .highs .now) (a .costs .now) in
-    let h = c .before .before .before .before .before .before .handle-line .ensures in
-    rw (h .answer) (used-within x (a .place .progress .used) 1024 (a .line .now) (a .rec .now) (omega (arith, c .before .before .before .before .before .before .before .struct-known .given .0 .fits)) (omega arith))
+    let h = at-handle-line .handle-line .ensures in
+    rw (h .answer) (used-within x (a .place .progress .used) 1024 (a .line .now) (a .rec .now) (omega (arith, at-struct-known .struct-known .given .0 .fits)) (omega arith))
 
 add-changes-requires : tie.Need-add-changes-requires
 add-changes-requires c κs = search needs
@@ -40,10 +43,12 @@ same-length-2 c = search needs
 
 returns : tie.Need-returns
 returns c =
-    let s = c .before .before .before .before .before .before .before .before .before .before .before .before .before .before .before .before .before .before .before in
+    let at-put-answer = c .before .before .before .before in
+    let at-handle-line = at-put-answer .before .before .before .before in
+    let s = at-handle-line .before .before .before .before .before .before .before .before .before .before .before in
     let a = s .args in
     let x = slicesOf (a .number) (a .probes) (a .links) (a .needs .now) (a .lows .now) (a .highs .now) (a .costs .now) in
-    line-buffered x (s .pre .0) (a .place .progress) 1024 (a .place .at) (a .line .now) (a .rec .now) _ (a .out .now) _ (s .pre .1) _ _ _ _ (c .before .before .before .before .before .before .before .before .handle-line .ensures) (c .before .before .before .before .put-answer .ensures .0) (c .before .before .before .before .put-answer .ensures .1) (c .before .add-used .ensures) (c .add-changes .ensures)
+    line-buffered x (s .pre .0) (a .place .progress) 1024 (a .place .at) (a .line .now) (a .rec .now) _ (a .out .now) _ (s .pre .1) _ _ _ _ (at-handle-line .handle-line .ensures) (at-put-answer .put-answer .ensures .0) (at-put-answer .put-answer .ensures .1) (c .before .add-used .ensures) (c .add-changes .ensures)
 
 pub answer-line-spec : {M : Type 1} → statement M
 answer-line-spec =

@@ -48,9 +48,10 @@ take-piece-requires c κs =
 
 put-end-requires : tie.Need-put-end-requires
 put-end-requires c κs =
-    let s = c .before .before .before .before .before .before .before .before .before .before .before .before .before .before .before .before .before .before .before in
+    let at-take-piece = c .before .before .before .before .before .before .before .before in
+    let s = at-take-piece .before .before .before .before .before .before .before .before .before .before .before in
     let a = s .args in
-    let k = c .before .before .before .before .before .before .before .before .take-piece in
+    let k = at-take-piece .take-piece in
     let m = links-within (slicesOf (a .number) (a .probes) (a .links) (a .needs .now) (a .lows .now) (a .highs .now) (a .costs .now)) (s .pre .0) in
     let zeros : List ℕ = replicate 8192 0 in
     let n = length-take-le (4 * a .links) zeros (omega arith) in
@@ -61,15 +62,17 @@ same-length c = search needs
 
 returns : tie.Need-returns
 returns c =
-    let s = c .before .before .before .before .before .before .before .before .before .before .before .before .before .before .before .before .before .before .before .before .before .before .before in
+    let at-put-end = c .before .before .before in
+    let at-take-piece = at-put-end .before .before .before .before .before .before .before .before .before in
+    let s = at-take-piece .before .before .before .before .before .before .before .before .before .before .before in
     let a = s .args in
-    let k = c .before .before .before .before .before .before .before .before .before .before .before .before .take-piece in
+    let k = at-take-piece .take-piece in
     let x = slicesOf (a .number) (a .probes) (a .links) (a .needs .now) (a .lows .now) (a .highs .now) (a .costs .now) in
     let m = links-within x (s .pre .0) in
     let w : 4 * a .links ≤ 8192 = omega arith in
     let most = end-most (eqb (k .result .progress .held) 0) in
     let line : List ℕ = replicate 17 0 in
-    (all-printed x (s .pre .0) w _ (refl, refl, refl) line _ (a .text .now) _ (a .out .now) _ _ _ (k .ensures .0) (c .before .before .before .put-end .ensures .0 (a .number) (a .costs .now)), c .before .before .before .put-end .ensures .1 ∙ all-length x (s .pre .0) w _ (refl, refl, refl) line _ (a .text .now) _ (a .out .now) _ (a .out .now) _ (k .ensures .0), omega (arith, k .ensures .1, s .pre .1, c .before .before .before .put-end .ensures .1))
+    (all-printed x (s .pre .0) w _ (refl, refl, refl) line _ (a .text .now) _ (a .out .now) _ _ _ (k .ensures .0) (at-put-end .put-end .ensures .0 (a .number) (a .costs .now)), at-put-end .put-end .ensures .1 ∙ all-length x (s .pre .0) w _ (refl, refl, refl) line _ (a .text .now) _ (a .out .now) _ (a .out .now) _ (k .ensures .0), omega (arith, k .ensures .1, s .pre .1, at-put-end .put-end .ensures .1))
 
 pub print-script-spec : {M : Type 1} → statement M
 print-script-spec =

@@ -46,10 +46,12 @@ same-length-3 c = search needs
 
 returns : tie.Need-returns
 returns c =
-    let s = c .before .before .before .before .before .before .before .before .before .before .before .before .before .before .before .before .before .before in
+    let at-answer-line = c .before .before .before .before in
+    let at-test = at-answer-line .before .before .before .before in
+    let s = at-test .before .before .before .before .before .before .before .before .before .before in
     let a = s .args in
     let x = slicesOf (a .number) (a .probes) (a .links) (a .needs .now) (a .lows .now) (a .highs .now) (a .costs .now) in
-    byte-line x 1024 (a .place .progress) (a .byte) (a .place .at) (a .rec .now) _ (a .line .now) _ (a .out .now) _ _ _ (c .before .before .before .before .before .before .before .before .if1 .taken) (stored-byte (a .line .now) (a .place .progress .held) (a .byte) (omega (arith, s .pre .2, s .pre .3))) (c .before .before .before .before .answer-line .ensures)
+    byte-line x 1024 (a .place .progress) (a .byte) (a .place .at) (a .rec .now) _ (a .line .now) _ (a .out .now) _ _ _ (at-test .if1 .taken) (stored-byte (a .line .now) (a .place .progress .held) (a .byte) (omega (arith, s .pre .2, s .pre .3))) (at-answer-line .answer-line .ensures)
 
 one-more-requires : tie.Need-one-more-requires
 one-more-requires c κs = search needs

@@ -32,27 +32,35 @@ shared-slice-read-take-byte c = search needs
 
 take-byte-requires : tie.Need-take-byte-requires Inv-loop μ-loop
 take-byte-requires c κs =
-    let s = c .before .before .before .before .before .before .before .before .before .before .before .before .before .before in
+    let at-loop-test = c .before .before .before .before in
+    let at-loop = at-loop-test .before in
+    let s = at-loop .before .before .before .before .before .before .before .before .before in
     let a = s .args in
-    let v = c .before .before .before .before .before .loop .inv in
+    let v = at-loop .loop .inv in
     let n = length-take-le (a .progress .held) (a .line .now) (omega (arith, s .pre .2, s .pre .3)) in
     let t = v .1 .short in
-    (s .pre .0, v .1 .usable, v .1 .few, v .3, omega (arith, s .pre .4, v .4, c .before .before .before .before .loop-test .taken))
+    (s .pre .0, v .1 .usable, v .1 .few, v .3, omega (arith, s .pre .4, v .4, at-loop-test .loop-test .taken))
 
 add-i : tie.Need-add-i Inv-loop μ-loop
-add-i c = omega (arith, c .before .before .before .before .before .before .before .before .before .before .before .loop-test .taken, c .before .before .before .before .before .before .before .before .before .before .before .before .before .before .before .before .before .before .before .before .before .good .1 .1 .1 .1 .1 .1 .1 .1 .1 .1 .0)
+add-i c =
+    let at-loop-test = c .before .before .before .before .before .before .before .before .before .before .before in
+    let at-start = at-loop-test .before .before .before .before .before .before .before .before .before .before in
+    omega (arith, at-loop-test .loop-test .taken, at-start .good .1 .1 .1 .1 .1 .1 .1 .1 .1 .1 .0)
 
 loop-less : tie.Need-loop-less Inv-loop μ-loop
 loop-less c = search needs
 
 loop-again : tie.Need-loop-again Inv-loop μ-loop
 loop-again c =
-    let s = c .before .before .before .before .before .before .before .before .before .before .before .before .before .before .before .before .before .before .before .before .before in
+    let at-take-byte = c .before .before .before .before .before .before in
+    let at-loop-test = at-take-byte .before .before .before .before .before in
+    let at-loop = at-loop-test .before in
+    let s = at-loop .before .before .before .before .before .before .before .before .before in
     let a = s .args in
     let x = slicesOf (a .number) (a .probes) (a .links) (a .needs .now) (a .lows .now) (a .highs .now) (a .costs .now) in
-    let v = c .before .before .before .before .before .before .before .before .before .before .before .before .loop .inv in
-    let t = c .before .before .before .before .before .before .take-byte in
-    (omega (arith, c .before .before .before .before .before .before .before .before .before .before .before .loop-test .taken), taken-next x 1024 (s .pre .0) (underWay (a .progress) (a .rec .now) (a .line .now)) (a .piece .now) (a .out .now) (c .before .before .before .before .before .before .before .before .before .before .before .before .loop .i) (c .before .before .before .before .before .before .before .before .before .before .before .before .loop .place) _ _ _ _ _ _ _ (c .before .before .before .before .before .before .before .before .before .before .before .loop-test .taken) (v .1) (t .ensures), t .kept .1 .1 .1 .1 .1 .1 .1 .0 ∙ v .2, t .kept .1 .1 .1 .1 .1 .1 .1 .1 .0 ∙ v .3, t .kept .1 .1 .1 .1 .1 .1 .1 .1 .1 .1 .0 ∙ v .4)
+    let v = at-loop .loop .inv in
+    let t = at-take-byte .take-byte in
+    (omega (arith, at-loop-test .loop-test .taken), taken-next x 1024 (s .pre .0) (underWay (a .progress) (a .rec .now) (a .line .now)) (a .piece .now) (a .out .now) (at-loop .loop .i) (at-loop .loop .place) _ _ _ _ _ _ _ (at-loop-test .loop-test .taken) (v .1) (t .ensures), t .kept .1 .1 .1 .1 .1 .1 .1 .0 ∙ v .2, t .kept .1 .1 .1 .1 .1 .1 .1 .1 .0 ∙ v .3, t .kept .1 .1 .1 .1 .1 .1 .1 .1 .1 .1 .0 ∙ v .4)
 
 same-length : tie.Need-same-length Inv-loop μ-loop
 same-length c = search needs
