@@ -1,1 +1,2 @@
+pub mod EndsBelow
 pub mod Turns

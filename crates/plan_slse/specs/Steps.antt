@@ -1,10 +1,14 @@
 -- One link's turn, on the plan's bytes and the counts of links by probe.
 use Prim.Native.Nat.{ℕ, _+_, _-_}
-use mathlib.Core.Bool.{Bool, _&&_, _||_}
+use mathlib.Core.Bool.{Bool, cond, _&&_, _||_}
 use mathlib.Core.List.{List}
 use lib.Dec.{ltb}
 use Rattle.table.specs.Table.{item}
 use Rattle.range.specs.Lists.{changedAt}
+
+-- at how many of two ends the entry of a is below that of b
+abbrev pub endsBelow : List ℕ → List ℕ → ℕ → ℕ → ℕ
+endsBelow a b low high = cond (ltb (item a low) (item b low)) 1 0 + cond (ltb (item a high) (item b high)) 1 0
 
 -- an end has fewer links than it needs
 abbrev pub eitherShort : List ℕ → List ℕ → ℕ → ℕ → Bool

@@ -4,28 +4,23 @@ ghost use mathlib.Core.Bool.{cond, _&&_};
 ghost use Prim.Native.Nat.{_<_};
 ghost use lib.ListN.{length, getD, set};
 ghost use Rattle.plan_slse.specs.FromDearest.{isKept};
-ghost use Rattle.plan_slse.specs.Steps.{eitherShort, bothOver, oneMore, oneLess};
+ghost use Rattle.plan_slse.specs.Steps.{endsBelow, eitherShort, bothOver, oneMore, oneLess};
 
-// Whether an end has fewer links than it needs.
-fn either_short(counts: &[u16], needs: &[u16], low: usize, high: usize) -> bool
-    requires { ⌜ (low < length (now counts)) × (high < length (now counts)) × (low < length (now needs)) × (high < length (now needs)) ⌝ }
-    ensures { λ r. ⌜ r ≡ eitherShort (now (counts .entry)) (now (needs .entry)) low high ⌝ }
+// At how many of two ends the entry of `a` is below that of `b`.
+fn ends_below(a: &[u16], b: &[u16], low: usize, high: usize) -> u8
+    requires { ⌜ (low < length (now a)) × (high < length (now a)) × (low < length (now b)) × (high < length (now b)) ⌝ }
+    ensures { λ r. ⌜ r ≡ endsBelow (now (a .entry)) (now (b .entry)) low high ⌝ }
 {
-    if counts[low] < needs[low] {
-        return true;
+    if a[low] < b[low] {
+        if a[high] < b[high] {
+            return 2;
+        }
+        return 1;
     }
-    counts[high] < needs[high]
-}
-
-// Whether both ends have more links than they need.
-fn both_over(counts: &[u16], needs: &[u16], low: usize, high: usize) -> bool
-    requires { ⌜ (low < length (now counts)) × (high < length (now counts)) × (low < length (now needs)) × (high < length (now needs)) ⌝ }
-    ensures { λ r. ⌜ r ≡ bothOver (now (counts .entry)) (now (needs .entry)) low high ⌝ }
-{
-    if counts[low] <= needs[low] {
-        return false;
+    if a[high] < b[high] {
+        return 1;
     }
-    needs[high] < counts[high]
+    0
 }
 
 // Adds a link that has an end short of its need.
@@ -43,7 +38,7 @@ pub fn add_link(
         ⌜ (now (plan .exit) ≡ cond adds (set (now (plan .entry)) i 1) (now (plan .entry)))
         × (now (counts .exit) ≡ cond adds (oneMore (now (counts .entry)) low high) (now (counts .entry))) ⌝ }
 {
-    if !either_short(counts, needs, low, high) {
+    if ends_below(counts, needs, low, high) == 0 {
         return;
     }
     plan[i] = 1;
@@ -68,7 +63,7 @@ pub fn remove_link(
     if plan[i] != 1 {
         return;
     }
-    if !both_over(counts, needs, low, high) {
+    if ends_below(needs, counts, low, high) != 2 {
         return;
     }
     plan[i] = 0;

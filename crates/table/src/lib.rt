@@ -7,6 +7,23 @@ pub mod checks;
 pub mod degrees;
 pub mod numbers;
 
+// The closing line: the text's reader compares with it, and the writers write it.
+pub const CLOSING: [u8; 5] = *b"ffff\n";
+
+// The bytes of each line of a table's text, with its line feed.
+pub const HEADER_BYTES: usize = 13;
+
+pub const NEED_BYTES: usize = 5;
+
+pub const LINK_BYTES: usize = 13;
+
+pub const CLOSING_BYTES: usize = 5;
+
+// Where the second and the third field of the first link line stand in a text without need lines; the first is behind the header.
+pub const FIRST_HIGH: usize = 17;
+
+pub const FIRST_COST: usize = 21;
+
 // A table's answer: fine, or the number of its refusal.
 pub enum Checking {
     Fine,
@@ -42,6 +59,3 @@ pub fn check_table(
         Checking::Refused(fault)
     }
 }
-
-// The closing line: the text's reader compares with it, and the writers write it.
-pub const CLOSING: [u8; 5] = *b"ffff\n";

@@ -1,5 +1,11 @@
 // A text read within limits: its answer, and its fields stored. The public readers call these, and so do readers with other limits.
 use super::Reading;
+use table::CLOSING_BYTES;
+use table::FIRST_COST;
+use table::FIRST_HIGH;
+use table::HEADER_BYTES;
+use table::LINK_BYTES;
+use table::NEED_BYTES;
 ghost use mathlib.Core.Path.{_≡_};
 ghost use mathlib.Core.Bool.{true};
 ghost use Prim.Native.Nat.{_+_, _*_, _≤_};
@@ -48,7 +54,7 @@ fn answer(text: &[u8]) -> Reading
         number: number as u16,
         probes: probes as u16,
         links: links as u16,
-        rest: 13 + 5 * probes + 13 * links + 5,
+        rest: HEADER_BYTES + NEED_BYTES * probes + LINK_BYTES * links + CLOSING_BYTES,
     }
 }
 
@@ -69,10 +75,28 @@ fn fill_table(
 {
     let probes = hex::fields::number(text, 4, 4);
     let links = hex::fields::number(text, 8, 4);
-    table_text::text_checks::fill(text, 13, 5, probes, needs);
-    table_text::text_checks::fill(text, 13 + 5 * probes, 13, links, lows);
-    table_text::text_checks::fill(text, 17 + 5 * probes, 13, links, highs);
-    table_text::text_checks::fill(text, 21 + 5 * probes, 13, links, costs);
+    table_text::text_checks::fill(text, HEADER_BYTES, NEED_BYTES, probes, needs);
+    table_text::text_checks::fill(
+        text,
+        HEADER_BYTES + NEED_BYTES * probes,
+        LINK_BYTES,
+        links,
+        lows,
+    );
+    table_text::text_checks::fill(
+        text,
+        FIRST_HIGH + NEED_BYTES * probes,
+        LINK_BYTES,
+        links,
+        highs,
+    );
+    table_text::text_checks::fill(
+        text,
+        FIRST_COST + NEED_BYTES * probes,
+        LINK_BYTES,
+        links,
+        costs,
+    );
 }
 
 // Reads a text within the limits pmax and lmax; `more`: whether it may go on behind its closing line.

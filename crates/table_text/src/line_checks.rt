@@ -1,4 +1,7 @@
 // 1 to 6 of a table's text, line by line.
+use table::HEADER_BYTES;
+use table::LINK_BYTES;
+use table::NEED_BYTES;
 ghost use mathlib.Core.Path.{_≡_};
 ghost use mathlib.Core.Bool.{true};
 ghost use Prim.Native.Nat.{_+_, _*_, _<_, _≤_};
@@ -29,7 +32,7 @@ pub fn need_lines_fault(text: &[u8], probes: usize) -> u8
 {
     let mut v = 0;
     while v < probes {
-        let fault = lines::line_fault(text, 13 + 5 * v, 4);
+        let fault = lines::line_fault(text, HEADER_BYTES + NEED_BYTES * v, 4);
         if fault != 0 {
             return fault;
         }
@@ -43,7 +46,7 @@ fn link_line_fault(text: &[u8], probes: usize, i: usize) -> u8
     requires { ⌜ (probes ≡ ofText (now text) .probes) × (probes ≤ 65535) × (i ≤ 65535) ⌝ }
     ensures { λ r. ⌜ r ≡ linkLineFault (now (text .entry)) i ⌝ }
 {
-    let at = 13 + 5 * probes + 13 * i;
+    let at = HEADER_BYTES + NEED_BYTES * probes + LINK_BYTES * i;
     let fault = lines::line_fault(text, at, 12);
     if fault != 0 {
         return fault;

@@ -1,4 +1,8 @@
 // The faults of a table's text as a whole, and its numbers stored.
+use table::FIRST_HIGH;
+use table::HEADER_BYTES;
+use table::LINK_BYTES;
+use table::NEED_BYTES;
 ghost use mathlib.Core.Path.{_≡_};
 ghost use Prim.Native.Nat.{ℕ, _+_, _*_, _<_, _≤_};
 ghost use lib.ListN.{length};
@@ -29,9 +33,21 @@ fn needs_fault(text: &[u8], probes: usize, links: usize) -> u8
     let mut needs = [0u16; 256];
     let mut lows = [0u16; 2048];
     let mut highs = [0u16; 2048];
-    fill(text, 13, 5, probes, &mut needs);
-    fill(text, 13 + 5 * probes, 13, links, &mut lows);
-    fill(text, 17 + 5 * probes, 13, links, &mut highs);
+    fill(text, HEADER_BYTES, NEED_BYTES, probes, &mut needs);
+    fill(
+        text,
+        HEADER_BYTES + NEED_BYTES * probes,
+        LINK_BYTES,
+        links,
+        &mut lows,
+    );
+    fill(
+        text,
+        FIRST_HIGH + NEED_BYTES * probes,
+        LINK_BYTES,
+        links,
+        &mut highs,
+    );
     table::checks::needs_fault(probes, links, &needs, &lows, &highs)
 }
 
@@ -48,7 +64,11 @@ fn body_fault(text: &[u8], probes: usize, links: usize, more: bool) -> u8
     if link != 0 {
         return link;
     }
-    let closing = super::line_checks::closing_fault(text, 13 + 5 * probes + 13 * links, more);
+    let closing = super::line_checks::closing_fault(
+        text,
+        HEADER_BYTES + NEED_BYTES * probes + LINK_BYTES * links,
+        more,
+    );
     if closing != 0 {
         return closing;
     }

@@ -1,4 +1,7 @@
 // A table's text, written as a whole.
+use table::HEADER_BYTES;
+use table::LINK_BYTES;
+use table::NEED_BYTES;
 ghost use mathlib.Core.Path.{_≡_};
 ghost use Prim.Native.Nat.{_+_, _≤_};
 ghost use lib.ListN.{length};
@@ -16,7 +19,7 @@ fn put_needs(out: &mut [u8], probes: usize, needs: &[u16])
 {
     let mut v = 0;
     while v < probes {
-        put_need(out, 13 + 5 * v, needs[v]);
+        put_need(out, HEADER_BYTES + NEED_BYTES * v, needs[v]);
         v += 1;
     }
 }
@@ -36,7 +39,13 @@ fn put_links(
 {
     let mut i = 0;
     while i < links {
-        put_triple(out, 13 + 5 * probes + 13 * i, lows[i], highs[i], costs[i]);
+        put_triple(
+            out,
+            HEADER_BYTES + NEED_BYTES * probes + LINK_BYTES * i,
+            lows[i],
+            highs[i],
+            costs[i],
+        );
         i += 1;
     }
 }
@@ -62,5 +71,5 @@ pub fn put_table(
     put_triple(out, 0, number, probes, links);
     put_needs(out, n, needs);
     put_links(out, n, m, lows, highs, costs);
-    put_closing(out, 13 + 5 * n + 13 * m);
+    put_closing(out, HEADER_BYTES + NEED_BYTES * n + LINK_BYTES * m);
 }

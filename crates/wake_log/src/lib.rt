@@ -6,28 +6,6 @@ ghost use Rattle.wake_log.specs.Log.{noEntry};
 pub mod codes;
 pub mod storing;
 
-// Stores an entry at its place; past the log's end nothing is stored.
-pub fn append(log: &mut [Entry], used: usize, e: Entry)
-    ensures { λ _. ⌜ now (log .exit) ≡ set (now (log .entry)) used e ⌝ }
-{
-    if used < log.len() {
-        log[used] = e;
-    }
-}
-
-// The entry at a place; past the log's end the entry of probe 0 with nothing to open.
-pub fn entry_at(log: &[Entry], i: usize) -> Entry
-    ensures { λ r. ⌜ r ≡ getD (now (log .entry)) i noEntry ⌝ }
-{
-    if i < log.len() {
-        return log[i];
-    }
-    Entry {
-        probe: 0,
-        what: What::NothingToOpen,
-    }
-}
-
 // What befell a probe, with the link where there is one, by its place in the table.
 pub enum What {
     Opened(u16),
@@ -48,4 +26,26 @@ pub struct Entry {
 pub enum Answer {
     Logged(Entry),
     Refused(u8),
+}
+
+// Stores an entry at its place; past the log's end nothing is stored.
+pub fn append(log: &mut [Entry], used: usize, e: Entry)
+    ensures { λ _. ⌜ now (log .exit) ≡ set (now (log .entry)) used e ⌝ }
+{
+    if used < log.len() {
+        log[used] = e;
+    }
+}
+
+// The entry at a place; past the log's end the entry of probe 0 with nothing to open.
+pub fn entry_at(log: &[Entry], i: usize) -> Entry
+    ensures { λ r. ⌜ r ≡ getD (now (log .entry)) i noEntry ⌝ }
+{
+    if i < log.len() {
+        return log[i];
+    }
+    Entry {
+        probe: 0,
+        what: What::NothingToOpen,
+    }
 }

@@ -7,18 +7,19 @@ use Prim.Native.Nat.{_+_}
 use native.Mathlib.Omega.{arith}
 use lib.ListN.{length, getD, length-set}
 use lib.Seq.{getD-set-other}
-use borrow.Author.Tests.{not-true, not-false}
 use Rattle.range.specs.Lists.{changedAt}
+use Rattle.plan_slse.proofs.EndsBelow.{none-short, some-short}
 
-either-short-requires : tie.Need-either-short-requires
-either-short-requires c κs = search needs
+ends-below-requires : tie.Need-ends-below-requires
+ends-below-requires c κs = search needs
 
 same-length : tie.Need-same-length
 same-length c = search needs
 
 returns : tie.Need-returns
 returns c =
-    let e = sym (c .before .either-short .ensures) ∙ not-true _ (c .if1 .taken) in
+    let a = c .before .before .before .before .before .before .args in
+    let e = none-short (a .counts .now) (a .needs .now) (a .low) (a .high) _ (c .before .ends-below .ensures) (c .if1 .taken) in
     (rw e, rw e)
 
 slice-write-plan : tie.Need-slice-write-plan
@@ -43,15 +44,17 @@ same-length-3 c = search needs
 
 returns-2 : tie.Need-returns-2
 returns-2 c =
-    let e = sym (c .before .before .before .before .before .before .before .before .before .either-short .ensures) ∙ not-false _ (c .before .before .before .before .before .before .before .before .if1 .left) in
-    let q = c .before .before .add-one2 .ensures ∙ ap (λ x. changedAt (λ n. n + 1) x (c .before .before .before .before .before .before .before .before .before .before .before .before .before .before .args .high)) (c .before .before .before .before .before .before .add-one .ensures) in
+    let a = c .before .before .before .before .before .before .before .before .before .before .before .before .before .before .args in
+    let at-test = c .before .before .before .before .before .before .before .before in
+    let e = some-short (a .counts .now) (a .needs .now) (a .low) (a .high) _ (at-test .before .ends-below .ensures) (at-test .if1 .left) in
+    let q = c .before .before .add-one2 .ensures ∙ ap (λ x. changedAt (λ n. n + 1) x (a .high)) (c .before .before .before .before .before .before .add-one .ensures) in
     (rw e, rw e q)
 
 pub add-link-spec : {M : Type 1} → statement M
 add-link-spec =
     tie.close
     (tie.spec
-    either-short-requires
+    ends-below-requires
     same-length
     returns
     slice-write-plan
