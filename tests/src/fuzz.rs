@@ -134,7 +134,7 @@ fn plan_input(random: &mut Random) -> Vec<u8> {
 /// A script that follows the bargaining; one in forty is longer than the log.
 fn followed(table: &Table, random: &mut Random) -> Vec<u8> {
     let lines = match random.one_in(40) {
-        true => 1_200 + random.below(800),
+        true => 1_201 + random.below(800),
         false => random.below(10 * table.links.len().min(20) + 10),
     };
     let mix = match random.one_in(2) {

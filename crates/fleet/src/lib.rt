@@ -111,7 +111,7 @@ pub fn changes_of(what: wake_log::What) -> u8
 }
 
 // A refusal of a line's ends, 0 for none, and for a frame the link between them.
-pub struct Ends {
+pub struct LineEnds {
     pub fault: u8,
     pub link: usize,
 }

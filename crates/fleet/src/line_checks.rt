@@ -1,5 +1,5 @@
 // A line to a fleet: its checks, and what it says.
-use super::Ends;
+use super::LineEnds;
 ghost use mathlib.Core.Path.{_≡_};
 ghost use mathlib.Core.Bool.{false, cond};
 ghost use mathlib.Core.List.{[]};
@@ -13,10 +13,10 @@ ghost use Rattle.probe_rules.specs.Within.{EventWithin};
 ghost use Rattle.table_links.specs.RisingSlices.{RisingSlices};
 ghost use Rattle.fleet_theory.specs.Fleet.{own, eventEndsFault, eventLineFault, unsentFault};
 
-fn refused(fault: u8) -> Ends
+fn refused(fault: u8) -> LineEnds
     ensures { λ r. ⌜ r ≡ record { fault = fault; link = 0 } ⌝ }
 {
-    Ends { fault, link: 0 }
+    LineEnds { fault, link: 0 }
 }
 
 // 24, of a line's kind and ends.
@@ -28,7 +28,7 @@ fn find_ends(
     kind: usize,
     from: usize,
     to: usize,
-) -> Ends
+) -> LineEnds
     requires { ⌜ RisingSlices links (now lows) (now highs) ⌝ }
     ensures { λ r. let t = ofSlices 0 probes links [] (now (lows .entry)) (now (highs .entry)) [] in
         ⌜ (r .fault ≡ eventEndsFault t (record { kind = kind; number = 0; from = from; to = to }))
@@ -47,7 +47,7 @@ fn find_ends(
     if links <= link {
         return refused(24);
     }
-    Ends { fault: 0, link }
+    LineEnds { fault: 0, link }
 }
 
 // 1, 2, 9, 23, 24 of a line.
@@ -58,7 +58,7 @@ pub fn check_line(
     lows: &[u16],
     highs: &[u16],
     line: &[u8],
-) -> Ends
+) -> LineEnds
     requires { ⌜ RisingSlices links (now lows) (now highs) ⌝ }
     ensures { λ r. let t = ofSlices number probes links [] (now (lows .entry)) (now (highs .entry)) [] in
         let f = frameOf (now (line .entry)) in

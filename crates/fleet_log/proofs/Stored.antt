@@ -12,9 +12,9 @@ use Rattle.fleet_theory.specs.Fleet.{eventFault, outcomeOf}
 use Rattle.table.specs.Slices.{Slices, tableOf}
 use Rattle.fleet_log.specs.Logged.{ToldLine, LogsInFleet}
 
-pub stored : (x : Slices) (used : ℕ) (line : List ℕ) (r : Told) (before after : List ℕ) (log log′ : List Entry)
+pub line-stored : (x : Slices) (used : ℕ) (line : List ℕ) (r : Told) (before after : List ℕ) (log log′ : List Entry)
     → ToldLine x used (length log) line r before after → log′ ≡ set log (r .at) (r .entry)
     → LogsInFleet x used line (r .answer) before after log log′
-stored x used line r before after log log′ c s =
-    let is = wake.stored (eventFault x before used (length log) line) used (entryOf (tableOf x) (frameOf line .to) (outcomeOf (tableOf x) before (frameOf line))) r log log′ (c .told) s in
+line-stored x used line r before after log log′ c s =
+    let is = wake.entry-stored (eventFault x before used (length log) line) used (entryOf (tableOf x) (frameOf line .to) (outcomeOf (tableOf x) before (frameOf line))) r log log′ (c .told) s in
     record { handled = record { answer = is .0; record-after = c .record-after }; log-after = is .1 }

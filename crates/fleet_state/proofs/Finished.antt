@@ -17,9 +17,9 @@ use Rattle.table.specs.Table.{Table, item, degree, dearer}
 use Rattle.table.specs.Legal.{Legal}
 use Rattle.table.proofs.LegalLaws.{legal-table}
 use Rattle.probe_record.specs.Record.{outbound, ownWith}
-use Rattle.fleet_theory.specs.Fleet.{own, opens, alters, finished}
+use Rattle.fleet_theory.specs.Fleet.{own, wouldOpen, alters, finished, mayAlter}
 use Rattle.fleet_theory.proofs.Bytes.{first-byte, second-byte, third-byte, fourth-byte}
-use Rattle.fleet_state.specs.Altering.{mayOpen, mayAlter}
+use Rattle.fleet_state.specs.Opening.{mayOpen}
 use Rattle.fleet_state.proofs.CountLaws.{countedAt, outs-counted}
 
 -- a set with a member is not empty
@@ -66,7 +66,7 @@ altersOf r i = mayAlter (item r (4 * i)) (item r (4 * i + 1)) || mayAlter (item 
 module _ (t : Table) (r : List ℕ) where
   -- an opening of v would open a link, by its counts
   pub open-counted : (v d s u : ℕ) → d ≡ degree t v → s ≡ countedAt (t .low) (t .high) r 0 2 1 (t .links) v → u ≡ countedAt (t .low) (t .high) r 0 2 0 (t .links) v
-      → mayOpen s (d - t .need v) u ≡ opens t r v
+      → mayOpen s (d - t .need v) u ≡ wouldOpen t r v
   open-counted v d s u ed es eu =
       rw (ed, es ∙ outs-counted t r v 1, eu ∙ outs-counted t r v 0, best-some (dearer t) (ownWith t v (outbound (own t v r)) 0) (t .links) (t .links) (omega arith))
 
@@ -75,14 +75,14 @@ module _ (t : Table) (r : List ℕ) where
       let s = legal-table 256 2048 t legal in
       rw (first-byte t s r i l, second-byte t s r i l, third-byte t s r i l, fourth-byte t s r i l)
 
-  pub finished-is : Legal t → finished t r ≡ (eqb (count (t .probes) (opens t r)) 0 && eqb (count (t .links) (altersOf r)) 0)
+  pub finished-is : Legal t → finished t r ≡ (eqb (count (t .probes) (wouldOpen t r)) 0 && eqb (count (t .links) (altersOf r)) 0)
   unfolding finished
   finished-is legal =
       rw (weigh-same (t .links) (altersOf r) (λ i. alters t r (t .low i) (t .high i) i || alters t r (t .high i) (t .low i) i) (λ i. 1) (alters-at legal))
 
   pub not-finished : Legal t → (b : Bool) → b ≡ eqb (count (t .links) (altersOf r)) 0 → b ≡ false → false ≡ finished t r
   not-finished legal b e z =
-      sym (finished-is legal ∙ rw (sym e ∙ z) (and-false (eqb (count (t .probes) (opens t r)) 0)))
+      sym (finished-is legal ∙ rw (sym e ∙ z) (and-false (eqb (count (t .probes) (wouldOpen t r)) 0)))
 
-  pub finished-counted : Legal t → (b d : Bool) → b ≡ eqb (count (t .links) (altersOf r)) 0 → b ≡ true → d ≡ eqb (count (t .probes) (opens t r)) 0 → d ≡ finished t r
-  finished-counted legal b d e z f = f ∙ sym (finished-is legal ∙ rw (sym e ∙ z) (and-true (eqb (count (t .probes) (opens t r)) 0)))
+  pub finished-counted : Legal t → (b d : Bool) → b ≡ eqb (count (t .links) (altersOf r)) 0 → b ≡ true → d ≡ eqb (count (t .probes) (wouldOpen t r)) 0 → d ≡ finished t r
+  finished-counted legal b d e z f = f ∙ sym (finished-is legal ∙ rw (sym e ∙ z) (and-true (eqb (count (t .probes) (wouldOpen t r)) 0)))

@@ -1,4 +1,4 @@
--- What a legal table gives.
+-- What a legal table gives without its costs.
 use Prim.Native.Nat.{ℕ, _<_}
 use mathlib.Core.List.{List, []}
 use native.Mathlib.Omega.{arith}

@@ -1,3 +1,3 @@
 pub mod Within
 pub mod Faults
-pub mod Altering
+pub mod Opening

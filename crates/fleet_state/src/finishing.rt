@@ -7,9 +7,9 @@ ghost use lib.Dec.{eqb};
 ghost use lib.ListN.{length};
 ghost use Rattle.range.specs.Sum.{count};
 ghost use Rattle.table.specs.Table.{item, ofSlices};
-ghost use Rattle.fleet_theory.specs.Fleet.{finished};
+ghost use Rattle.fleet_theory.specs.Fleet.{finished, mayAlter};
 ghost use Rattle.fleet_state.specs.Within.{LegalWithoutCosts};
-ghost use Rattle.fleet_state.specs.Altering.{mayOpen, mayAlter};
+ghost use Rattle.fleet_state.specs.Opening.{mayOpen};
 
 // Whether a frame that may be sent would alter a byte.
 fn may_alter(out: u8, into: u8) -> bool

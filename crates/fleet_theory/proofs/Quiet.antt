@@ -22,7 +22,7 @@ use Rattle.probe_record.proofs.SearchLaws.{dearest}
 use Rattle.probe_frame.specs.Frame.{Frame, frameOf}
 use Rattle.fleet_theory.proofs.EndState.{onesAt, Quiet}
 use Rattle.table.proofs.LegalLaws.{legal-table}
-use Rattle.fleet_theory.specs.Fleet.{own, eventLineFault, alteredBy, opens, alters, finished}
+use Rattle.fleet_theory.specs.Fleet.{own, eventLineFault, alteredBy, wouldOpen, alters, finished}
 use Rattle.fleet_theory.specs.Demand3.{MaySend}
 use Rattle.fleet_theory.proofs.Own.{outOf, inOf}
 use Rattle.fleet_theory.proofs.Events.{Says, an-opening, an-offer, a-refusal, says, may-offer, may-refuse}
@@ -34,7 +34,7 @@ module _ (t : Table) (legal : Legal t) (r : List ℕ) where
   abbrev altering : ℕ → Bool
   altering i = alters t r (t .low i) (t .high i) i || alters t r (t .high i) (t .low i) i
 
-  quiet-opens : BothQuiet → (p : ℕ) → opens t r p ≡ true → ⊥
+  quiet-opens : BothQuiet → (p : ℕ) → wouldOpen t r p ≡ true → ⊥
   quiet-opens quiet p e = go (dearest t legal p (own t p r))
     where
       i : ℕ
@@ -72,7 +72,7 @@ module _ (t : Table) (legal : Legal t) (r : List ℕ) where
   pub quiet-finished : BothQuiet → finished t r ≡ true
   unfolding finished
   quiet-finished quiet =
-      and-intro (eq-eqb (count (t .probes) (opens t r)) 0 (none-count (t .probes) (opens t r) (λ p l. quiet-opens quiet p)))
+      and-intro (eq-eqb (count (t .probes) (wouldOpen t r)) 0 (none-count (t .probes) (wouldOpen t r) (λ p l. quiet-opens quiet p)))
       (eq-eqb (count (t .links) altering) 0 (none-count (t .links) altering (λ i l e. go i l (or-cases (alters t r (t .low i) (t .high i) i) (alters t r (t .high i) (t .low i) i) e))))
     where
       go : (i : ℕ) → i < t .links → (alters t r (t .low i) (t .high i) i ≡ true) ⊎ (alters t r (t .high i) (t .low i) i ≡ true) → ⊥
@@ -89,7 +89,7 @@ module _ (t : Table) (legal : Legal t) (r : List ℕ) where
       }
     where
       no-opens : Bool
-      no-opens = eqb (count (t .probes) (opens t r)) 0
+      no-opens = eqb (count (t .probes) (wouldOpen t r)) 0
 
       no-alters : Bool
       no-alters = eqb (count (t .links) altering) 0
@@ -104,7 +104,7 @@ module _ (t : Table) (legal : Legal t) (r : List ℕ) where
       opened p i l at z (yes m) (chosen k y h) =
           absurd (true≢false
           (sym (and-intro (lt-ltb (standing t p (own t p r)) (spare t p) m) (lt-ltb (dearestUntried t p (own t p r)) (t .links) k))
-          ∙ count-none (t .probes) (opens t r) (eqb-true (count (t .probes) (opens t r)) 0 (and-left no-opens no-alters e)) p (below p i l at)))
+          ∙ count-none (t .probes) (wouldOpen t r) (eqb-true (count (t .probes) (wouldOpen t r)) 0 (and-left no-opens no-alters e)) p (below p i l at)))
 
       none : (i : ℕ) → i < t .links → altering i ≡ false
       none = count-none (t .links) altering (eqb-true (count (t .links) altering) 0 (and-right no-opens no-alters e))
@@ -133,9 +133,9 @@ module _ (t : Table) (legal : Legal t) (r : List ℕ) where
       f = frameOf l
 
       go : Says t f → (f .kind ≡ 0) ⊎ MaySend t r f → alteredBy t r f ≡ r
-      go (an-opening k b v) u = shut (decided (opens t r (f .to)))
+      go (an-opening k b v) u = shut (decided (wouldOpen t r (f .to)))
         where
-          shut : (opens t r (f .to) ≡ true) ⊎ (opens t r (f .to) ≡ false) → alteredBy t r f ≡ r
+          shut : (wouldOpen t r (f .to) ≡ true) ⊎ (wouldOpen t r (f .to) ≡ false) → alteredBy t r f ≡ r
           shut (inl a) = absurd (quiet-opens quiet (f .to) a)
           shut (inr a) = rw (v, a)
       go (an-offer i k b x v is) (inl z) = absurd (omega arith)

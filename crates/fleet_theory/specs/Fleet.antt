@@ -139,18 +139,19 @@ abbrev pub allChanges : Slices → ℕ → State → List (List ℕ) → ℕ
 allChanges x room s ls = sum (x .links) (changes x room s ls)
 
 -- an opening of the probe would open a link
-abbrev pub opens : Table → List ℕ → ℕ → Bool
-opens t r p = ltb (standing t p (own t p r)) (spare t p) && ltb (dearestUntried t p (own t p r)) (t .links)
+abbrev pub wouldOpen : Table → List ℕ → ℕ → Bool
+wouldOpen t r p = ltb (standing t p (own t p r)) (spare t p) && ltb (dearestUntried t p (own t p r)) (t .links)
 
--- an offer that may be sent is unseen, or a refusal that may be sent is not learnt: from the probe p to the probe q on the link i
+-- by an outbound byte and the other end's inbound byte, a frame that may be sent would alter a byte: an offer is unseen, or a refusal is not learnt
+abbrev pub mayAlter : ℕ → ℕ → Bool
+mayAlter out into = (eqb out 1 && eqb into 0) || (eqb into 2 && not (eqb out 2))
+
+-- from the probe p to the probe q on the link i
 abbrev pub alters : Table → List ℕ → ℕ → ℕ → ℕ → Bool
-alters t r p q i =
-    let a = own t p r in
-    let b = own t q r in
-    (eqb (outbound a i) 1 && eqb (inbound b i) 0) || (eqb (inbound b i) 2 && not (eqb (outbound a i) 2))
+alters t r p q i = mayAlter (outbound (own t p r) i) (inbound (own t q r) i)
 
 -- "Finished means .. that no opening and no sendable frame would alter a record byte by these rules"
 unfoldable pub finished : Table → List ℕ → Bool
 finished t r =
-    eqb (count (t .probes) (opens t r)) 0
+    eqb (count (t .probes) (wouldOpen t r)) 0
     && eqb (count (t .links) (λ i. alters t r (t .low i) (t .high i) i || alters t r (t .high i) (t .low i) i)) 0

@@ -11,8 +11,7 @@ use Rattle.range.specs.Lists.{stored}
 use Rattle.range.proofs.Sums.{weigh-same}
 use Rattle.range.proofs.Lists.{stored-at}
 use Rattle.table.specs.Table.{Table, item, ofSlices, dearer}
-use Rattle.plan_theory.specs.Plan.{kept, rested}
-use Rattle.plan_slse.specs.FromDearest.{planByte}
+use Rattle.plan_theory.specs.Plan.{kept, rested, planByte}
 use Rattle.plan_methods.specs.Planning.{Plans, PlansAndClears}
 use Rattle.plan_methods.specs.declared.Planning.{Planning}
 use Rattle.plan_methods.specs.declared.Planning.the-variants.{Plan, Refused}

@@ -10,8 +10,7 @@ use Rattle.range.specs.Lists.{stored}
 use Rattle.table.specs.Table.{Table}
 use Rattle.table.specs.Legal.{lentFault}
 use Rattle.table.specs.Slices.{Slices, tableOf, sliceFault}
-use Rattle.plan_theory.specs.Plan.{kept, keptCount, costOf}
-use Rattle.plan_slse.specs.FromDearest.{planByte}
+use Rattle.plan_theory.specs.Plan.{kept, keptCount, costOf, planByte}
 use Rattle.plan_methods.specs.declared.Planning.{Planning}
 use Rattle.plan_methods.specs.declared.Planning.the-variants.{Plan, Refused}
 

@@ -6,7 +6,7 @@ ghost use lib.Dec.{eqb};
 ghost use lib.ListN.{length};
 ghost use Rattle.range.specs.Sum.{weigh, count};
 ghost use Rattle.table.specs.Table.{item};
-ghost use Rattle.plan_slse.specs.FromDearest.{isKept};
+ghost use Rattle.plan_theory.specs.Plan.{isKept};
 
 // What a link counts where its byte says that it is kept.
 fn counted(byte: u8, value: u16) -> u32

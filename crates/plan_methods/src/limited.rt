@@ -8,8 +8,7 @@ ghost use Rattle.range.specs.Lists.{stored};
 ghost use Rattle.table.specs.Table.{item, ofSlices};
 ghost use Rattle.table.specs.Slices.{slicesOf};
 ghost use Rattle.table.specs.Legal.{tableFault, roomFault};
-ghost use Rattle.plan_theory.specs.Plan.{kept};
-ghost use Rattle.plan_slse.specs.FromDearest.{planByte, isKept};
+ghost use Rattle.plan_theory.specs.Plan.{kept, planByte, isKept};
 ghost use Rattle.plan_methods.specs.Planning.{PlansBySlse, PlansByTurns};
 ghost use Rattle.plan_methods.specs.declared.Planning.the-variants.{Plan};
 

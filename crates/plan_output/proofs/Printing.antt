@@ -17,8 +17,7 @@ use Rattle.table.specs.Table.{Table, item}
 use Rattle.table.specs.Text.{closingLine, tripleLine}
 use Rattle.table.proofs.Lengths.{length-triple}
 use Rattle.range.proofs.Sets.{sets-then}
-use Rattle.plan_theory.specs.Plan.{kept, keptCount, costOf}
-use Rattle.plan_slse.specs.FromDearest.{planByte}
+use Rattle.plan_theory.specs.Plan.{kept, keptCount, costOf, planByte}
 use Rattle.plan_output.specs.Output.{headLine, keptLines, planText}
 
 -- Lengths.

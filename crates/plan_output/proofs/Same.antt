@@ -12,7 +12,7 @@ use Rattle.table.specs.Table.{Table, touches, degree, dearer}
 use Rattle.table.specs.Legal.{tableFault}
 use Rattle.table.specs.Text.{closingLine, tripleLine}
 use Rattle.table.proofs.Same.{degree-same}
-use Rattle.table_laws.specs.Same.{Same}
+use Rattle.table.specs.Same.{Same}
 use Rattle.plan_theory.specs.Pass.{passAfter, pass}
 use Rattle.plan_theory.specs.Plan.{linksAt, hasMore, rested, kept, keptCount, costOf}
 use Rattle.table.proofs.LegalLaws.{legal-table}

@@ -10,7 +10,7 @@ ghost use Rattle.range.specs.Sum.{count};
 ghost use Rattle.range.specs.Lists.{joined};
 ghost use Rattle.table.specs.Table.{item};
 ghost use Rattle.table.specs.Text.{tripleLine};
-ghost use Rattle.plan_slse.specs.FromDearest.{isKept};
+ghost use Rattle.plan_theory.specs.Plan.{isKept};
 ghost use Rattle.plan_output.specs.Output.{headLine};
 
 // A plan's first line.

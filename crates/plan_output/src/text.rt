@@ -1,5 +1,7 @@
 // The whole output of a plan.
 use output::Output;
+use table::CLOSING_BYTES;
+use table::LINK_BYTES;
 ghost use mathlib.Core.Path.{_≡_};
 ghost use Prim.Native.Nat.{_+_, _*_};
 ghost use lib.ListN.{length};
@@ -28,13 +30,13 @@ pub fn print_plan(
     let mut plan = [0u8; 2048];
     plan_methods::limited::slse_plan(&mut plan, probes, links, needs, lows, highs, costs);
     let kept = plan_methods::counts::kept_count(&plan, links);
-    let end = 17 + 13 * (kept as usize);
-    if out.len() < end + 5 {
+    let end = 17 + LINK_BYTES * (kept as usize);
+    if out.len() < end + CLOSING_BYTES {
         return Output::Refused(8);
     }
     let cost = plan_methods::counts::kept_cost(&plan, links, costs);
     super::plan_lines::put_head(out, number, kept, cost);
     super::plan_lines::put_kept(out, &plan, links, lows, highs, costs);
     table_write::line::put_closing(out, end);
-    Output::Length(end + 5)
+    Output::Length(end + CLOSING_BYTES)
 }

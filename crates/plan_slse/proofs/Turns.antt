@@ -17,14 +17,14 @@ use Rattle.table.specs.Table.{Table, item, ofSlices, touches, dearer, cheaper}
 use Rattle.table.specs.Legal.{tableFault, Ends, Size, RisingLinks, LegalTable}
 use Rattle.table.proofs.DegreeLaws.{ends-changed}
 use Rattle.plan_theory.specs.Pass.{place, passAfter}
-use Rattle.plan_theory.specs.Plan.{linksAt, isShort, added, hasMoreAdded, removed, slse, kept}
+use Rattle.plan_theory.specs.Plan.{linksAt, isShort, added, hasMoreAdded, removed, slse, kept, planByte}
 use Rattle.plan_theory.proofs.Places.{Order, reversed, place-opposite}
 use Rattle.plan_theory.proofs.Order.{dearer-order}
 use Rattle.table.proofs.LegalLaws.{legal-table}
 use Rattle.plan_theory.proofs.Plan.{at-same}
 use Rattle.plan_theory.proofs.Slse.{slse-is-plan}
 use Rattle.plan_theory.proofs.Pass.{early, pass-step}
-use Rattle.plan_slse.specs.FromDearest.{InOrder, OrderFits, planByte}
+use Rattle.plan_slse.specs.FromDearest.{InOrder, OrderFits}
 use Rattle.plan_slse.specs.Steps.{eitherShort, bothOver, oneMore, oneLess}
 
 and-false : (b : Bool) → (b && false) ≡ false

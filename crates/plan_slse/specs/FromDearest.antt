@@ -1,9 +1,7 @@
 -- Links that stand from dearest to cheapest.
 use Prim.Native.Nat.{ℕ, _≤_, _<_}
 use mathlib.Core.Path.{_≡_}
-use mathlib.Core.Bool.{cond, Bool}
 use mathlib.Core.List.{List}
-use lib.Dec.{eqb}
 use lib.ListN.{length}
 use Rattle.table.specs.Table.{Table, item, dearer}
 use Rattle.table.specs.Legal.{Ends, tableFault}
@@ -26,11 +24,3 @@ pub record OrderFits (links counts needs : ℕ) (order lows highs : List ℕ) : 
   pub below : (k : ℕ) → k < links → item order k < links
   pub counted : (i : ℕ) → i < links → Ends counts (item lows i) (item highs i)
   pub needed : (i : ℕ) → i < links → item highs i < needs
-
--- a plan buffer's byte: "1 kept and 0 rested"
-abbrev pub planByte : Bool → ℕ
-planByte b = cond b 1 0
-
--- the plan buffer keeps the link i
-abbrev pub isKept : List ℕ → ℕ → Bool
-isKept plan i = eqb (item plan i) 1

@@ -3,7 +3,7 @@ ghost use mathlib.Core.Path.{_≡_};
 ghost use mathlib.Core.Bool.{cond, _&&_};
 ghost use Prim.Native.Nat.{_<_};
 ghost use lib.ListN.{length, getD, set};
-ghost use Rattle.plan_slse.specs.FromDearest.{isKept};
+ghost use Rattle.plan_theory.specs.Plan.{isKept};
 ghost use Rattle.plan_slse.specs.Steps.{endsBelow, eitherShort, bothOver, oneMore, oneLess};
 
 // At how many of two ends the entry of `a` is below that of `b`.

@@ -5,8 +5,8 @@ ghost use Prim.Native.Nat.{ℕ, _<_, _≤_};
 ghost use lib.ListN.{length, getD};
 ghost use Rattle.range.specs.Lists.{stored};
 ghost use Rattle.table.specs.Table.{ofSlices};
-ghost use Rattle.plan_theory.specs.Plan.{linksAt, added, slse, kept};
-ghost use Rattle.plan_slse.specs.FromDearest.{InOrder, OrderFits, planByte};
+ghost use Rattle.plan_theory.specs.Plan.{linksAt, added, slse, kept, planByte};
+ghost use Rattle.plan_slse.specs.FromDearest.{InOrder, OrderFits};
 
 // From cheapest up: what a legal table of these links adds, whatever its probe count and costs, if this is their order.
 fn add_links(

@@ -4,10 +4,10 @@ use Rattle.range.specs.Sum.{sum}
 use Rattle.table.specs.Table.{dearer}
 use Rattle.plan_theory.specs.Pass.{passAfter}
 use Rattle.plan_theory.specs.Plan.{rested, added, removed}
-use Rattle.plan_theory.specs.Sites.{ends, Sites}
+use Rattle.plan_theory.specs.Sites.{endsIn, Sites}
 
 pub sites : Sites
-unfolding sum dearer passAfter rested added removed ends
+unfolding sum dearer passAfter rested added removed endsIn
 sites =
     record {
       m1 = record { links-kept = refl; count-kept = refl; cost-kept = refl };

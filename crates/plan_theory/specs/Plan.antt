@@ -1,10 +1,11 @@
 -- The plan, S-LSE, and what a choice of links meets and costs. The sentences are those of demand 2 and of document 01. A set of links is a function ℕ → Bool.
 use Prim.Native.Nat.{ℕ, _-_, _≤_, _<_}
-use mathlib.Core.Bool.{Bool, _&&_, _||_, not}
-use lib.Dec.{ltb}
+use mathlib.Core.Bool.{Bool, _&&_, _||_, not, cond}
+use lib.Dec.{ltb, eqb}
 use Rattle.range.specs.Sum.{weigh, count}
-use Rattle.table.specs.Table.{Table, touches, degree, dearer, cheaper}
+use Rattle.table.specs.Table.{Table, touches, degree, dearer, cheaper, item}
 use Rattle.plan_theory.specs.Pass.{pass}
+use mathlib.Core.List.{List}
 
 -- how many links of the set v is an end of
 abbrev pub linksAt : Table → (ℕ → Bool) → ℕ → ℕ
@@ -21,6 +22,14 @@ rested t i = pass (t .links) (dearer t) (λ r g. hasMore t r (t .low g) && hasMo
 -- "The plan is what remains"
 abbrev pub kept : Table → ℕ → Bool
 kept t i = not (rested t i)
+
+-- a plan buffer's byte: "1 kept and 0 rested"
+abbrev pub planByte : Bool → ℕ
+planByte b = cond b 1 0
+
+-- the plan buffer keeps the link i
+abbrev pub isKept : List ℕ → ℕ → Bool
+isKept plan i = eqb (item plan i) 1
 
 -- "The answer holds the kept count and total cost"
 abbrev pub keptCount : Table → ℕ

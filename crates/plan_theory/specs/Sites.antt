@@ -12,20 +12,20 @@ abbrev pub site : List ℕ → List ℕ → List ℕ → List ℕ → Table
 site needs lows highs costs = ofSlices 1 (length needs) (length costs) needs lows highs costs
 
 -- the low and high ends of the first n links that are in the set
-unfoldable pub ends : Table → (ℕ → Bool) → ℕ → List (ℕ × ℕ)
-ends t s zero = []
-ends t s (suc n) = ends t s n ++ cond (s n) ((t .low n, t .high n) ∷ []) []
+unfoldable pub endsIn : Table → (ℕ → Bool) → ℕ → List (ℕ × ℕ)
+endsIn t s zero = []
+endsIn t s (suc n) = endsIn t s n ++ cond (s n) ((t .low n, t .high n) ∷ []) []
 
 -- the plan's links, their count and their cost
 pub record SitePlan (t : Table) (links : List (ℕ × ℕ)) (cost : ℕ) : Type 0 where
-  pub links-kept : ends t (kept t) (t .links) ≡ links
+  pub links-kept : endsIn t (kept t) (t .links) ≡ links
   pub count-kept : keptCount t ≡ length links
   pub cost-kept : costOf t (kept t) ≡ cost
 
 -- what S-LSE adds, and which of these it removes
 pub record Phases (t : Table) (up down : List (ℕ × ℕ)) : Type 0 where
-  pub adds : ends t (added t) (t .links) ≡ up
-  pub removes : ends t (removed t) (t .links) ≡ down
+  pub adds : endsIn t (added t) (t .links) ≡ up
+  pub removes : endsIn t (removed t) (t .links) ≡ down
 
 -- three links in a row, from 0-1 to 2-3, and a triangle
 abbrev pub row : List ℕ → Table

@@ -12,15 +12,14 @@ use lib.Seq.{getD-set-same, getD-set-other}
 use borrow.Author.Tests.{ltb-true, lt-ltb, le-ltb}
 use Rattle.range.specs.Lists.{stored}
 use Rattle.range.proofs.Lists.{stored-at}
-use Rattle.table.specs.Table.{item}
+use Rattle.table.specs.Table.{item, dearerByPlace}
 use Rattle.plan_theory.specs.Pass.{place}
 use Rattle.plan_theory.proofs.Places.{place-lt, place-below}
-use Rattle.plan_order.specs.Order.{falling, later, ByPlace}
+use Rattle.plan_order.specs.Order.{falling, ByPlace}
 use Rattle.plan_order.proofs.Order.{By, is-by, later-order}
-use Rattle.plan_turns_search.specs.Record.{endOf, keyOf}
+use Rattle.plan_turns_search.specs.Record.{endOf, keyOf, siteSlicesOf}
 use Rattle.plan_turns_search.specs.Chain.{Below, ChainBelow, Falls, LinkedBy, turnedKey, DownChains, UpChains}
 use Rattle.plan_turns_search.proofs.Record.{end-from, end-back}
-use Rattle.plan_turns_search.specs.Record.{siteSlicesOf}
 
 -- the order of links as one number
 abbrev linkKey : List ℕ → ℕ → ℕ
@@ -31,7 +30,7 @@ order-falls links costs order few p =
     record {
       below = p .below;
       falls = λ j k l lk. falls j k l lk;
-      found = λ i l. (place links (later (item costs)) i, place-below links (later (item costs)) (later-order links (item costs)) i l, p .found i l);
+      found = λ i l. (place links (dearerByPlace (item costs)) i, place-below links (dearerByPlace (item costs)) (later-order links (item costs)) i l, p .found i l);
     }
   where
     falls : (j k : ℕ) → j < k → k < links → linkKey costs (item order k) < linkKey costs (item order j)
@@ -45,7 +44,7 @@ order-falls links costs order few p =
 
         apart : item order j ≡ item order k → ⊥
         apart e =
-            let a = ap (place links (later (item costs))) e in
+            let a = ap (place links (dearerByPlace (item costs))) e in
             let x = p .placed j (omega arith) in
             let y = p .placed k lk in
             omega arith
@@ -54,10 +53,10 @@ order-falls links costs order few p =
         less (inl a) = let x = lj in let y = lk′ in omega arith
         less (inr a) = let b = ltb-true (item order k) (item order j) (a .1) in omega (arith, a .0)
 
-        go : (later (item costs) (item order j) (item order k) ≡ true) ⊎ (later (item costs) (item order k) (item order j) ≡ true) → linkKey costs (item order k) < linkKey costs (item order j)
+        go : (dearerByPlace (item costs) (item order j) (item order k) ≡ true) ⊎ (dearerByPlace (item costs) (item order k) (item order j) ≡ true) → linkKey costs (item order k) < linkKey costs (item order j)
         go (inl e) = less (is-by (item costs) falling (item order j) (item order k) e)
         go (inr e) =
-            let a = place-lt links (later (item costs)) (later-order links (item costs)) (item order k) (item order j) lk′ lj e in
+            let a = place-lt links (dearerByPlace (item costs)) (later-order links (item costs)) (item order k) (item order j) lk′ lj e in
             let x = p .placed j (omega arith) in
             let y = p .placed k lk in
             absurd (omega arith)

@@ -11,10 +11,9 @@ use Rattle.range.proofs.Bools.{and-left, and-right, and-intro}
 use Rattle.range.proofs.Sums.{weigh-le, count-less, member}
 use Rattle.table.specs.Table.{item}
 use Rattle.plan_turns_search.specs.Offers.{Site, holds, dearerHeld, WouldRefuse, OffersInv, Grows, Sought, Cheapest, OfferSearch, HeldSearch}
-use Rattle.plan_turns_search.specs.Record.{endOf, keyOf, siteOf, SiteInSlices}
+use Rattle.plan_turns_search.specs.Record.{endOf, keyOf, siteOf, SiteInSlices, siteSlicesOf}
 use Rattle.plan_turns_search.specs.Chain.{opposite, Below, Follows, DownChains, UpChains, turnedKey}
 use Rattle.plan_turns_search.proofs.Record.{end-even, end-odd, distinct}
-use Rattle.plan_turns_search.specs.Record.{siteSlicesOf}
 
 opposite-even : (d : ℕ) → d % 2 ≡ 0 → opposite d ≡ d + 1
 unfolding opposite
@@ -152,12 +151,12 @@ module _ (links : ℕ) (lows highs costs spares : List ℕ) (fits : SiteInSlices
     held-is : (g : ℕ) → endOf highs lows g ≡ v → o g ≡ 1 → holder g ≡ true
     held-is g at e = and-intro (eq-eqb (endOf highs lows g) v at) (eq-eqb (o g) 1 e)
 
-    abbrev rival : ℕ → ℕ → Bool
-    rival d g = (eqb (endOf highs lows g) (endOf highs lows d) && ltb (keyOf costs d) (keyOf costs g)) && eqb (o g) 1
+    abbrev dearer-one : ℕ → ℕ → Bool
+    dearer-one d g = (eqb (endOf highs lows g) (endOf highs lows d) && ltb (keyOf costs d) (keyOf costs g)) && eqb (o g) 1
 
-    -- a rival of an offer to v is held by v
-    rival-held : (d : ℕ) → endOf highs lows d ≡ v → (g : ℕ) → rival d g ≡ true → holder g ≡ true
-    rival-held d at g h =
+    -- a dearer-one of an offer to v is held by v
+    dearer-held : (d : ℕ) → endOf highs lows d ≡ v → (g : ℕ) → dearer-one d g ≡ true → holder g ≡ true
+    dearer-held d at g h =
         let x = eqb (endOf highs lows g) (endOf highs lows d) in
         let y = ltb (keyOf costs d) (keyOf costs g) in
         let both = and-left (x && y) (eqb (o g) 1) h in
@@ -166,13 +165,13 @@ module _ (links : ℕ) (lows highs costs spares : List ℕ) (fits : SiteInSlices
     -- v holds g, which is not dearer than d: not all that v holds is dearer
     some-cheaper : (d : ℕ) → endOf highs lows d ≡ v → (g : ℕ) → g < 2 * links → endOf highs lows g ≡ v → o g ≡ 1 → keyOf costs g ≤ keyOf costs d → dearerHeld site o d < item spares v
     some-cheaper d at g lg own e m =
-        let a = count-less (2 * links) (rival d) holder g (λ j l h. rival-held d at j h) lg (rw (eq-eqb (endOf highs lows g) (endOf highs lows d) (own ∙ sym at), le-ltb (keyOf costs d) (keyOf costs g) m)) (held-is g own e) in
+        let a = count-less (2 * links) (dearer-one d) holder g (λ j l h. dearer-held d at j h) lg (rw (eq-eqb (endOf highs lows g) (endOf highs lows d) (own ∙ sym at), le-ltb (keyOf costs d) (keyOf costs g) m)) (held-is g own e) in
         let b = inv .holding v in
         omega arith
 
     pub taken-free : (d n : ℕ) → endOf highs lows d ≡ v → n ≡ holds site o v → n < item spares v → dearerHeld site o d < item spares (endOf highs lows d)
     taken-free d n at e m =
-        let a = weigh-le (2 * links) (rival d) holder (λ g. 1) (λ j l h. rival-held d at j h) in
+        let a = weigh-le (2 * links) (dearer-one d) holder (λ g. 1) (λ j l h. dearer-held d at j h) in
         let b = ap (item spares) at in
         omega arith
 
@@ -220,7 +219,7 @@ module _ (links : ℕ) (lows highs costs spares : List ℕ) (fits : SiteInSlices
         -- v holds nothing as cheap as d
         pub held-refuses : (d : ℕ) → d < 2 * links → endOf highs lows d ≡ v → (o d ≡ 1 → ⊥) → keyOf costs d ≤ keyOf costs f → WouldRefuse site o d
         held-refuses d ld at off m =
-            let a = weigh-le (2 * links) holder (rival d) (λ g. 1) (λ g lg h.
+            let a = weigh-le (2 * links) holder (dearer-one d) (λ g. 1) (λ g lg h.
             and-intro (and-intro (eq-eqb (endOf highs lows g) (endOf highs lows d) (holder-at g h ∙ sym at))
             (lt-ltb (keyOf costs d) (keyOf costs g) (less g lg (holder-at g h) (holder-on g h) (decLt (keyOf costs g) (keyOf costs f)) (decLt (keyOf costs d) (keyOf costs g))))) (eq-eqb (o g) 1 (holder-on g h))) in
             let b = ap (item spares) at in

@@ -10,7 +10,7 @@ use borrow.Author.Tests.{ltb-true, ltb-false, lt-ltb, eqb-true, eq-eqb, ne-eqb}
 use Rattle.range.proofs.Bools.{and-left, and-right, and-intro, decided}
 use Rattle.range.proofs.Counts.{member-outside}
 use Rattle.range.proofs.Sums.{sum-same, sum-add, sum-one, weigh-le}
-use Rattle.plan_turns_search.specs.Offers.{Site, on, stands, holds, dearerAtTarget, dearerHeld, WouldRefuse, NoneLeft, Satisfied, OffersInv, Grows, Made, Next, Cheapest}
+use Rattle.plan_turns_search.specs.Offers.{Site, on, stands, holds, dearerAtTarget, dearerHeld, WouldRefuse, NoneLeft, Satisfied, OffersInv, Grows, Made, NextOffer, Cheapest}
 
 -- the bit of a direction of q by its byte, where the byte becomes 1, and where it is 1 no more
 one-more : (b : Bool) → cond (b && eqb 1 1) 1 0 ≡ cond (b && eqb 0 1) 1 0 + cond b 1 0
@@ -56,7 +56,7 @@ record Step (s : Site) (o o′ : ℕ → ℕ) (d : ℕ) : Type 0 where
   refuses : (e : ℕ) → e < s .dirs → WouldRefuse s o e → WouldRefuse s o′ e
   refused : (e : ℕ) → e < s .dirs → (o′ e ≡ 0 → ⊥) → (o′ e ≡ 1 → ⊥) → WouldRefuse s o′ e
 
-module _ (s : Site) (laws : Distinct s) (o : ℕ → ℕ) (i : OffersInv s o) (u d : ℕ) (next : Next s o u d) where
+module _ (s : Site) (laws : Distinct s) (o : ℕ → ℕ) (i : OffersInv s o) (u d : ℕ) (next : NextOffer s o u d) where
   step-inv : (o′ : ℕ → ℕ) → Step s o o′ d → ((w : ℕ) → stands s o′ w ≤ s .spare w) → ((w : ℕ) → holds s o′ w ≤ s .spare w) → OffersInv s o′
   step-inv o′ t standing holding = record { standing = standing; holding = holding; refused = t .refused; order = order }
     where
@@ -200,8 +200,8 @@ module _ (s : Site) (laws : Distinct s) (o : ℕ → ℕ) (i : OffersInv s o) (u
                 less (yes a) b = a
                 less (no a) b = absurd (apart (laws .targets d c (next .below) (low .below) (sym (low .own)) (omega arith)))
 
-    shut-kept : (e : ℕ) → e < s .dirs → WouldRefuse s o e → WouldRefuse s o′ e
-    shut-kept e l h =
+    refuses-kept : (e : ℕ) → e < s .dirs → WouldRefuse s o e → WouldRefuse s o′ e
+    refuses-kept e l h =
         let a = on-swap (dearerAtTarget s e) in
         let b = bit-le (dearerAtTarget s e c) (dearerAtTarget s e d) (λ z.
         let x = and-left (eqb (s .target c) (s .target e)) (ltb (s .key e) (s .key c)) z in
@@ -211,8 +211,8 @@ module _ (s : Site) (laws : Distinct s) (o : ℕ → ℕ) (i : OffersInv s o) (u
         omega arith
 
     -- all that the target holds then is dearer than c
-    shut-gone : WouldRefuse s o′ c
-    shut-gone =
+    refuses-gone : WouldRefuse s o′ c
+    refuses-gone =
         let q : ℕ → Bool = λ f. eqb (s .target f) (s .target d) in
         let a = on-swap q in
         let b = ap {B = ℕ} (λ (x : ℕ). cond (eqb x (s .target d)) 1 0) (low .own) in
@@ -243,7 +243,7 @@ module _ (s : Site) (laws : Distinct s) (o : ℕ → ℕ) (i : OffersInv s o) (u
                 less (no a) b = absurd (n (laws .targets f c l (low .below) (at ∙ sym (low .own)) (omega arith)))
 
     swap-step : Step s o o′ d
-    swap-step = record { tried = λ e z. tried e z (ℕ-discrete e d) (ℕ-discrete e c); taken = λ e z. taken e z (ℕ-discrete e d) (ℕ-discrete e c); refuses = shut-kept; refused = λ e l a b. refused e l a b (ℕ-discrete e d) (ℕ-discrete e c) }
+    swap-step = record { tried = λ e z. tried e z (ℕ-discrete e d) (ℕ-discrete e c); taken = λ e z. taken e z (ℕ-discrete e d) (ℕ-discrete e c); refuses = refuses-kept; refused = λ e l a b. refused e l a b (ℕ-discrete e d) (ℕ-discrete e c) }
       where
         tried : (e : ℕ) → o′ e ≡ 0 → Dec (e ≡ d) → Dec (e ≡ c) → (o e ≡ 0) × (e ≡ d → ⊥)
         tried e z (yes q) m = let a = ap o′ q in absurd (omega arith)
@@ -257,8 +257,8 @@ module _ (s : Site) (laws : Distinct s) (o : ℕ → ℕ) (i : OffersInv s o) (u
 
         refused : (e : ℕ) → e < s .dirs → (o′ e ≡ 0 → ⊥) → (o′ e ≡ 1 → ⊥) → Dec (e ≡ d) → Dec (e ≡ c) → WouldRefuse s o′ e
         refused e l n0 n1 (yes q) m = absurd (n1 (ap o′ q ∙ here))
-        refused e l n0 n1 (no n) (yes q) = rw q shut-gone
-        refused e l n0 n1 (no n) (no m) = shut-kept e l (i .refused e l (λ z. n0 (rest e n m ∙ z)) (λ z. n1 (rest e n m ∙ z)))
+        refused e l n0 n1 (no n) (yes q) = rw q refuses-gone
+        refused e l n0 n1 (no n) (no m) = refuses-kept e l (i .refused e l (λ z. n0 (rest e n m ∙ z)) (λ z. n1 (rest e n m ∙ z)))
 
     pub swap-inv : OffersInv s o′
     swap-inv = step-inv o′ swap-step (λ w. standing w (ℕ-discrete (s .source d) w)) holding
@@ -300,7 +300,7 @@ module _ (s : Site) (laws : Distinct s) (o : ℕ → ℕ) (i : OffersInv s o) (u
             omega arith
 
     pub swap-grows : Grows s o o′
-    swap-grows = record { tried = λ e z. swap-step .tried e z .0; refuses = shut-kept }
+    swap-grows = record { tried = λ e z. swap-step .tried e z .0; refuses = refuses-kept }
 
     pub swap-made : (o″ : ℕ → ℕ) → Made s o′ o″ (s .source c) → Made s o o″ u
     swap-made o″ m =

@@ -1,20 +1,19 @@
 -- Laws of the working bytes and of the site that the slices give.
 use Prim.Native.Nat.{ℕ, _+_, _*_, _/_, _%_, _≤_, _<_}
 use mathlib.Core.Path.{_≡_, sym, _∙_, ap}
-use mathlib.Core.Bool.{true}
+use mathlib.Core.Bool.{true, or-false}
 use mathlib.Core.List.{List}
 use native.Mathlib.Omega.{arith}
 use native.Mathlib.Decide.{ℕ-discrete}
 use lib.Dec.{ltb, eqb}
 use lib.ListN.{length, set, length-set}
 use lib.Seq.{getD-set-same, getD-set-other}
-use borrow.Author.Tests.{ltb-true, lt-ltb, eqb-true, eq-eqb, ne-eqb}
+use borrow.Author.Tests.{ltb-true, lt-ltb, eqb-true, eq-eqb, ne-eqb, le-ltb}
 use Rattle.range.proofs.Bools.{same-bool}
 use Rattle.range.proofs.Sums.{weigh-le, count-less}
-use Rattle.table.specs.Table.{item}
-use Rattle.plan_turns_search.specs.Record.{atSource, atTarget, endOf, keyOf, siteOf, put, untriedCount, SiteInSlices, Paired}
+use Rattle.table.specs.Table.{item, dearerByPlace}
+use Rattle.plan_turns_search.specs.Record.{atSource, atTarget, endOf, keyOf, siteOf, put, untriedCount, SiteInSlices, Paired, siteSlicesOf}
 use Rattle.plan_turns_search.proofs.Offers.{Distinct}
-use Rattle.plan_turns_search.specs.Record.{siteSlicesOf}
 
 pub end-even : (a b : List ℕ) (d : ℕ) → d % 2 ≡ 0 → endOf a b d ≡ item a (d / 2)
 unfolding endOf
@@ -44,6 +43,13 @@ module _ (costs : List ℕ) (f d : ℕ) (lf : f < 131072) (ld : d < 131072) wher
   unfolding keyOf
   key-by-place e =
       same-test (item costs (f / 2) * 65536 + f / 2) (item costs (d / 2) * 65536 + d / 2) (f / 2) (d / 2) (λ a. omega arith) (λ a. omega arith)
+
+pub cheaper-key : (costs : List ℕ) (f d : ℕ) → f < 131072 → d < 131072 → dearerByPlace (item costs) (d / 2) (f / 2) ≡ ltb (keyOf costs f) (keyOf costs d)
+cheaper-key costs f d lf ld = go (ℕ-discrete (item costs (f / 2)) (item costs (d / 2)))
+  where
+    go : Dec (item costs (f / 2) ≡ item costs (d / 2)) → dearerByPlace (item costs) (d / 2) (f / 2) ≡ ltb (keyOf costs f) (keyOf costs d)
+    go (yes e) = rw (key-by-place costs f d lf ld e, le-ltb (item costs (f / 2)) (item costs (d / 2)) (omega arith), eq-eqb (item costs (d / 2)) (item costs (f / 2)) (sym e))
+    go (no n) = rw (key-by-cost costs f d lf ld n, ne-eqb (item costs (d / 2)) (item costs (f / 2)) (λ z. n (sym z))) (or-false (ltb (item costs (f / 2)) (item costs (d / 2))))
 
 pub length-put : (r : List ℕ) (d b : ℕ) → length (put r d b) ≡ length r
 unfolding put

@@ -65,7 +65,7 @@ pub record Made (s : Site) (o o′ : ℕ → ℕ) (u : ℕ) : Type 0 where
   pub more : (w : ℕ) → (stands s o w + cond (eqb u w) 1 0 ≤ stands s o′ w) ⊎ NoneLeft s o′ w
 
 -- "its dearest link not yet tried whose other end would take it"
-pub record Next (s : Site) (o : ℕ → ℕ) (u d : ℕ) : Type 0 where
+pub record NextOffer (s : Site) (o : ℕ → ℕ) (u d : ℕ) : Type 0 where
   pub below : d < s .dirs
   pub own : s .source d ≡ u
   pub untried : o d ≡ 0
@@ -74,7 +74,7 @@ pub record Next (s : Site) (o : ℕ → ℕ) (u d : ℕ) : Type 0 where
 
 -- what the search answers: the next offer of u, or a number past all directions
 pub record Sought (s : Site) (o : ℕ → ℕ) (u r : ℕ) : Type 0 where
-  pub some : r < s .dirs → Next s o u r
+  pub some : r < s .dirs → NextOffer s o u r
   pub none : s .dirs ≤ r → NoneLeft s o u
 
 -- "its cheapest held"

@@ -7,7 +7,7 @@ use lib.Dec.{eqb}
 use lib.ListN.{length, set}
 use Rattle.range.specs.Sum.{count}
 use Rattle.table.specs.Table.{item}
-use Rattle.plan_turns_search.specs.Offers.{Site, stands, holds, NoneLeft, Satisfied, OffersInv, Made, Next, OfferSearch, HeldSearch}
+use Rattle.plan_turns_search.specs.Offers.{Site, stands, holds, NoneLeft, Satisfied, OffersInv, Made, NextOffer, OfferSearch, HeldSearch}
 
 -- two bytes for each direction: its offer at its source, and at its target
 abbrev pub atSource : List ℕ → ℕ → ℕ
@@ -46,7 +46,7 @@ siteOf x =
       spare = item (x .spares);
     }
 
--- the atSource and the atTarget byte of a direction, both stored
+-- the bytes of a direction at its source and at its target, both stored
 unfoldable pub put : List ℕ → ℕ → ℕ → List ℕ
 put r d b = set (set r (2 * d) b) (2 * d + 1) b
 
@@ -106,7 +106,7 @@ pub record Offered (x : SiteSlices) (r r′ : List ℕ) (u : ℕ) (made? : Bool)
 -- d is its source's next offer, and its target holds its spare
 pub record Displaces (x : SiteSlices) (r : List ℕ) (d : ℕ) : Type 0 where
   pub ready : OffersReady x r
-  pub next : Next (siteOf x) (atSource r) (endOf (x .lows) (x .highs) d) d
+  pub next : NextOffer (siteOf x) (atSource r) (endOf (x .lows) (x .highs) d) d
   pub room : stands (siteOf x) (atSource r) (endOf (x .lows) (x .highs) d) < item (x .spares) (endOf (x .lows) (x .highs) d)
   pub full : item (x .spares) (endOf (x .highs) (x .lows) d) ≤ holds (siteOf x) (atSource r) (endOf (x .highs) (x .lows) d)
 

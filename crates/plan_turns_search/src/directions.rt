@@ -34,12 +34,7 @@ pub fn cheaper(costs: &[u16], f: usize, d: usize) -> bool
     requires { ⌜ (f < 2 * length (now costs)) × (d < 2 * length (now costs)) × (f < 131072) × (d < 131072) ⌝ }
     ensures { λ r. ⌜ r ≡ ltb (keyOf (now (costs .entry)) f) (keyOf (now (costs .entry)) d) ⌝ }
 {
-    let i = f / 2;
-    let j = d / 2;
-    if costs[i] != costs[j] {
-        return costs[i] < costs[j];
-    }
-    i < j
+    table_links::order::dearer(costs, d / 2, f / 2)
 }
 
 pub fn put(rec: &mut [u8], d: usize, b: u8)

@@ -13,7 +13,7 @@ ghost use Rattle.probe_rules.specs.Within.{EventWithin};
 ghost use Rattle.table_links.specs.RisingSlices.{RisingSlices};
 ghost use Rattle.probe_checks.specs.Checks.{untriedFault, heardFault, hearFault, openFault, linkCallFault};
 
-// 9, 23, 24 of a frame's line.
+// 1, 2, 9, 23, 24 of a frame's line.
 fn heard_fault(
     number: u16,
     links: usize,

@@ -2,7 +2,7 @@
 use Prim.Native.Nat.{ℕ}
 use mathlib.Core.Path.{_≡_, refl, _∙_, ap}
 use mathlib.Core.List.{List}
-use Rattle.table.specs.Table.{Table as Site}
+use Rattle.table.specs.Table.{Table}
 use Rattle.wake_log.specs.declared.Answer.{Answer}
 use Rattle.probe_rules.specs.declared.Event.{Event}
 use Rattle.probe.specs.Answers.{Befallen, Asks}
@@ -11,12 +11,12 @@ use Rattle.probe.specs.declared.Asked.{Asked}
 use Rattle.packed_answers.specs.Packed.{packedAnswer}
 use Rattle.probe_exports.specs.Packed.{packedAsked, BefallenPacked, AsksPacked}
 
-pub befallen-packed : (fault : ℕ) (t : Site) (p : ℕ) (event : Event) (a : Answer) (r : ℕ) (before after : List ℕ) → Befallen fault t p event a before after → r ≡ packedAnswer a
+pub befallen-packed : (fault : ℕ) (t : Table) (p : ℕ) (event : Event) (a : Answer) (r : ℕ) (before after : List ℕ) → Befallen fault t p event a before after → r ≡ packedAnswer a
     → BefallenPacked fault t p event r before after
 befallen-packed fault t p event a r before after g e =
     record { answer = e ∙ ap packedAnswer (g .answer); lent = record { answer = refl; record-after = g .record-after } }
 
-pub asks-packed : (fault : ℕ) (t : Site) (p : ℕ) (k : Kind) (i : ℕ) (rec : List ℕ) (a : Asked) (r : ℕ) (before after : List ℕ) → Asks fault t p k i rec a before after → r ≡ packedAsked a
+pub asks-packed : (fault : ℕ) (t : Table) (p : ℕ) (k : Kind) (i : ℕ) (rec : List ℕ) (a : Asked) (r : ℕ) (before after : List ℕ) → Asks fault t p k i rec a before after → r ≡ packedAsked a
     → AsksPacked fault t p k i rec r before after
 asks-packed fault t p k i rec a r before after g e =
     record { answer = e ∙ ap packedAsked (g .answer); lent = record { answer = refl; line = g .line } }

@@ -5,7 +5,7 @@ use mathlib.Core.Path.{_≡_}
 use mathlib.Core.Bool.{Bool, cond}
 use mathlib.Core.List.{List}
 use lib.Dec.{eqb}
-use Rattle.table.specs.Table.{Table as Site}
+use Rattle.table.specs.Table.{Table}
 use Rattle.table.specs.Slices.{Slices, tableOf, slicesFault}
 use Rattle.probe_frame.specs.Frame.{frameOf}
 use Rattle.wake_log.specs.Entry.{answerOf}
@@ -37,11 +37,11 @@ packedResting (Untold refusal) = refusal
 abbrev pub askedOf : ℕ → Bool → Asked
 askedOf fault sendable = cond (eqb fault 0) (cond sendable Written NotNow) (Unasked fault)
 
-pub record BefallenPacked (fault : ℕ) (t : Site) (p : ℕ) (event : Event) (r : ℕ) (before after : List ℕ) : Type 0 where
+pub record BefallenPacked (fault : ℕ) (t : Table) (p : ℕ) (event : Event) (r : ℕ) (before after : List ℕ) : Type 0 where
   pub answer : r ≡ packedAnswer (answerOf fault (entryOf t p (befalls t p event before)))
   pub lent : Befallen fault t p event (answerOf fault (entryOf t p (befalls t p event before))) before after
 
-pub record AsksPacked (fault : ℕ) (t : Site) (p : ℕ) (k : Kind) (i : ℕ) (e : List ℕ) (r : ℕ) (before after : List ℕ) : Type 0 where
+pub record AsksPacked (fault : ℕ) (t : Table) (p : ℕ) (k : Kind) (i : ℕ) (e : List ℕ) (r : ℕ) (before after : List ℕ) : Type 0 where
   pub answer : r ≡ packedAsked (askedOf fault (sendable (askedEvent k i) e))
   pub lent : Asks fault t p k i e (askedOf fault (sendable (askedEvent k i) e)) before after
 

@@ -9,12 +9,11 @@ use lib.Dec.{leb, eqb}
 use borrow.Author.Tests.{lt-leb, leb-false}
 use Rattle.range.proofs.Bools.{or-false-left, or-false-right}
 use Rattle.range.proofs.Choice.{Best, best-is}
-use Rattle.table.specs.Table.{Table, item, dearer, cheaper}
+use Rattle.table.specs.Table.{Table, item, dearer, cheaper, dearerByPlace}
 use Rattle.table.specs.Legal.{Legal, RisingLinks}
 use Rattle.table.proofs.LegalLaws.{legal-table}
 use Rattle.plan_theory.proofs.Places.{Order, reversed}
 use Rattle.plan_theory.proofs.Order.{dearer-by-place, dearer-order}
-use Rattle.table_links.specs.Order.{dearerByPlace}
 use Rattle.probe_record.specs.Record.{outbound, inbound, ownWith, dearestUntried, cheapestHeld, sideByte, sideBetter}
 
 module _ (t : Table) (legal : Legal t) (p : ℕ) (e : List ℕ) where

@@ -1,4 +1,4 @@
--- A frame against a table: document 01, refusals 9, 23 and 24, and the link of a frame.
+-- A frame against a table: document 01, refusal 23, and the event that a frame says.
 use Prim.Native.Nat.{ℕ}
 use mathlib.Core.Bool.{cond}
 use lib.Dec.{eqb}

@@ -1,4 +1,4 @@
--- Where the links of an event and of an outcome are, and what the functions of `core` ask of their arguments.
+-- Where the links of an event and of an outcome are, and what the functions ask of their arguments.
 use Prim.Native.Nat.{ℕ, _*_, _≤_, _<_}
 use mathlib.Core.Path.{_≡_}
 use mathlib.Core.Bool.{true}

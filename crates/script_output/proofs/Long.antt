@@ -11,7 +11,7 @@ use borrow.Author.Tests.{eq-eqb, ne-eqb}
 use Rattle.range.proofs.Lists.{stored-same}
 use Rattle.table.specs.Table.{Table}
 use Rattle.table.specs.Text.{ofText, textEnd, textFault}
-use Rattle.table_laws.specs.Same.{Same}
+use Rattle.table.specs.Same.{Same}
 use Rattle.table_laws.proofs.Long.{long-prefix, long-table}
 use Rattle.output.specs.Output.{refusalLine}
 use Rattle.script_theory.specs.Script.{inSlices, scriptText, scriptOutput}

@@ -1,4 +1,4 @@
--- What the functions of `core` promise: a byte, and the bytes of a piece, taken into buffers.
+-- What the functions of `pieces` promise: a byte, and the bytes of a piece, taken into buffers.
 use Prim.Native.Nat.{ℕ, _+_}
 use mathlib.Core.Path.{_≡_}
 use mathlib.Core.List.{List, []}

@@ -55,6 +55,10 @@ dearer t i j =
     && (ltb (t .low j) (t .low i)
     || (eqb (t .low i) (t .low j) && ltb (t .high j) (t .high i))))
 
+-- the same for links that rise by low end, then high end: by cost and place
+abbrev pub dearerByPlace : (ℕ → ℕ) → ℕ → ℕ → Bool
+dearerByPlace cost i j = ltb (cost j) (cost i) || (eqb (cost i) (cost j) && ltb j i)
+
 -- '"Cheaper" is the exact reverse.'
 abbrev pub cheaper : Table → ℕ → ℕ → Bool
 cheaper t i j = dearer t j i

@@ -7,7 +7,7 @@ use native.Mathlib.Omega.{arith}
 use Rattle.lines.proofs.Lines.{GoodLine}
 use Rattle.table.specs.Text.{ofText, needStart, linkStart, textFault}
 use Rattle.table.proofs.Accepted.{text-good}
-use Rattle.table_laws.specs.Same.{FourDigits}
+use Rattle.table.specs.Same.{FourDigits}
 use Rattle.lines.proofs.Numbers.{Small, ReadsNumbers, reads-small}
 use Rattle.table_laws.proofs.Tables.{headRow, needRow, linkRow}
 

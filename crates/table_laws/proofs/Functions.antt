@@ -17,12 +17,13 @@ use Rattle.table.proofs.Lengths.{length-text}
 use Rattle.table_read.specs.declared.Reading.{Reading}
 use Rattle.table_read.specs.declared.Reading.the-variants.{Table as Read}
 use Rattle.table_write.specs.declared.Writing.the-variants.{Length, Refused as Unwritten}
-use Rattle.table_laws.specs.Same.{Same}
+use Rattle.table.specs.Same.{Same}
 use Rattle.table.specs.Slices.{Slices, tableOf}
 use Rattle.table_read.specs.Reading.{Lent, readingFault}
 use Rattle.table_write.specs.Writing.{writeFault}
 use Rattle.table_laws.specs.Functions.{lentSlices, HoldsTable, ReadTable, ReadThenWrite, WriteThenRead}
-use Rattle.table_laws.proofs.Tables.{same-text, same-fault}
+use Rattle.table_laws.proofs.Tables.{same-text}
+use Rattle.table.proofs.Same.{same-fault}
 use Rattle.table_laws.proofs.Reading.{room-none, accepted, entries, holds, read-none, read-numbers}
 use Rattle.table_laws.proofs.Round.{text-whole, table-whole}
 

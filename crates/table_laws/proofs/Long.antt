@@ -22,8 +22,8 @@ use Rattle.lines.proofs.Lines.{there}
 use Rattle.table.specs.Legal.{linkFault, Size}
 use Rattle.table.specs.Text.{ofText, needStart, linkStart, begins, closingLine, closingFault, needLineFault, linkLineFault, headFault, bodyFault, textFault}
 use Rattle.table_text.proofs.Good.{head-good, text-head}
-use Rattle.table_laws.specs.Same.{Same}
-use Rattle.table_laws.proofs.Tables.{same-needs}
+use Rattle.table.specs.Same.{Same}
+use Rattle.table.proofs.Same.{same-needs}
 
 -- both texts have n bytes or more, and the first n are equal
 record Agree (s u : List ℕ) (n : ℕ) : Type 0 where

@@ -20,10 +20,10 @@ use Rattle.table_read.specs.Reading.{Lent, readingFault, filledOf, ReadsTable}
 use Rattle.table_read.specs.declared.Reading.{Reading}
 use Rattle.table_read.specs.declared.Reading.the-variants.{Table as Read, Refused as Unread}
 use Rattle.table_read.proofs.Answers.{read-text, read-room}
-use Rattle.table_laws.specs.Same.{Same}
+use Rattle.table.specs.Same.{Same}
 use Rattle.table.specs.Slices.{tableOf}
 use Rattle.table_laws.specs.Functions.{lentSlices, HoldsTable}
-use Rattle.table_laws.proofs.Tables.{same-fault}
+use Rattle.table.proofs.Same.{same-fault}
 
 -- what the answer says
 

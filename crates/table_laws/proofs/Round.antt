@@ -13,11 +13,12 @@ use Rattle.hex.specs.Digits.{numberAt}
 use Rattle.table.specs.Table.{Table}
 use Rattle.table.specs.Legal.{tableFault}
 use Rattle.table.specs.Text.{closingLine, textOf, needStart, linkStart, ofText, begins, textFault, textEnd}
-use Rattle.table_laws.specs.Same.{FourDigits, Same}
+use Rattle.table.specs.Same.{FourDigits, Same}
 use Rattle.lines.proofs.Lines.{GoodLine}
 use Rattle.lines.proofs.Parts.{part, part-append, part-split, part-joined, joined-split}
 use Rattle.lines.proofs.Numbers.{lineOf, ReadsNumbers, length-line, reads-line, line-reads}
-use Rattle.table_laws.proofs.Tables.{headRow, needRow, linkRow, needLines, linkLines, text-is, same-fault}
+use Rattle.table_laws.proofs.Tables.{headRow, needRow, linkRow, needRows, linkRows, text-is}
+use Rattle.table.proofs.Same.{same-fault}
 use Rattle.table.proofs.Accepted.{Accepted, text-good, good-text}
 use Rattle.table.proofs.Lengths.{length-needs, length-links, length-text}
 use Rattle.table_laws.proofs.Fits.{link-reads}
@@ -48,12 +49,12 @@ module _ (pmax lmax : ℕ) (more : Bool) (s : List ℕ) (g : Accepted pmax lmax 
   head-back : lineOf (headRow t) ≡ part s 0 13
   head-back = reads-line s 0 (headRow t) (g .head) (refl, (refl, (refl, tt)))
 
-  needs-back : needLines t ≡ part s 13 (5 * t .probes)
+  needs-back : needRows t ≡ part s 13 (5 * t .probes)
   needs-back =
       part-joined (λ v. lineOf (needRow t v)) 5 s 13 (t .probes)
       (λ v l. reads-line s (needStart v) (needRow t v) (g .need v l) (refl, tt))
 
-  links-back : linkLines t ≡ part s (13 + 5 * t .probes) (13 * t .links)
+  links-back : linkRows t ≡ part s (13 + 5 * t .probes) (13 * t .links)
   links-back =
       part-joined (λ i. lineOf (linkRow t i)) 13 s (13 + 5 * t .probes) (t .links)
       (λ i l. reads-line s (linkStart (t .probes) i) (linkRow t i) (g .link i l) (link-reads s i))
@@ -65,8 +66,8 @@ module _ (pmax lmax : ℕ) (more : Bool) (s : List ℕ) (g : Accepted pmax lmax 
   accepted-back =
       rw (text-is, end-is)
       (part-append s (lineOf (headRow t)) _ 0 13 (5 * t .probes + (13 * t .links + 5)) head-back
-      (part-append s (needLines t) _ 13 (5 * t .probes) (13 * t .links + 5) needs-back
-      (part-append s (linkLines t) closingLine (13 + 5 * t .probes) (13 * t .links) 5 links-back closing-back)))
+      (part-append s (needRows t) _ 13 (5 * t .probes) (13 * t .links + 5) needs-back
+      (part-append s (linkRows t) closingLine (13 + 5 * t .probes) (13 * t .links) 5 links-back closing-back)))
 
 -- every text that is read is what writing the table read gives
 pub text-back : (pmax lmax : ℕ) (more : Bool) (s : List ℕ) → textFault pmax lmax more s ≡ 0 → textOf (ofText s) ≡ take (textEnd (ofText s)) s
@@ -87,12 +88,12 @@ text-within pmax lmax more s e =
 
 -- A text that starts with that of a table.
 module _ (s : List ℕ) (t : Table) (fits : FourDigits t) (within : textEnd t ≤ length s) (e : take (textEnd t) s ≡ textOf t) where
-  parts : (part s 0 13 ≡ lineOf (headRow t)) × (part s 13 (5 * t .probes) ≡ needLines t)
-      × (part s (13 + 5 * t .probes) (13 * t .links) ≡ linkLines t) × (part s (linkStart (t .probes) (t .links)) 5 ≡ closingLine)
+  parts : (part s 0 13 ≡ lineOf (headRow t)) × (part s 13 (5 * t .probes) ≡ needRows t)
+      × (part s (13 + 5 * t .probes) (13 * t .links) ≡ linkRows t) × (part s (linkStart (t .probes) (t .links)) 5 ≡ closingLine)
   parts =
-      let a = part-split s (lineOf (headRow t)) (needLines t ++ (linkLines t ++ closingLine)) 0 13 (5 * t .probes + (13 * t .links + 5)) (length-line (headRow t)) (rw (end-is, text-is) at e) in
-      let b = part-split s (needLines t) (linkLines t ++ closingLine) 13 (5 * t .probes) (13 * t .links + 5) (length-needs t) (a .1) in
-      let c = part-split s (linkLines t) closingLine (13 + 5 * t .probes) (13 * t .links) 5 (length-links t) (b .1) in
+      let a = part-split s (lineOf (headRow t)) (needRows t ++ (linkRows t ++ closingLine)) 0 13 (5 * t .probes + (13 * t .links + 5)) (length-line (headRow t)) (rw (end-is, text-is) at e) in
+      let b = part-split s (needRows t) (linkRows t ++ closingLine) 13 (5 * t .probes) (13 * t .links + 5) (length-needs t) (a .1) in
+      let c = part-split s (linkRows t) closingLine (13 + 5 * t .probes) (13 * t .links) 5 (length-links t) (b .1) in
       (a .0, b .0, c .0, c .1)
 
   head : GoodLine s 0 12 × ReadsNumbers s 0 (headRow t)

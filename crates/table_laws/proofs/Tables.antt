@@ -1,16 +1,12 @@
--- The lines of a table; tables with the same entries have the same text and the same fault.
+-- The lines of a table; tables with the same entries have the same text.
 use Prim.Native.Nat.{ℕ}
 use mathlib.Core.Path.{_≡_, refl}
 use mathlib.Core.List.{List, [], _∷_, _++_}
-use Rattle.range.specs.First.{first}
 use Rattle.range.specs.Lists.{joined}
-use Rattle.range.proofs.Faults.{or-same}
 use Rattle.range.proofs.Lists.{joined-same}
 use Rattle.table.specs.Table.{Table}
-use Rattle.table.specs.Legal.{sizeFault, linkFault, needFault, tableFault}
 use Rattle.table.specs.Text.{closingLine, textOf}
-use Rattle.table_laws.specs.Same.{Same}
-use Rattle.table.proofs.Same.{links-same, needs-same}
+use Rattle.table.specs.Same.{Same}
 use Rattle.lines.proofs.Numbers.{lineOf}
 
 -- the numbers of the header, of a need line and of a link line
@@ -26,14 +22,14 @@ linkRow t i = t .low i ∷ t .high i ∷ t .cost i ∷ []
 
 -- the need lines and the link lines
 
-abbrev pub needLines : Table → List ℕ
-needLines t = joined (λ v. lineOf (needRow t v)) (t .probes)
+abbrev pub needRows : Table → List ℕ
+needRows t = joined (λ v. lineOf (needRow t v)) (t .probes)
 
-abbrev pub linkLines : Table → List ℕ
-linkLines t = joined (λ i. lineOf (linkRow t i)) (t .links)
+abbrev pub linkRows : Table → List ℕ
+linkRows t = joined (λ i. lineOf (linkRow t i)) (t .links)
 
 -- the text, divided
-pub text-is : (t : Table) → textOf t ≡ lineOf (headRow t) ++ (needLines t ++ (linkLines t ++ closingLine))
+pub text-is : (t : Table) → textOf t ≡ lineOf (headRow t) ++ (needRows t ++ (linkRows t ++ closingLine))
 unfolding textOf
 text-is t = refl
 
@@ -48,15 +44,3 @@ module _ (t u : Table) (e : Same t u) where
         joined-same (λ v. lineOf (needRow t v)) (λ v. lineOf (needRow u v)) (t .probes) (λ v l. rw (e .need v l)),
         joined-same (λ i. lineOf (linkRow t i)) (λ i. lineOf (linkRow u i)) (t .links) (λ i l. rw (e .low i l, e .high i l, e .cost i l)),
       )
-
-  pub same-needs : first (needFault t) (t .probes) ≡ first (needFault u) (u .probes)
-  same-needs = rw (← e .probes, ← e .links) (needs-same (t .links) (t .low) (u .low) (t .high) (u .high) (e .low) (e .high) (t .probes) (t .need) (u .need) (e .need))
-
-  pub same-fault : (pmax lmax : ℕ) → tableFault pmax lmax t ≡ tableFault pmax lmax u
-  same-fault pmax lmax = or-same size (or-same links same-needs)
-    where
-      size : sizeFault pmax lmax (t .probes) (t .links) ≡ sizeFault pmax lmax (u .probes) (u .links)
-      size = rw (e .probes, e .links)
-
-      links : first (linkFault (t .probes) (t .low) (t .high)) (t .links) ≡ first (linkFault (u .probes) (u .low) (u .high)) (u .links)
-      links = rw (← e .probes, ← e .links) (links-same (t .links) (t .low) (u .low) (t .high) (u .high) (e .low) (e .high) (t .probes))

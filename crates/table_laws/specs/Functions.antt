@@ -12,7 +12,7 @@ use Rattle.table_read.specs.declared.Reading.the-variants.{Table as Read}
 use Rattle.table_write.specs.Writing.{WritesTable}
 use Rattle.table_write.specs.declared.Writing.{Writing}
 use Rattle.table_write.specs.declared.Writing.the-variants.{Length}
-use Rattle.table_laws.specs.Same.{FourDigits, Same}
+use Rattle.table.specs.Same.{FourDigits, Same}
 
 -- lent slices with the number, probe count and link count of a table in them
 abbrev pub lentSlices : ℕ → ℕ → ℕ → Lent → Slices

@@ -11,7 +11,7 @@ use Rattle.table.specs.Legal.{Legal}
 use Rattle.table.specs.Text.{textOf, ofText, textFault}
 use Rattle.table_read.specs.declared.Reading.the-variants.{Table as Read}
 use Rattle.table_write.specs.declared.Writing.the-variants.{Length}
-use Rattle.table_laws.specs.Same.{FourDigits}
+use Rattle.table.specs.Same.{FourDigits}
 use Rattle.table.specs.Slices.{Slices, tableOf}
 use Rattle.table_read.specs.Reading.{Lent}
 use Rattle.table_laws.specs.Functions.{lentSlices, HoldsTable, ReadTable, WriteTable}

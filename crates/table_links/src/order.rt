@@ -1,16 +1,15 @@
 // The order of two links.
 ghost use mathlib.Core.Path.{_≡_};
-ghost use mathlib.Core.Bool.{cond, _||_, _&&_};
+ghost use mathlib.Core.Bool.{cond, _||_};
 ghost use Prim.Native.Nat.{_<_, _≤_};
-ghost use lib.Dec.{ltb, leb, eqb};
+ghost use lib.Dec.{leb};
 ghost use lib.ListN.{length};
-ghost use Rattle.table.specs.Table.{item};
-ghost use Rattle.table_links.specs.Order.{dearerByPlace};
+ghost use Rattle.table.specs.Table.{item, dearerByPlace};
 
 // Whether the link i is dearer than the link j.
 pub fn dearer(costs: &[u16], i: usize, j: usize) -> bool
     requires { ⌜ (i < length (now costs)) × (j < length (now costs)) ⌝ }
-    ensures { λ r. ⌜ r ≡ (ltb (item (now (costs .entry)) j) (item (now (costs .entry)) i) || (eqb (item (now (costs .entry)) i) (item (now (costs .entry)) j) && ltb j i)) ⌝ }
+    ensures { λ r. ⌜ r ≡ dearerByPlace (item (now (costs .entry))) i j ⌝ }
 {
     if costs[j] < costs[i] {
         return true;

@@ -10,10 +10,9 @@ use mathlib.Core.List.{List, []}
 use native.Mathlib.Omega.{arith}
 use lib.Dec.{leb, eqb}
 use borrow.Author.Tests.{not-true, not-false}
-use Rattle.table.specs.Table.{Table, item, ofSlices}
+use Rattle.table.specs.Table.{Table, item, ofSlices, dearerByPlace}
 use Rattle.fleet_theory.specs.Fleet.{own}
 use Rattle.fleet_theory.proofs.Own.{own-same}
-use Rattle.table_links.specs.Order.{dearerByPlace}
 use Rattle.probe_record.specs.Record.{sideByte, sideBetter}
 use Rattle.probe_record.proofs.SearchLaws.{side-before, side-behind}
 use Rattle.fleet_rules.proofs.Passing.{one-most, Passing, passing-start, passing-skip, passing-own, passing-all}

@@ -12,7 +12,7 @@ use borrow.Author.Tests.{not-true, not-false}
 use Rattle.range.proofs.Lists.{zeros-at}
 use Rattle.range.proofs.Sums.{weigh-same}
 use Rattle.table.specs.Table.{Table, ofSlices}
-use Rattle.fleet_theory.specs.Fleet.{opens}
+use Rattle.fleet_theory.specs.Fleet.{wouldOpen}
 use Rattle.table.proofs.LegalLaws.{legal-table}
 use Rattle.fleet_state.proofs.Legal.{fits-ends}
 use Rattle.fleet_state.proofs.Finished.{open-counted, not-finished, finished-counted}
@@ -94,7 +94,7 @@ returns-2 c =
     let a = at-start .args in
     λ number costs.
     let t : Table = ofSlices number (a .probes) (a .links) (a .needs .now) (a .lows .now) (a .highs .now) costs in
-    finished-counted t (a .rec .now) (at-start .pre .0 .legal) _ _ (at-none-alters .none-alters .ensures) (not-false _ (at-test .if1 .left)) (c .none-opens .ensures ∙ ap (λ (k : ℕ). eqb k 0) (weigh-same (a .probes) _ (opens t (a .rec .now)) (λ i. 1) (λ v l. open-counted t (a .rec .now) v _ _ _ (at-count-degrees .count-degrees .ensures v) (at-count-bytes .count-bytes .ensures v) (at-count-bytes2 .count-bytes2 .ensures v))))
+    finished-counted t (a .rec .now) (at-start .pre .0 .legal) _ _ (at-none-alters .none-alters .ensures) (not-false _ (at-test .if1 .left)) (c .none-opens .ensures ∙ ap (λ (k : ℕ). eqb k 0) (weigh-same (a .probes) _ (wouldOpen t (a .rec .now)) (λ i. 1) (λ v l. open-counted t (a .rec .now) v _ _ _ (at-count-degrees .count-degrees .ensures v) (at-count-bytes .count-bytes .ensures v) (at-count-bytes2 .count-bytes2 .ensures v))))
 
 pub is-finished-spec : {M : Type 1} → statement M
 is-finished-spec =

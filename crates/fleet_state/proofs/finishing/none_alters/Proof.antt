@@ -10,7 +10,7 @@ use borrow.Author.Tests.{eq-eqb}
 use Rattle.range.specs.Sum.{sum, count}
 use Rattle.range.proofs.Sums.{count-miss}
 use Rattle.range.proofs.Bools.{or-intro-left, or-intro-right}
-use Rattle.fleet_state.specs.Altering.{mayAlter}
+use Rattle.fleet_theory.specs.Fleet.{mayAlter}
 use Rattle.fleet_state.proofs.Finished.{some-counted, altersOf}
 use Rattle.table.specs.Table.{item}
 

@@ -13,7 +13,7 @@ use borrow.Author.Tests.{lt-ltb, le-ltb, eq-eqb}
 use Rattle.range.specs.Sum.{sum, count}
 use Rattle.range.proofs.Sums.{count-miss}
 use Rattle.table.specs.Table.{item}
-use Rattle.fleet_state.specs.Altering.{mayOpen}
+use Rattle.fleet_state.specs.Opening.{mayOpen}
 use Rattle.fleet_state.proofs.Finished.{some-counted}
 
 abbrev may : List ℕ → List ℕ → List ℕ → List ℕ → ℕ → Bool

@@ -9,7 +9,7 @@ use native.Mathlib.Omega.{arith}
 use Rattle.range.specs.Sum.{sum, weigh}
 use Rattle.range.proofs.Sums.{weigh-next, weigh-most}
 use Rattle.table.specs.Table.{item}
-use Rattle.plan_slse.specs.FromDearest.{isKept}
+use Rattle.plan_theory.specs.Plan.{isKept}
 
 abbrev Inv-loop : tie.InvT-loop
 Inv-loop plan links costs n₀ i₀ n i = (i ≤ links) × (n ≡ weigh i (isKept plan) (item costs))

@@ -8,7 +8,7 @@ use mathlib.Core.Path.{_≡_, refl}
 use native.Mathlib.Omega.{arith}
 use Rattle.range.specs.Sum.{sum, count}
 use Rattle.range.proofs.Sums.{weigh-next, count-le}
-use Rattle.plan_slse.specs.FromDearest.{isKept}
+use Rattle.plan_theory.specs.Plan.{isKept}
 
 abbrev Inv-loop : tie.InvT-loop
 Inv-loop plan links n₀ i₀ n i = (i ≤ links) × (n ≡ count i (isKept plan))

@@ -13,7 +13,7 @@ use Rattle.range.specs.Lists.{joined}
 use Rattle.range.proofs.Sums.{weigh-next}
 use Rattle.table.specs.Table.{item}
 use Rattle.plan_output.proofs.Printing.{lineIf, count-part, lines-then}
-use Rattle.plan_slse.specs.FromDearest.{isKept}
+use Rattle.plan_theory.specs.Plan.{isKept}
 
 abbrev Inv-loop : tie.InvT-loop
 Inv-loop out₀ plan links lows highs costs at₀ i₀ out at i = (i ≤ links) × (at ≡ 17 + 13 * count i (isKept plan)) × (out ≡ sets out₀ 17 (joined (lineIf (isKept plan) (item lows) (item highs) (item costs)) i)) × (length out ≡ length out₀)

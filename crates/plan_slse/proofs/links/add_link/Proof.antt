@@ -2,7 +2,7 @@
 use borrow.Author.Needs.{needs}
 use Rattle.plan_slse.proofs.links.add_link.Statement.{statement}
 use Rattle.plan_slse.proofs.links.add_link.Tie as tie
-use mathlib.Core.Path.{sym, _∙_, ap}
+use mathlib.Core.Path.{_∙_, ap}
 use Prim.Native.Nat.{_+_}
 use native.Mathlib.Omega.{arith}
 use lib.ListN.{length, getD, length-set}

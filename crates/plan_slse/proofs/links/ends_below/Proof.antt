@@ -1,8 +1,7 @@
+-- `plan_slse::links::ends_below` meets its contract.
 use borrow.Author.Needs.{needs}
 use Rattle.plan_slse.proofs.links.ends_below.Statement.{statement}
 use Rattle.plan_slse.proofs.links.ends_below.Tie as tie
-use Rattle.plan_slse.proofs.links.ends_below.Reads as reads
-use Rattle.plan_slse.proofs.links.ends_below.Lts as lts
 use borrow.Author.Tests.{lt-ltb, le-ltb}
 
 mul-if1 : tie.Need-mul-if1

@@ -3,7 +3,7 @@ use borrow.Author.Needs.{needs}
 use Rattle.plan_slse.proofs.links.remove_link.Statement.{statement}
 use Rattle.plan_slse.proofs.links.remove_link.Tie as tie
 use Prim.Native.Nat.{_-_, _<_}
-use mathlib.Core.Path.{sym, _∙_, ap}
+use mathlib.Core.Path.{_∙_, ap}
 use native.Mathlib.Omega.{arith}
 use lib.Dec.{ltb}
 use lib.ListN.{length, getD, length-set}

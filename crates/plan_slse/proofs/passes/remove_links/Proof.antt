@@ -11,8 +11,8 @@ use lib.ListN.{length, getD}
 use Rattle.table.specs.Table.{ofSlices, dearer}
 use Rattle.table.specs.Legal.{Ends}
 use Rattle.plan_theory.specs.Pass.{place}
-use Rattle.plan_theory.specs.Plan.{linksAt, added}
-use Rattle.plan_slse.specs.FromDearest.{InOrder, planByte}
+use Rattle.plan_theory.specs.Plan.{linksAt, added, planByte}
+use Rattle.plan_slse.specs.FromDearest.{InOrder}
 use Rattle.plan_slse.proofs.Turns.{Down, down-start, down-step, down-end, whole}
 
 abbrev Inv-loop : tie.InvT-loop

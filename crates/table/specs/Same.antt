@@ -1,7 +1,7 @@
--- What the round trips say of a table: that its numbers fit four digits, and that two tables have the same entries.
+-- What two tables say of each other: that their own entries are the same; and that every number of a table fits four digits.
 use Prim.Native.Nat.{ℕ, _<_}
 use mathlib.Core.Path.{_≡_}
 use Rattle.table.specs.Table.{Table}
 
 -- every number of the table can be written in four digits
 pub record FourDigits (t : Table) : Type 0 where
