@@ -1,5 +1,5 @@
--- `lines::find_line` meets its contract. The loop's invariant: the first line feed from `at` is the first from `i`.
--- Assumes nothing.
+-- `lines::find_line` meets its contract.
+-- Invariant: the first line feed from `at` is the first from `i`. Measure: the bytes that are left.
 use mathlib.Core.Path.{_≡_}
 use mathlib.Core.List.{List}
 use Prim.Native.Nat.{ℕ, _+_, _-_, _≤_, _<_}
