@@ -38,11 +38,12 @@ value-requires c κs = search needs
 
 returns : tie.Need-returns Inv-loop μ-loop
 returns c =
+    let at-loop-test = c .before .before .before in
     let l = c .before .before .before .before in
     let a = c .before .before .before .before .before .before .args in
     let v = c .before .value .ensures in
     let e : fault (a .text .now) (a .at) (l .loop .j) ≡ 2 = rw (le-ltb (valueOf (getD (a .text .now) (a .at + l .loop .j) 0)) 16 (omega arith)) in
-    sym (first-some (fault (a .text .now) (a .at)) (a .width) (l .loop .j) (l .loop .inv .1) (c .before .before .before .loop-test .taken) (λ z. omega arith) ∙ e)
+    sym (first-some (fault (a .text .now) (a .at)) (a .width) (l .loop .j) (l .loop .inv .1) (at-loop-test .loop-test .taken) (λ z. omega arith) ∙ e)
 
 add-j : tie.Need-add-j Inv-loop μ-loop
 add-j c = search needs
@@ -59,7 +60,8 @@ loop-again c =
 
 returns-2 : tie.Need-returns-2 Inv-loop μ-loop
 returns-2 c =
-    let e : c .before .loop .j ≡ c .before .before .before .args .width = omega arith in
+    let at-start = c .before .before .before in
+    let e : c .before .loop .j ≡ at-start .args .width = omega arith in
     rw (← e) (sym (c .before .loop .inv .1))
 
 pub digits-fault-spec : {M : Type 1} → statement M

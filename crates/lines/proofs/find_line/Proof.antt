@@ -58,11 +58,13 @@ sub-len c = search needs
 
 returns : tie.Need-returns Inv-loop μ-loop
 returns c =
-    let s = c .before .before .before .before .args .text .now in
-    let i = c .before .before .before .loop .i in
+    let at-loop = c .before .before .before in
+    let at-start = at-loop .before in
+    let s = at-start .args .text .now in
+    let i = at-loop .loop .i in
     let l : i < length s = omega arith in
     let z = here s i l (c .if1 .taken) in
-    closed s (c .before .before .before .before .args .at) i (c .before .before .before .loop .inv .0) l (omega arith)
+    closed s (at-start .args .at) i (at-loop .loop .inv .0) l (omega arith)
 
 add-i : tie.Need-add-i Inv-loop μ-loop
 add-i c = search needs
@@ -72,8 +74,10 @@ loop-less c = search needs
 
 loop-again : tie.Need-loop-again Inv-loop μ-loop
 loop-again c =
-    let s = c .before .before .before .before .args .text .now in
-    let i = c .before .before .before .loop .i in
+    let at-loop = c .before .before .before in
+    let at-start = at-loop .before in
+    let s = at-start .args .text .now in
+    let i = at-loop .loop .i in
     let z = past s i (c .before .before .loop-test .taken) (c .if1 .left) in
     omega arith
 

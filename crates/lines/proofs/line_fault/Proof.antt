@@ -20,13 +20,15 @@ enum-known-line c = search needs
 
 returns : tie.Need-returns
 returns c =
+    let at-find-line = c .before .before .before .before in
     let a = c .before .before .before .before .before .before .args in
-    fault-of-length (a .text .now) (a .at) (a .width) _ _ (line-is (c .before .before .before .before .find-line .ensures) (c .before .before .line .given .1)) (c .if1 .taken)
+    fault-of-length (a .text .now) (a .at) (a .width) _ _ (line-is (at-find-line .find-line .ensures) (c .before .before .line .given .1)) (c .if1 .taken)
 
 digits-fault-requires : tie.Need-digits-fault-requires
 digits-fault-requires c κs =
+    let at-find-line = c .before .before .before .before in
     let a = c .before .before .before .before .before .before .args in
-    let t = there (a .text .now) (a .at) _ _ (line-is (c .before .before .before .before .find-line .ensures) (c .before .before .line .given .1)) in
+    let t = there (a .text .now) (a .at) _ _ (line-is (at-find-line .find-line .ensures) (c .before .before .line .given .1)) in
     let w = t .within in
     omega arith
 
@@ -35,8 +37,10 @@ enum-told c = search needs
 
 returns-2 : tie.Need-returns-2
 returns-2 c =
+    let at-line = c .before .before .before in
+    let at-find-line = at-line .before .before in
     let a = c .before .before .before .before .before .before .before .args in
-    fault-of-digits (a .text .now) (a .at) (a .width) _ _ _ (line-is (c .before .before .before .before .before .find-line .ensures) (c .before .before .before .line .given .1)) (c .before .if1 .left) (c .digits-fault .ensures)
+    fault-of-digits (a .text .now) (a .at) (a .width) _ _ _ (line-is (at-find-line .find-line .ensures) (at-line .line .given .1)) (c .before .if1 .left) (c .digits-fault .ensures)
 
 returns-3 : tie.Need-returns-3
 returns-3 c =

@@ -55,7 +55,9 @@ cast-result-5 : tie.Need-cast-result-5
 cast-result-5 c = search needs
 
 returns : tie.Need-returns
-returns c = simp (c .before .before .before .before .before .r .given .1, c .displaced-probe .ensures, c .before .link-place .ensures, c .before .before .code .ensures)
+returns c =
+    let at-r = c .before .before .before .before .before in
+    simp (at-r .r .given .1, c .displaced-probe .ensures, c .before .link-place .ensures, c .before .before .code .ensures)
 
 returns-2 : tie.Need-returns-2
 returns-2 c = search needs

@@ -33,13 +33,15 @@ enum-known-printed c = search needs
 
 array-share-prefix-out : tie.Need-array-share-prefix-out
 array-share-prefix-out c =
-    let k = c .before .before .before .before .plan-text in
+    let at-plan-text = c .before .before .before .before in
+    let k = at-plan-text .plan-text in
     let l = printed-within _ _ _ _ _ _ (k .ensures) (c .before .printed .given .1) (k .kept .1 .0) .1 in
     omega (arith, k .kept .1 .0)
 
 slice-aggregate-write-all : tie.Need-slice-aggregate-write-all
 slice-aggregate-write-all c =
-    let k = c .before .before .before .before .before .plan-text in
+    let at-plan-text = c .before .before .before .before .before in
+    let k = at-plan-text .plan-text in
     let l = printed-within _ _ _ _ _ _ (k .ensures) (c .before .before .printed .given .1) (k .kept .1 .0) .1 in
     sym (length-take-le _ (k .last .1 .0) (omega (arith, k .kept .1 .0)))
 

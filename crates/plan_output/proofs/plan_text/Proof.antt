@@ -45,10 +45,12 @@ slice-aggregate-print-plan-4 c = search needs
 
 print-plan-requires : tie.Need-print-plan-requires
 print-plan-requires c κs =
+    let at-read = c .before .before .before .before .before .before in
+    let at-read-table = at-read .before .before .before .before .before .before in
     let a = c .before .before .before .before .before .before .before .before .before .before .before .before .before .before .before .before .before .before .before .args in
-    let k = c .before .before .before .before .before .before .before .before .before .before .before .before .read-table in
+    let k = at-read-table .read-table in
     let b : Lent = record { needs = k .last .1 .0; lows = k .last .1 .1 .0; highs = k .last .1 .1 .1 .0; costs = k .last .1 .1 .1 .1 .0 } in
-    let e = c .before .before .before .before .before .before .read .given .1 in
+    let e = at-read .read .given .1 in
     (read-legal false (a .text .now) _ blank b (k .ensures) _ _ _ _ e, read-held false (a .text .now) _ blank b (k .ensures) _ _ _ _ e)
 
 enum-known-read-2 : tie.Need-enum-known-read-2
@@ -62,20 +64,24 @@ same-length c = search needs
 
 returns : tie.Need-returns
 returns c =
+    let at-read = c .before .before .before .before .before .before .before .before .before in
+    let at-read-table = at-read .before .before .before .before .before .before in
     let a = c .before .before .before .before .before .before .before .before .before .before .before .before .before .before .before .before .before .before .before .before .before .before .args in
-    let k = c .before .before .before .before .before .before .before .before .before .before .before .before .before .before .before .read-table in
+    let k = at-read-table .read-table in
     let b : Lent = record { needs = k .last .1 .0; lows = k .last .1 .1 .0; highs = k .last .1 .1 .1 .0; costs = k .last .1 .1 .1 .1 .0 } in
-    plan-printed (a .text .now) _ b (k .ensures) _ _ _ _ (c .before .before .before .before .before .before .before .before .before .read .given .1) _ (a .out .now) _ (c .before .before .print-plan .ensures)
+    plan-printed (a .text .now) _ b (k .ensures) _ _ _ _ (at-read .read .given .1) _ (a .out .now) _ (c .before .before .print-plan .ensures)
 
 same-length-2 : tie.Need-same-length-2
 same-length-2 c = search needs
 
 returns-2 : tie.Need-returns-2
 returns-2 c =
+    let at-read2 = c .before .before .before .before .before in
+    let at-read-table = at-read2 .before .before .before .before .before .before in
     let a = c .before .before .before .before .before .before .before .before .before .before .before .before .before .before .before .before .before .before .args in
-    let k = c .before .before .before .before .before .before .before .before .before .before .before .read-table in
+    let k = at-read-table .read-table in
     let b : Lent = record { needs = k .last .1 .0; lows = k .last .1 .1 .0; highs = k .last .1 .1 .1 .0; costs = k .last .1 .1 .1 .1 .0 } in
-    refusal-printed (a .text .now) _ b (k .ensures) _ _ (a .out .now) _ (c .before .before .before .before .before .read2 .given .1) (c .before .before .print-refusal .ensures)
+    refusal-printed (a .text .now) _ b (k .ensures) _ _ (a .out .now) _ (at-read2 .read2 .given .1) (c .before .before .print-refusal .ensures)
 
 pub plan-text-spec : {M : Type 1} → statement M
 plan-text-spec =

@@ -34,7 +34,10 @@ is-sendable-requires c κs =
 
 returns-3 : tie.Need-returns-3
 unfolding linkCallFault
-returns-3 c = record { answer = rw (le-ltb _ _ (c .before .before .before .before .if1 .left), ← c .before .before .before .link-call-fault .ensures, eq-eqb _ _ (c .before .before .if2 .left), sym (c .before .is-sendable .ensures) ∙ not-true _ (c .if3 .taken)); line = rw (le-ltb _ _ (c .before .before .before .before .if1 .left), ← c .before .before .before .link-call-fault .ensures, eq-eqb _ _ (c .before .before .if2 .left), sym (c .before .is-sendable .ensures) ∙ not-true _ (c .if3 .taken)) }
+returns-3 c =
+    let at-link-call-fault = c .before .before .before in
+    let at-if1 = at-link-call-fault .before in
+    record { answer = rw (le-ltb _ _ (at-if1 .if1 .left), ← at-link-call-fault .link-call-fault .ensures, eq-eqb _ _ (c .before .before .if2 .left), sym (c .before .is-sendable .ensures) ∙ not-true _ (c .if3 .taken)); line = rw (le-ltb _ _ (at-if1 .if1 .left), ← at-link-call-fault .link-call-fault .ensures, eq-eqb _ _ (c .before .before .if2 .left), sym (c .before .is-sendable .ensures) ∙ not-true _ (c .if3 .taken)) }
 
 other-requires : tie.Need-other-requires
 other-requires c κs =

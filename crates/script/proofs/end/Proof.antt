@@ -18,14 +18,16 @@ enum-known-printed c = search needs
 
 array-share-prefix-out : tie.Need-array-share-prefix-out
 array-share-prefix-out c =
-    let k = c .before .before .before .before .script-end in
+    let at-script-end = c .before .before .before .before in
+    let k = at-script-end .script-end in
     let m = k .kept .1 .1 .1 .1 .1 .1 .1 .1 .1 .0 in
     let l = printed-within _ _ _ _ _ _ (k .ensures) (c .before .printed .given .1) m .1 in
     omega (arith, m)
 
 slice-aggregate-write-all : tie.Need-slice-aggregate-write-all
 slice-aggregate-write-all c =
-    let k = c .before .before .before .before .before .script-end in
+    let at-script-end = c .before .before .before .before .before in
+    let k = at-script-end .script-end in
     let m = k .kept .1 .1 .1 .1 .1 .1 .1 .1 .1 .0 in
     let l = printed-within _ _ _ _ _ _ (k .ensures) (c .before .before .printed .given .1) m .1 in
     sym (length-take-le _ (k .last .1 .1 .1 .1 .1 .1 .1 .1 .1 .0) (omega (arith, m)))

@@ -18,7 +18,8 @@ enum-known-handled c = search needs
 
 array-share-prefix-out : tie.Need-array-share-prefix-out
 array-share-prefix-out c =
-    let k = c .before .before .before .before .before .before .before .before .script-piece in
+    let at-script-piece = c .before .before .before .before .before .before .before .before in
+    let k = at-script-piece .script-piece in
     let m = k .kept .1 .1 .1 .1 .1 .1 .1 .1 .1 .1 .1 .0 in
     let l = handled-within _ _ _ _ _ _ _ _ _ _ _ (k .ensures) (c .before .handled .given .1) m in
     omega (arith, m)

@@ -23,7 +23,9 @@ array-borrow-prefix-bytes : tie.Need-array-borrow-prefix-bytes Inv-loop μ-loop
 array-borrow-prefix-bytes c = search needs
 
 slice-aggregate-rec : tie.Need-slice-aggregate-rec Inv-loop μ-loop
-slice-aggregate-rec c = sym (length-take-le _ _ (omega (arith, c .before .before .before .before .before .before .pre .0)))
+slice-aggregate-rec c =
+    let at-start = c .before .before .before .before .before .before in
+    sym (length-take-le _ _ (omega (arith, at-start .pre .0)))
 
 loop-holds : tie.Need-loop-holds Inv-loop μ-loop
 loop-holds c = search needs

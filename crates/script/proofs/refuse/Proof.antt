@@ -16,7 +16,8 @@ enum-known-printed c = search needs
 
 array-share-prefix-out : tie.Need-array-share-prefix-out
 array-share-prefix-out c =
-    let k = c .before .before .before .before .print-refusal in
+    let at-print-refusal = c .before .before .before .before in
+    let k = at-print-refusal .print-refusal in
     let l = printed-within _ _ _ _ _ _ (k .ensures) (c .before .printed .given .1) (k .kept .0) .1 in
     omega (arith, k .kept .0)
 

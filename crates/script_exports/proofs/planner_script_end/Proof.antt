@@ -22,7 +22,9 @@ same-length : tie.Need-same-length
 same-length c = search needs
 
 returns : tie.Need-returns
-returns c = prints-packed _ _ _ _ _ _ (c .before .before .before .script-end .ensures) (c .packed-output .ensures)
+returns c =
+    let at-script-end = c .before .before .before in
+    prints-packed _ _ _ _ _ _ (at-script-end .script-end .ensures) (c .packed-output .ensures)
 
 pub planner-script-end-spec : {M : Type 1} → statement M
 planner-script-end-spec =

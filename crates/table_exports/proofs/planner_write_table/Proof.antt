@@ -11,20 +11,22 @@ write-table-requires c κs = search needs
 
 packed-writing-requires : tie.Need-packed-writing-requires
 packed-writing-requires c κs =
+    let at-start = c .before .before .before .before .before .before .before .before .before in
     λ n is.
-    let a = c .before .before .before .before .before .before .before .before .before .args in
+    let a = at-start .args in
     let x = slicesOf (a .number) (a .probes) (a .links) (a .needs .now) (a .lows .now) (a .highs .now) (a .costs .now) in
     let e = length-is x _ n (a .out .now) _ (c .before .before .write-table .ensures) is in
-    omega (arith, c .before .before .before .before .before .before .before .before .before .fits .probes, c .before .before .before .before .before .before .before .before .before .fits .links)
+    omega (arith, at-start .fits .probes, at-start .fits .links)
 
 same-length : tie.Need-same-length
 same-length c = search needs
 
 returns : tie.Need-returns
 returns c =
+    let at-write-table = c .before .before .before in
     let a = c .before .before .before .before .before .before .before .before .before .before .args in
     let x = slicesOf (a .number) (a .probes) (a .links) (a .needs .now) (a .lows .now) (a .highs .now) (a .costs .now) in
-    writes-packed x _ _ (a .out .now) _ (c .before .before .before .write-table .ensures) (c .packed-writing .ensures)
+    writes-packed x _ _ (a .out .now) _ (at-write-table .write-table .ensures) (c .packed-writing .ensures)
 
 pub planner-write-table-spec : {M : Type 1} → statement M
 planner-write-table-spec =

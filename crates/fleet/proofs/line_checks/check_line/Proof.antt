@@ -24,12 +24,16 @@ refused-requires-2 c κs = search needs
 
 returns-2 : tie.Need-returns-2
 returns-2 c =
-    let z = sym (c .before .before .before .before .frame-fault .ensures) ∙ c .before .before .before .if1 .left in
+    let at-if1 = c .before .before .before in
+    let at-frame-fault = at-if1 .before in
+    let z = sym (at-frame-fault .frame-fault .ensures) ∙ at-if1 .if1 .left in
     let k = c .before .if2 .taken in
     rw (c .refused2 .ensures) (rw (z, ← c .before .before .field .ensures, le-ltb (c .before .before .field .result) 3 (omega arith)), λ y m. absurd (omega arith))
 
 field-requires-2 : tie.Need-field-requires-2
-field-requires-2 c κs = (sym (c .before .before .before .frame-fault .ensures) ∙ c .before .before .if1 .left, search needs, search needs)
+field-requires-2 c κs =
+    let at-frame-fault = c .before .before .before in
+    (sym (at-frame-fault .frame-fault .ensures) ∙ c .before .before .if1 .left, search needs, search needs)
 
 wide-requires : tie.Need-wide-requires
 wide-requires c κs = search needs
@@ -39,15 +43,26 @@ refused-requires-3 c κs = search needs
 
 returns-3 : tie.Need-returns-3
 returns-3 c =
-    let z = sym (c .before .before .before .before .before .before .before .frame-fault .ensures) ∙ c .before .before .before .before .before .before .if1 .left in
-    let k = c .before .before .before .before .if2 .left in
-    rw (c .refused3 .ensures) (rw (z, ← c .before .before .before .before .before .field .ensures, lt-ltb (c .before .before .before .before .before .field .result) 3 (omega arith), ← c .before .before .before .field2 .ensures, ne-eqb _ _ (λ q. c .before .if3 .taken (q ∙ sym (c .before .before .wide .ensures)))), λ y m. absurd (omega arith))
+    let at-field2 = c .before .before .before in
+    let at-if2 = at-field2 .before in
+    let at-field = at-if2 .before in
+    let at-if1 = at-field .before in
+    let at-frame-fault = at-if1 .before in
+    let z = sym (at-frame-fault .frame-fault .ensures) ∙ at-if1 .if1 .left in
+    let k = at-if2 .if2 .left in
+    rw (c .refused3 .ensures) (rw (z, ← at-field .field .ensures, lt-ltb (at-field .field .result) 3 (omega arith), ← at-field2 .field2 .ensures, ne-eqb _ _ (λ q. c .before .if3 .taken (q ∙ sym (c .before .before .wide .ensures)))), λ y m. absurd (omega arith))
 
 field-requires-3 : tie.Need-field-requires-3
-field-requires-3 c κs = (sym (c .before .before .before .before .before .before .frame-fault .ensures) ∙ c .before .before .before .before .before .if1 .left, search needs, search needs)
+field-requires-3 c κs =
+    let at-if1 = c .before .before .before .before .before in
+    let at-frame-fault = at-if1 .before in
+    (sym (at-frame-fault .frame-fault .ensures) ∙ at-if1 .if1 .left, search needs, search needs)
 
 field-requires-4 : tie.Need-field-requires-4
-field-requires-4 c κs = (sym (c .before .before .before .before .before .before .before .frame-fault .ensures) ∙ c .before .before .before .before .before .before .if1 .left, search needs, search needs)
+field-requires-4 c κs =
+    let at-if1 = c .before .before .before .before .before .before in
+    let at-frame-fault = at-if1 .before in
+    (sym (at-frame-fault .frame-fault .ensures) ∙ at-if1 .if1 .left, search needs, search needs)
 
 find-ends-requires : tie.Need-find-ends-requires
 find-ends-requires c κs = search needs

@@ -28,10 +28,11 @@ out-byte-requires c κs =
 
 returns : tie.Need-returns
 returns c links v =
+    let at-event = c .before .before .before in
     let a = c .before .before .before .before .before .before .before .before .args in
-    let w = rw (c .before .before .before .event .given .1) at v in
+    let w = rw (at-event .event .given .1) at v in
     let b = out-is (table links (a .lows .now) (a .highs .now)) (a .from) (a .rec .now) _ w in
-    rw (c .before .before .before .event .given .1, b ∙ sym (c .before .out-byte .ensures), eq-eqb _ _ (c .if1 .taken))
+    rw (at-event .event .given .1, b ∙ sym (c .before .out-byte .ensures), eq-eqb _ _ (c .if1 .taken))
 
 enum-known-event-2 : tie.Need-enum-known-event-2
 enum-known-event-2 c = search needs
@@ -45,27 +46,30 @@ in-byte-requires c κs =
 
 returns-2 : tie.Need-returns-2
 returns-2 c links v =
+    let at-event2 = c .before .before .before in
     let a = c .before .before .before .before .before .before .before .before .args in
-    let w = rw (c .before .before .before .event2 .given .1) at v in
+    let w = rw (at-event2 .event2 .given .1) at v in
     let b = in-is (table links (a .lows .now) (a .highs .now)) (a .from) (a .rec .now) _ w in
-    rw (c .before .before .before .event2 .given .1, b ∙ sym (c .before .in-byte .ensures), eq-eqb _ _ (c .if2 .taken))
+    rw (at-event2 .event2 .given .1, b ∙ sym (c .before .in-byte .ensures), eq-eqb _ _ (c .if2 .taken))
 
 returns-3 : tie.Need-returns-3
 returns-3 c links v = rw (c .enum-told .given .1)
 
 returns-4 : tie.Need-returns-4
 returns-4 c links v =
+    let at-event = c .before .before .before in
     let a = c .before .before .before .before .before .before .before .before .args in
-    let w = rw (c .before .before .before .event .given .1) at v in
+    let w = rw (at-event .event .given .1) at v in
     let b = out-is (table links (a .lows .now) (a .highs .now)) (a .from) (a .rec .now) _ w in
-    rw (c .before .before .before .event .given .1, b ∙ sym (c .before .out-byte .ensures), ne-eqb _ _ (c .if1 .left))
+    rw (at-event .event .given .1, b ∙ sym (c .before .out-byte .ensures), ne-eqb _ _ (c .if1 .left))
 
 returns-5 : tie.Need-returns-5
 returns-5 c links v =
+    let at-event2 = c .before .before .before in
     let a = c .before .before .before .before .before .before .before .before .args in
-    let w = rw (c .before .before .before .event2 .given .1) at v in
+    let w = rw (at-event2 .event2 .given .1) at v in
     let b = in-is (table links (a .lows .now) (a .highs .now)) (a .from) (a .rec .now) _ w in
-    rw (c .before .before .before .event2 .given .1, b ∙ sym (c .before .in-byte .ensures), ne-eqb _ _ (c .if2 .left))
+    rw (at-event2 .event2 .given .1, b ∙ sym (c .before .in-byte .ensures), ne-eqb _ _ (c .if2 .left))
 
 pub unsent-fault-spec : {M : Type 1} → statement M
 unsent-fault-spec =

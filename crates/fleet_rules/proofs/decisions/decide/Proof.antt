@@ -19,8 +19,9 @@ enum-known-event c = search needs
 
 in-byte-requires : tie.Need-in-byte-requires
 in-byte-requires c κs =
-    let a = c .before .before .before .before .before .before .before .before .args in
-    let p = c .before .before .before .before .before .before .before .before .pre in
+    let at-start = c .before .before .before .before .before .before .before .before in
+    let a = at-start .args in
+    let p = at-start .pre in
     let w = rw (c .before .event .given .1) at (p .2) in
     let z = p .0 .few in
     (omega (arith, p .0 .in-lows), omega (arith, p .0 .in-highs), omega arith, omega (arith, p .1))
@@ -46,8 +47,9 @@ enum-known-event-2 c = search needs
 
 out-byte-requires : tie.Need-out-byte-requires
 out-byte-requires c κs =
-    let a = c .before .before .before .before .before .before .before .before .args in
-    let p = c .before .before .before .before .before .before .before .before .pre in
+    let at-start = c .before .before .before .before .before .before .before .before in
+    let a = at-start .args in
+    let p = at-start .pre in
     let w = rw (c .before .event2 .given .1) at (p .2) in
     let z = p .0 .few in
     (omega (arith, p .0 .in-lows), omega (arith, p .0 .in-highs), omega arith, omega (arith, p .1))

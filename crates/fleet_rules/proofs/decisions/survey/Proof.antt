@@ -42,16 +42,18 @@ loop-less c = search needs
 
 loop-again : tie.Need-loop-again Inv-loop μ-loop
 loop-again c =
+    let at-loop = c .before .before .before in
     let a = c .before .before .before .before .before .before .before .before .args in
     let t : Table = ofSlices 0 0 (a .links) [] (a .lows .now) (a .highs .now) (a .costs .now) in
-    let l = c .before .before .before .loop in
+    let l = at-loop .loop in
     let w = c .before .before .loop-test .taken in
     (omega arith, passing-skip t (a .probe) (sideByte (a .value) (own t (a .probe) (a .rec .now))) (sideBetter (a .value) t) (a .value) (l .i) (l .s) (sym (c .before .touches .ensures) ∙ not-true _ (c .if1 .taken)) (l .inv .1))
 
 side-byte-requires : tie.Need-side-byte-requires Inv-loop μ-loop
 side-byte-requires c κs =
-    let a = c .before .before .before .before .before .before .before .before .args in
-    let p = c .before .before .before .before .before .before .before .before .pre in
+    let at-start = c .before .before .before .before .before .before .before .before in
+    let a = at-start .args in
+    let p = at-start .pre in
     let w = c .before .before .loop-test .taken in
     let z = p .0 .few in
     (omega (arith, p .0 .in-lows), omega (arith, p .0 .in-highs), omega arith, omega (arith, p .1))

@@ -11,12 +11,15 @@ enum-known-outcome : tie.Need-enum-known-outcome
 enum-known-outcome c = search needs
 
 out-at-requires : tie.Need-out-at-requires
-out-at-requires c κs = (rw (c .before .outcome .given .1) at (c .before .before .before .before .before .pre .1), rw (c .before .outcome .given .1) at (c .before .before .before .before .before .pre .2))
+out-at-requires c κs =
+    let at-start = c .before .before .before .before .before in
+    (rw (c .before .outcome .given .1) at (at-start .pre .1), rw (c .before .outcome .given .1) at (at-start .pre .2))
 
 slice-write-rec : tie.Need-slice-write-rec
 slice-write-rec c =
-    let a = c .before .before .before .before .before .before .args in
-    let w = rw (c .before .before .outcome .given .1) at (c .before .before .before .before .before .before .pre .0) in
+    let at-start = c .before .before .before .before .before .before in
+    let a = at-start .args in
+    let w = rw (c .before .before .outcome .given .1) at (at-start .pre .0) in
     rw (c .out-at .ensures) (out-below (ofSlices 0 0 0 [] (a .lows .now) [] []) (a .probe) _ _ w)
 
 enum-told : tie.Need-enum-told
@@ -26,12 +29,15 @@ enum-known-outcome-2 : tie.Need-enum-known-outcome-2
 enum-known-outcome-2 c = search needs
 
 in-at-requires : tie.Need-in-at-requires
-in-at-requires c κs = (rw (c .before .outcome2 .given .1) at (c .before .before .before .before .before .pre .1), rw (c .before .outcome2 .given .1) at (c .before .before .before .before .before .pre .2))
+in-at-requires c κs =
+    let at-start = c .before .before .before .before .before in
+    (rw (c .before .outcome2 .given .1) at (at-start .pre .1), rw (c .before .outcome2 .given .1) at (at-start .pre .2))
 
 slice-write-rec-2 : tie.Need-slice-write-rec-2
 slice-write-rec-2 c =
-    let a = c .before .before .before .before .before .before .args in
-    let w = rw (c .before .before .outcome2 .given .1) at (c .before .before .before .before .before .before .pre .0) in
+    let at-start = c .before .before .before .before .before .before in
+    let a = at-start .args in
+    let w = rw (c .before .before .outcome2 .given .1) at (at-start .pre .0) in
     rw (c .in-at .ensures) (in-below (ofSlices 0 0 0 [] (a .lows .now) [] []) (a .probe) _ _ w)
 
 enum-known-outcome-3 : tie.Need-enum-known-outcome-3
@@ -39,50 +45,62 @@ enum-known-outcome-3 c = search needs
 
 in-at-requires-2 : tie.Need-in-at-requires-2
 in-at-requires-2 c κs =
-    let w = rw (c .before .outcome3 .given .1) at (c .before .before .before .before .before .pre .1) in
-    let v = rw (c .before .outcome3 .given .1) at (c .before .before .before .before .before .pre .2) in
+    let at-start = c .before .before .before .before .before in
+    let w = rw (c .before .outcome3 .given .1) at (at-start .pre .1) in
+    let v = rw (c .before .outcome3 .given .1) at (at-start .pre .2) in
     (w .0, v .0)
 
 in-at-requires-3 : tie.Need-in-at-requires-3
 in-at-requires-3 c κs =
-    let w = rw (c .before .before .outcome3 .given .1) at (c .before .before .before .before .before .before .pre .1) in
-    let v = rw (c .before .before .outcome3 .given .1) at (c .before .before .before .before .before .before .pre .2) in
+    let at-start = c .before .before .before .before .before .before in
+    let w = rw (c .before .before .outcome3 .given .1) at (at-start .pre .1) in
+    let v = rw (c .before .before .outcome3 .given .1) at (at-start .pre .2) in
     (w .1, v .1)
 
 slice-write-rec-3 : tie.Need-slice-write-rec-3
 slice-write-rec-3 c =
-    let a = c .before .before .before .before .before .before .before .args in
-    let w = rw (c .before .before .before .outcome3 .given .1) at (c .before .before .before .before .before .before .before .pre .0) in
+    let at-outcome3 = c .before .before .before in
+    let at-start = at-outcome3 .before .before .before .before in
+    let a = at-start .args in
+    let w = rw (at-outcome3 .outcome3 .given .1) at (at-start .pre .0) in
     rw (c .before .in-at2 .ensures) (in-below (ofSlices 0 0 0 [] (a .lows .now) [] []) (a .probe) _ _ (w .0))
 
 slice-write-rec-4 : tie.Need-slice-write-rec-4
 slice-write-rec-4 c =
-    let a = c .before .before .before .before .before .before .before .args in
-    let w = rw (c .before .before .before .outcome3 .given .1) at (c .before .before .before .before .before .before .before .pre .0) in
+    let at-outcome3 = c .before .before .before in
+    let at-start = at-outcome3 .before .before .before .before in
+    let a = at-start .args in
+    let w = rw (at-outcome3 .outcome3 .given .1) at (at-start .pre .0) in
     simp length-set (rw (c .in-at3 .ensures) (in-below (ofSlices 0 0 0 [] (a .lows .now) [] []) (a .probe) _ _ (w .1)))
 
 enum-known-outcome-4 : tie.Need-enum-known-outcome-4
 enum-known-outcome-4 c = search needs
 
 in-at-requires-4 : tie.Need-in-at-requires-4
-in-at-requires-4 c κs = (rw (c .before .outcome4 .given .1) at (c .before .before .before .before .before .pre .1), rw (c .before .outcome4 .given .1) at (c .before .before .before .before .before .pre .2))
+in-at-requires-4 c κs =
+    let at-start = c .before .before .before .before .before in
+    (rw (c .before .outcome4 .given .1) at (at-start .pre .1), rw (c .before .outcome4 .given .1) at (at-start .pre .2))
 
 slice-write-rec-5 : tie.Need-slice-write-rec-5
 slice-write-rec-5 c =
-    let a = c .before .before .before .before .before .before .args in
-    let w = rw (c .before .before .outcome4 .given .1) at (c .before .before .before .before .before .before .pre .0) in
+    let at-start = c .before .before .before .before .before .before in
+    let a = at-start .args in
+    let w = rw (c .before .before .outcome4 .given .1) at (at-start .pre .0) in
     rw (c .in-at4 .ensures) (in-below (ofSlices 0 0 0 [] (a .lows .now) [] []) (a .probe) _ _ w)
 
 enum-known-outcome-5 : tie.Need-enum-known-outcome-5
 enum-known-outcome-5 c = search needs
 
 out-at-requires-2 : tie.Need-out-at-requires-2
-out-at-requires-2 c κs = (rw (c .before .outcome5 .given .1) at (c .before .before .before .before .before .pre .1), rw (c .before .outcome5 .given .1) at (c .before .before .before .before .before .pre .2))
+out-at-requires-2 c κs =
+    let at-start = c .before .before .before .before .before in
+    (rw (c .before .outcome5 .given .1) at (at-start .pre .1), rw (c .before .outcome5 .given .1) at (at-start .pre .2))
 
 slice-write-rec-6 : tie.Need-slice-write-rec-6
 slice-write-rec-6 c =
-    let a = c .before .before .before .before .before .before .args in
-    let w = rw (c .before .before .outcome5 .given .1) at (c .before .before .before .before .before .before .pre .0) in
+    let at-start = c .before .before .before .before .before .before in
+    let a = at-start .args in
+    let w = rw (c .before .before .outcome5 .given .1) at (at-start .pre .0) in
     rw (c .out-at2 .ensures) (out-below (ofSlices 0 0 0 [] (a .lows .now) [] []) (a .probe) _ _ w)
 
 enum-told-2 : tie.Need-enum-told-2
@@ -107,7 +125,9 @@ same-length-3 : tie.Need-same-length-3
 same-length-3 c = search needs
 
 returns-4 : tie.Need-returns-4
-returns-4 c = rw (c .before .before .before .outcome3 .given .1, c .before .in-at2 .ensures, c .in-at3 .ensures)
+returns-4 c =
+    let at-outcome3 = c .before .before .before in
+    rw (at-outcome3 .outcome3 .given .1, c .before .in-at2 .ensures, c .in-at3 .ensures)
 
 same-length-4 : tie.Need-same-length-4
 same-length-4 c = search needs

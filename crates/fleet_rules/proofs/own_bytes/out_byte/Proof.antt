@@ -20,12 +20,15 @@ out-at-requires c κs = search needs
 
 shared-slice-read-result : tie.Need-shared-slice-read-result
 shared-slice-read-result c =
-    let a = c .before .before .before .before .before .before .before .args in
-    let p = c .before .before .before .before .before .before .before .pre in
+    let at-start = c .before .before .before .before .before .before .before in
+    let a = at-start .args in
+    let p = at-start .pre in
     rw (c .before .out-at .ensures) (out-below (ofSlices 0 0 0 [] (a .lows .now) [] []) (a .probe) (a .i) _ (omega (arith, p .3)))
 
 returns-2 : tie.Need-returns-2
-returns-2 c = rw (sym (c .before .before .before .touches .ensures) ∙ not-false _ (c .before .before .if1 .left), ← c .before .out-at .ensures)
+returns-2 c =
+    let at-touches = c .before .before .before in
+    rw (sym (at-touches .touches .ensures) ∙ not-false _ (c .before .before .if1 .left), ← c .before .out-at .ensures)
 
 pub out-byte-spec : {M : Type 1} → statement M
 out-byte-spec =

@@ -26,7 +26,8 @@ shared-slice-read-if1 c = search needs
 
 returns : tie.Need-returns Inv-loop μ-loop
 returns c =
-    let l = c .before .before .before .loop in
+    let at-loop = c .before .before .before in
+    let l = at-loop .loop in
     let a = c .before .before .before .before .args in
     let e : overTwo (a .rec .now) (l .j) ≡ 21 = rw (lt-ltb _ _ (c .if1 .taken)) in
     sym (first-some (overTwo (a .rec .now)) (a .n) (l .j) (l .inv .1) (c .before .before .loop-test .taken) (λ z. omega arith) ∙ e)
@@ -39,7 +40,8 @@ loop-less c = search needs
 
 loop-again : tie.Need-loop-again Inv-loop μ-loop
 loop-again c =
-    let l = c .before .before .before .loop in
+    let at-loop = c .before .before .before in
+    let l = at-loop .loop in
     let a = c .before .before .before .before .args in
     (search needs, first-none (overTwo (a .rec .now)) (l .j) (l .inv .1) (rw (le-ltb _ _ (c .if1 .left))))
 

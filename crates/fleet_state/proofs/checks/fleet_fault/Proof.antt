@@ -24,7 +24,9 @@ spares-fault-requires : tie.Need-spares-fault-requires
 spares-fault-requires c κs = search needs
 
 returns-3 : tie.Need-returns-3
-returns-3 c = rw (eq-eqb _ _ (c .before .before .before .if1 .left)) (or-next _ _ _ _ (c .before .before .bytes-fault .ensures) (c .before .if2 .left) (c .spares-fault .ensures))
+returns-3 c =
+    let at-if1 = c .before .before .before in
+    rw (eq-eqb _ _ (at-if1 .if1 .left)) (or-next _ _ _ _ (c .before .before .bytes-fault .ensures) (c .before .if2 .left) (c .spares-fault .ensures))
 
 pub fleet-fault-spec : {M : Type 1} → statement M
 fleet-fault-spec =

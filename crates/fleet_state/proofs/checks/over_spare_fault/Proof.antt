@@ -36,7 +36,9 @@ shared-slice-read-if1 : tie.Need-shared-slice-read-if1 Inv-loop μ-loop
 shared-slice-read-if1 c = search needs
 
 cast-if1 : tie.Need-cast-if1 Inv-loop μ-loop
-cast-if1 c = omega (arith, c .shared-slice-known5 .given (c .before .before .before .loop .v) .fits)
+cast-if1 c =
+    let at-loop = c .before .before .before in
+    omega (arith, c .shared-slice-known5 .given (at-loop .loop .v) .fits)
 
 returns : tie.Need-returns Inv-loop μ-loop
 returns c =
@@ -57,7 +59,9 @@ shared-slice-read-if2 : tie.Need-shared-slice-read-if2 Inv-loop μ-loop
 shared-slice-read-if2 c = search needs
 
 cast-if2 : tie.Need-cast-if2 Inv-loop μ-loop
-cast-if2 c = omega (arith, c .shared-slice-known6 .given (c .before .before .before .before .before .loop .v) .fits)
+cast-if2 c =
+    let at-loop = c .before .before .before .before .before in
+    omega (arith, c .shared-slice-known6 .given (at-loop .loop .v) .fits)
 
 returns-2 : tie.Need-returns-2 Inv-loop μ-loop
 returns-2 c =
@@ -90,7 +94,8 @@ loop-again c =
 
 returns-3 : tie.Need-returns-3 Inv-loop μ-loop
 returns-3 c =
-    let e : c .before .loop .v ≡ c .before .before .before .before .before .before .args .probes = omega arith in
+    let at-start = c .before .before .before .before .before .before in
+    let e : c .before .loop .v ≡ at-start .args .probes = omega arith in
     rw (← e) (sym (c .before .loop .inv .1))
 
 pub over-spare-fault-spec : {M : Type 1} → statement M

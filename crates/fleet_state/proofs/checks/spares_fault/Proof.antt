@@ -18,8 +18,9 @@ slice-aggregate-count-degrees c = search needs
 
 count-degrees-requires : tie.Need-count-degrees-requires
 count-degrees-requires c κs =
-    let a = c .before .before .before .before .before .args in
-    let p = c .before .before .before .before .before .pre .0 in
+    let at-start = c .before .before .before .before .before in
+    let a = at-start .args in
+    let p = at-start .pre .0 in
     let t = ofSlices 0 (a .probes) (a .links) (a .needs .now) (a .lows .now) (a .highs .now) [] in
     let s = legal-table 256 2048 t (p .legal) .size in
     (p .in-lows, p .in-highs, omega (arith, s .within), fits-ends (a .probes) (a .links) (a .needs .now) (a .lows .now) (a .highs .now) p, zeros-at 256)
@@ -29,11 +30,12 @@ slice-aggregate-count-bytes c = search needs
 
 count-bytes-requires : tie.Need-count-bytes-requires
 count-bytes-requires c κs =
-    let a = c .before .before .before .before .before .before .before .before .args in
-    let p = c .before .before .before .before .before .before .before .before .pre .0 in
+    let at-start = c .before .before .before .before .before .before .before .before in
+    let a = at-start .args in
+    let p = at-start .pre .0 in
     let s = legal-table 256 2048 (ofSlices 0 (a .probes) (a .links) (a .needs .now) (a .lows .now) (a .highs .now) []) (p .legal) .size in
     let ends = fits-ends (a .probes) (a .links) (a .needs .now) (a .lows .now) (a .highs .now) p in
-    (p .in-lows, p .in-highs, omega (arith, s .within), c .before .before .before .before .before .before .before .before .pre .1, search needs, search needs, ends, zeros-at 256)
+    (p .in-lows, p .in-highs, omega (arith, s .within), at-start .pre .1, search needs, search needs, ends, zeros-at 256)
 
 slice-aggregate-count-bytes-2 : tie.Need-slice-aggregate-count-bytes-2
 slice-aggregate-count-bytes-2 c = search needs

@@ -22,7 +22,9 @@ abbrev μ-loop : tie.MeasureT-loop
 
 loop-holds : tie.Need-loop-holds Inv-loop μ-loop
 unfolding sum
-loop-holds c = (search needs, c .before .before .before .before .pre .7, refl)
+loop-holds c =
+    let at-start = c .before .before .before .before in
+    (search needs, at-start .pre .7, refl)
 
 mul-wide : tie.Need-mul-wide Inv-loop μ-loop
 mul-wide c = search needs
@@ -125,7 +127,8 @@ same-length c = c .before .loop .inv .2
 
 returns : tie.Need-returns Inv-loop μ-loop
 returns c =
-    let e : c .before .loop .i ≡ c .before .before .before .before .before .before .args .links = omega arith in
+    let at-start = c .before .before .before .before .before .before in
+    let e : c .before .loop .i ≡ at-start .args .links = omega arith in
     λ v. rw (← e) (c .before .loop .inv .1 v)
 
 pub count-bytes-spec : {M : Type 1} → statement M

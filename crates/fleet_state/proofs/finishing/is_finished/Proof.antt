@@ -22,16 +22,18 @@ none-alters-requires c κs = search needs
 
 returns : tie.Need-returns
 returns c =
-    let a = c .before .before .before .before .before .before .args in
-    λ number costs. not-finished (ofSlices number (a .probes) (a .links) (a .needs .now) (a .lows .now) (a .highs .now) costs) (a .rec .now) (c .before .before .before .before .before .before .pre .0 .legal) _ (c .before .none-alters .ensures) (not-true _ (c .if1 .taken))
+    let at-start = c .before .before .before .before .before .before in
+    let a = at-start .args in
+    λ number costs. not-finished (ofSlices number (a .probes) (a .links) (a .needs .now) (a .lows .now) (a .highs .now) costs) (a .rec .now) (at-start .pre .0 .legal) _ (c .before .none-alters .ensures) (not-true _ (c .if1 .taken))
 
 slice-aggregate-count-degrees : tie.Need-slice-aggregate-count-degrees
 slice-aggregate-count-degrees c = search needs
 
 count-degrees-requires : tie.Need-count-degrees-requires
 count-degrees-requires c κs =
-    let a = c .before .before .before .before .before .before .before .args in
-    let p = c .before .before .before .before .before .before .before .pre .0 in
+    let at-start = c .before .before .before .before .before .before .before in
+    let a = at-start .args in
+    let p = at-start .pre .0 in
     let t = ofSlices 0 (a .probes) (a .links) (a .needs .now) (a .lows .now) (a .highs .now) [] in
     let s = legal-table 256 2048 t (p .legal) .size in
     (p .in-lows, p .in-highs, omega (arith, s .within), fits-ends (a .probes) (a .links) (a .needs .now) (a .lows .now) (a .highs .now) p, zeros-at 256)

@@ -44,9 +44,11 @@ may-alter-requires c κs = search needs
 
 returns : tie.Need-returns Inv-loop μ-loop
 returns c =
-    let l = c .before .before .before .before .before .loop in
+    let at-loop-test = c .before .before .before .before in
+    let at-loop = at-loop-test .before in
+    let l = at-loop .loop in
     let a = c .before .before .before .before .before .before .before .args in
-    some-counted (a .links) (altersOf (a .rec .now)) (l .i) (c .before .before .before .before .loop-test .taken) (or-intro-left _ _ (sym (c .before .may-alter .ensures) ∙ c .if1 .taken))
+    some-counted (a .links) (altersOf (a .rec .now)) (l .i) (at-loop-test .loop-test .taken) (or-intro-left _ _ (sym (c .before .may-alter .ensures) ∙ c .if1 .taken))
 
 mul-may-alter-3 : tie.Need-mul-may-alter-3 Inv-loop μ-loop
 mul-may-alter-3 c = search needs
@@ -98,7 +100,8 @@ loop-again c =
 
 returns-3 : tie.Need-returns-3 Inv-loop μ-loop
 returns-3 c =
-    let e : c .before .loop .i ≡ c .before .before .before .args .links = omega arith in
+    let at-start = c .before .before .before in
+    let e : c .before .loop .i ≡ at-start .args .links = omega arith in
     rw (← e) (sym (eq-eqb _ _ (c .before .loop .inv .1)))
 
 pub none-alters-spec : {M : Type 1} → statement M

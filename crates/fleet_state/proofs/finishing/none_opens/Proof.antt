@@ -42,7 +42,9 @@ shared-slice-read-if1 : tie.Need-shared-slice-read-if1 Inv-loop μ-loop
 shared-slice-read-if1 c = search needs
 
 cast-if1 : tie.Need-cast-if1 Inv-loop μ-loop
-cast-if1 c = omega (arith, c .shared-slice-known5 .given (c .before .before .before .loop .v) .fits)
+cast-if1 c =
+    let at-loop = c .before .before .before in
+    omega (arith, c .shared-slice-known5 .given (at-loop .loop .v) .fits)
 
 loop-less : tie.Need-loop-less Inv-loop μ-loop
 loop-less c = search needs
@@ -87,7 +89,8 @@ returns c =
 
 returns-2 : tie.Need-returns-2 Inv-loop μ-loop
 returns-2 c =
-    let e : c .before .loop .v ≡ c .before .before .before .before .before .before .args .probes = omega arith in
+    let at-start = c .before .before .before .before .before .before in
+    let e : c .before .loop .v ≡ at-start .args .probes = omega arith in
     rw (← e) (sym (eq-eqb _ _ (c .before .loop .inv .1)))
 
 pub none-opens-spec : {M : Type 1} → statement M

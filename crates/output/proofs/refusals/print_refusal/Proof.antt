@@ -21,8 +21,9 @@ same-length c = search needs
 
 returns-2 : tie.Need-returns-2
 returns-2 c =
+    let at-if1 = c .before .before .before .before in
     let a = c .before .before .before .before .before .before .args in
-    let l = c .before .before .before .before .if1 .left in
+    let l = at-if1 .if1 .left in
     prints-done _ 5 _ (a .out .now) _ (long-enough (length (a .out .now)) (refusalLine (a .fault)) l) refl l (c .before .before .put-refusal .ensures)
 
 pub print-refusal-spec : {M : Type 1} → statement M

@@ -29,34 +29,43 @@ returns-2 c number =
 
 slse-plan-requires : tie.Need-slse-plan-requires
 slse-plan-requires c κs =
+    let at-if1 = c .before .before .before in
     let s = c .before .before .before .before .before .before .before .before .before in
     let a = s .args in
     let t = ofSlices 0 (a .probes) (a .links) (a .needs .now) (a .lows .now) (a .highs .now) (a .costs .now) in
     let room = roomFault (a .probes) (a .links) (length (a .needs .now)) (length (a .lows .now)) (length (a .highs .now)) (length (a .costs .now)) in
     let e = sym (c .before .before .slice-fault .ensures) ∙ c .before .if2 .left in
-    (table-wider (a .pmax) (a .lmax) 256 2048 t (s .pre .0) (s .pre .1) (or-right room (tableFault (a .pmax) (a .lmax) t) e), c .before .before .before .if1 .left, or-left room (tableFault (a .pmax) (a .lmax) t) e)
+    (table-wider (a .pmax) (a .lmax) 256 2048 t (s .pre .0) (s .pre .1) (or-right room (tableFault (a .pmax) (a .lmax) t) e), at-if1 .if1 .left, or-left room (tableFault (a .pmax) (a .lmax) t) e)
 
 answer-requires : tie.Need-answer-requires
 answer-requires c κs =
+    let at-slse-plan = c .before .before .before in
+    let at-if2 = at-slse-plan .before .before in
+    let at-slice-fault = at-if2 .before in
+    let at-if1 = at-slice-fault .before in
     let s = c .before .before .before .before .before .before .before .before .before .before .before .before .before in
     let a = s .args in
     let t = ofSlices 0 (a .probes) (a .links) (a .needs .now) (a .lows .now) (a .highs .now) (a .costs .now) in
     let room = roomFault (a .probes) (a .links) (length (a .needs .now)) (length (a .lows .now)) (length (a .highs .now)) (length (a .costs .now)) in
-    let e = sym (c .before .before .before .before .before .before .slice-fault .ensures) ∙ c .before .before .before .before .before .if2 .left in
+    let e = sym (at-slice-fault .slice-fault .ensures) ∙ at-if2 .if2 .left in
     let r = room-good (a .probes) (a .links) (length (a .needs .now)) (length (a .lows .now)) (length (a .highs .now)) (length (a .costs .now)) (or-left room (tableFault (a .pmax) (a .lmax) t) e) in
     let z = size (a .probes) (a .links) (a .needs .now) (a .lows .now) (a .highs .now) (a .costs .now) (table-wider (a .pmax) (a .lmax) 256 2048 t (s .pre .0) (s .pre .1) (or-right room (tableFault (a .pmax) (a .lmax) t) e)) in
-    (omega (arith, c .before .before .before .slse-plan .kept .0, c .before .before .before .before .before .before .before .if1 .left), omega arith, z .within)
+    (omega (arith, at-slse-plan .slse-plan .kept .0, at-if1 .if1 .left), omega arith, z .within)
 
 same-length : tie.Need-same-length
 same-length c = search needs
 
 returns-3 : tie.Need-returns-3
 returns-3 c number =
+    let at-slse-plan = c .before .before .before .before in
+    let at-if2 = at-slse-plan .before .before in
+    let at-slice-fault = at-if2 .before in
+    let at-if1 = at-slice-fault .before in
     let s = c .before .before .before .before .before .before .before .before .before .before .before .before .before .before in
     let a = s .args in
-    let e = sym (c .before .before .before .before .before .before .before .slice-fault .ensures) ∙ c .before .before .before .before .before .before .if2 .left in
-    let p = numbered number (a .probes) (a .links) (a .needs .now) (a .lows .now) (a .highs .now) (a .costs .now) (a .plan .now) _ (c .before .before .before .before .slse-plan .ensures) in
-    plans-made _ (ofSlices number (a .probes) (a .links) (a .needs .now) (a .lows .now) (a .highs .now) (a .costs .now)) _ (a .plan .now) _ (room-enough (length (a .plan .now)) (a .links) _ (c .before .before .before .before .before .before .before .before .if1 .left) ∙ e) (c .before .before .before .before .before .before .before .before .if1 .left) p (c .answer .ensures)
+    let e = sym (at-slice-fault .slice-fault .ensures) ∙ at-if2 .if2 .left in
+    let p = numbered number (a .probes) (a .links) (a .needs .now) (a .lows .now) (a .highs .now) (a .costs .now) (a .plan .now) _ (at-slse-plan .slse-plan .ensures) in
+    plans-made _ (ofSlices number (a .probes) (a .links) (a .needs .now) (a .lows .now) (a .highs .now) (a .costs .now)) _ (a .plan .now) _ (room-enough (length (a .plan .now)) (a .links) _ (at-if1 .if1 .left) ∙ e) (at-if1 .if1 .left) p (c .answer .ensures)
 
 pub slse-limited-spec : {M : Type 1} → statement M
 slse-limited-spec =

@@ -39,9 +39,10 @@ in-order probes links needs lows highs costs order legal o =
 
 plan-in-order-requires : tie.Need-plan-in-order-requires
 plan-in-order-requires c κs =
+    let at-order-links = c .before .before .before in
     let at-start = c .before .before .before .before .before .before .before .before .before .before in
     let a = at-start .args in
-    let call = c .before .before .before .order-links in
+    let call = at-order-links .order-links in
     let z = size (a .probes) (a .links) (a .needs .now) (a .lows .now) (a .highs .now) (a .costs .now) (at-start .pre .0) in
     let r = room-good (a .probes) (a .links) (length (a .needs .now)) (length (a .lows .now)) (length (a .highs .now)) (length (a .costs .now)) (at-start .pre .2) in
     let long = call .kept .0 in
@@ -52,9 +53,10 @@ same-length c = search needs
 
 returns : tie.Need-returns
 returns c =
+    let at-order-links = c .before .before .before .before .before .before in
     let at-start = c .before .before .before .before .before .before .before .before .before .before .before .before .before in
     let a = at-start .args in
-    let call = c .before .before .before .before .before .before .order-links in
+    let call = at-order-links .order-links in
     c .before .before .plan-in-order .ensures (a .probes) (a .costs .now) (in-order (a .probes) (a .links) (a .needs .now) (a .lows .now) (a .highs .now) (a .costs .now) _ (at-start .pre .0) (call .ensures))
 
 pub slse-plan-spec : {M : Type 1} → statement M

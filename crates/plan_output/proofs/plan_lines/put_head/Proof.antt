@@ -23,13 +23,18 @@ slice-write-out : tie.Need-slice-write-out
 slice-write-out c = search needs
 
 same-length : tie.Need-same-length
-same-length c = simp length-set (c .before .before .put-number3 .kept .0 ∙ c .before .before .before .before .before .before .put-number2 .kept .0 ∙ c .before .before .before .before .before .before .before .before .before .before .put-number .kept .0)
+same-length c =
+    let at-put-number2 = c .before .before .before .before .before .before in
+    let at-put-number = at-put-number2 .before .before .before .before in
+    simp length-set (c .before .before .put-number3 .kept .0 ∙ at-put-number2 .put-number2 .kept .0 ∙ at-put-number .put-number .kept .0)
 
 returns : tie.Need-returns
 returns c =
+    let at-put-number2 = c .before .before .before .before .before .before in
+    let at-put-number = at-put-number2 .before .before .before .before in
     let a = c .before .before .before .before .before .before .before .before .before .before .before .before .before .args in
-    sets-then (a .out .now) _ _ 0 4 (digits 4 (a .number)) (digits 4 (a .kept) ++ (digits 8 (a .cost) ++ (10 ∷ []))) (c .before .before .before .before .before .before .before .before .before .before .put-number .ensures) (omega (arith, length-digits 4 (a .number)))
-    (sets-then _ _ _ 4 8 (digits 4 (a .kept)) (digits 8 (a .cost) ++ (10 ∷ [])) (c .before .before .before .before .before .before .put-number2 .ensures) (omega (arith, length-digits 4 (a .kept)))
+    sets-then (a .out .now) _ _ 0 4 (digits 4 (a .number)) (digits 4 (a .kept) ++ (digits 8 (a .cost) ++ (10 ∷ []))) (at-put-number .put-number .ensures) (omega (arith, length-digits 4 (a .number)))
+    (sets-then _ _ _ 4 8 (digits 4 (a .kept)) (digits 8 (a .cost) ++ (10 ∷ [])) (at-put-number2 .put-number2 .ensures) (omega (arith, length-digits 4 (a .kept)))
     (sets-then _ _ _ 8 16 (digits 8 (a .cost)) (10 ∷ []) (c .before .before .put-number3 .ensures) (omega (arith, length-digits 8 (a .cost))) refl))
 
 pub put-head-spec : {M : Type 1} → statement M

@@ -48,10 +48,12 @@ shared-slice-read-put-link-4 c = search needs
 
 put-link-requires : tie.Need-put-link-requires Inv-loop μ-loop
 put-link-requires c κs =
-    let l = c .before .before .before .before .before .before .loop in
+    let at-loop-test = c .before .before .before .before .before in
+    let at-loop = at-loop-test .before in
+    let l = at-loop .loop in
     let s = c .before .before .before .before .before .before .before .before .before .before .before .before in
     let n = weigh-next (l .i) (isKept (s .args .plan .now)) (λ (j : ℕ). 1) in
-    let m = count-part (isKept (s .args .plan .now)) (l .i + 1) (s .args .links) (omega (arith, c .before .before .before .before .before .loop-test .taken)) in
+    let m = count-part (isKept (s .args .plan .now)) (l .i + 1) (s .args .links) (omega (arith, at-loop-test .loop-test .taken)) in
     omega (arith, l .inv .1, l .inv .3, s .pre .0)
 
 add-i : tie.Need-add-i Inv-loop μ-loop
@@ -62,7 +64,8 @@ loop-less c = search needs
 
 loop-again : tie.Need-loop-again Inv-loop μ-loop
 loop-again c =
-    let l = c .before .before .before .before .before .before .before .before .before .loop in
+    let at-loop = c .before .before .before .before .before .before .before .before .before in
+    let l = at-loop .loop in
     let a = c .before .before .before .before .before .before .before .before .before .before .before .before .before .before .before .args in
     let e = c .before .before .put-link .ensures in
     let n = weigh-next (l .i) (isKept (a .plan .now)) (λ (j : ℕ). 1) in
@@ -73,7 +76,8 @@ same-length c = c .before .loop .inv .3
 
 returns : tie.Need-returns Inv-loop μ-loop
 returns c =
-    let e : c .before .loop .i ≡ c .before .before .before .before .before .before .before .args .links = omega arith in
+    let at-start = c .before .before .before .before .before .before .before in
+    let e : c .before .loop .i ≡ at-start .args .links = omega arith in
     rw (← e) (c .before .loop .inv .2)
 
 pub put-kept-spec : {M : Type 1} → statement M

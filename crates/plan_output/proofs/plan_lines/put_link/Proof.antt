@@ -12,7 +12,8 @@ returns c =
 
 put-triple-requires : tie.Need-put-triple-requires
 put-triple-requires c κs =
-    let p = rw (eq-eqb (c .before .before .before .args .byte) 1 (c .before .if1 .left)) at (c .before .before .before .pre) in
+    let at-start = c .before .before .before in
+    let p = rw (eq-eqb (at-start .args .byte) 1 (c .before .if1 .left)) at (at-start .pre) in
     omega arith
 
 add-result : tie.Need-add-result
@@ -23,7 +24,9 @@ same-length c = search needs
 
 returns-2 : tie.Need-returns-2
 returns-2 c =
-    let n = eq-eqb (c .before .before .before .before .before .before .args .byte) 1 (c .before .before .before .before .if1 .left) in
+    let at-if1 = c .before .before .before .before in
+    let at-start = at-if1 .before .before in
+    let n = eq-eqb (at-start .args .byte) 1 (at-if1 .if1 .left) in
     (rw n (c .before .before .put-triple .ensures), rw n (omega arith))
 
 pub put-link-spec : {M : Type 1} → statement M

@@ -49,11 +49,12 @@ add-if1 c = search needs
 
 returns : tie.Need-returns
 returns c =
+    let at-slse-plan = c .before .before .before .before in
     let s = c .before .before .before .before .before .before .before .before .before .before .before in
     let a = s .args in
     let t = ofSlices (a .number) (a .probes) (a .links) (a .needs .now) (a .lows .now) (a .highs .now) (a .costs .now) in
     let z = size (a .probes) (a .links) (a .needs .now) (a .lows .now) (a .highs .now) (a .costs .now) (s .pre .0) in
-    let p = numbered (a .number) (a .probes) (a .links) (a .needs .now) (a .lows .now) (a .highs .now) (a .costs .now) (replicate 2048 0) _ (c .before .before .before .before .slse-plan .ensures) in
+    let p = numbered (a .number) (a .probes) (a .links) (a .needs .now) (a .lows .now) (a .highs .now) (a .costs .now) (replicate 2048 0) _ (at-slse-plan .slse-plan .ensures) in
     let n = count-says t (replicate 2048 0) _ (z .within) p in
     let k = c .before .kept-count .ensures in
     let l = length-plan t in
@@ -64,11 +65,12 @@ slice-aggregate-kept-cost c = search needs
 
 kept-cost-requires : tie.Need-kept-cost-requires
 kept-cost-requires c κs =
+    let at-slse-plan = c .before .before .before .before .before in
     let s = c .before .before .before .before .before .before .before .before .before .before .before .before in
     let a = s .args in
     let z = size (a .probes) (a .links) (a .needs .now) (a .lows .now) (a .highs .now) (a .costs .now) (s .pre .0) in
     let r = room-good (a .probes) (a .links) (length (a .needs .now)) (length (a .lows .now)) (length (a .highs .now)) (length (a .costs .now)) (s .pre .1) in
-    let long = c .before .before .before .before .before .slse-plan .kept .0 in
+    let long = at-slse-plan .slse-plan .kept .0 in
     let within = z .within in
     (omega arith, omega (arith, r .linked, r .equal, r .equal₂), within)
 
@@ -80,13 +82,17 @@ slice-aggregate-put-kept c = search needs
 
 put-kept-requires : tie.Need-put-kept-requires
 put-kept-requires c κs =
+    let at-put-head = c .before .before .before .before in
+    let at-if1 = at-put-head .before .before .before .before in
+    let at-kept-count = at-if1 .before in
+    let at-slse-plan = at-kept-count .before .before .before in
     let s = c .before .before .before .before .before .before .before .before .before .before .before .before .before .before .before .before .before .before .before in
     let a = s .args in
     let z = size (a .probes) (a .links) (a .needs .now) (a .lows .now) (a .highs .now) (a .costs .now) (s .pre .0) in
     let r = room-good (a .probes) (a .links) (length (a .needs .now)) (length (a .lows .now)) (length (a .highs .now)) (length (a .costs .now)) (s .pre .1) in
-    let long = c .before .before .before .before .before .before .before .before .before .before .before .before .slse-plan .kept .0 in
+    let long = at-slse-plan .slse-plan .kept .0 in
     let within = z .within in
-    (omega (arith, c .before .before .before .before .before .before .before .before .before .kept-count .ensures, c .before .before .before .before .before .before .before .before .if1 .left, c .before .before .before .before .put-head .kept .0), omega arith, r .linked, omega (arith, r .linked, r .equal), omega (arith, r .linked, r .equal, r .equal₂))
+    (omega (arith, at-kept-count .kept-count .ensures, at-if1 .if1 .left, at-put-head .put-head .kept .0), omega arith, r .linked, omega (arith, r .linked, r .equal), omega (arith, r .linked, r .equal, r .equal₂))
 
 put-closing-requires : tie.Need-put-closing-requires
 put-closing-requires c κs = search needs
@@ -99,17 +105,23 @@ same-length c = search needs
 
 returns-2 : tie.Need-returns-2
 returns-2 c =
+    let at-put-kept = c .before .before .before .before .before .before in
+    let at-put-head = at-put-kept .before .before .before .before .before in
+    let at-kept-cost = at-put-head .before .before in
+    let at-if1 = at-kept-cost .before .before in
+    let at-kept-count = at-if1 .before in
+    let at-slse-plan = at-kept-count .before .before .before in
     let s = c .before .before .before .before .before .before .before .before .before .before .before .before .before .before .before .before .before .before .before .before .before .before .before .before .before .before in
     let a = s .args in
     let t = ofSlices (a .number) (a .probes) (a .links) (a .needs .now) (a .lows .now) (a .highs .now) (a .costs .now) in
     let z = size (a .probes) (a .links) (a .needs .now) (a .lows .now) (a .highs .now) (a .costs .now) (s .pre .0) in
-    let p = numbered (a .number) (a .probes) (a .links) (a .needs .now) (a .lows .now) (a .highs .now) (a .costs .now) (replicate 2048 0) _ (c .before .before .before .before .before .before .before .before .before .before .before .before .before .before .before .before .before .before .before .slse-plan .ensures) in
+    let p = numbered (a .number) (a .probes) (a .links) (a .needs .now) (a .lows .now) (a .highs .now) (a .costs .now) (replicate 2048 0) _ (at-slse-plan .slse-plan .ensures) in
     let n = count-says t (replicate 2048 0) _ (z .within) p in
-    let k = c .before .before .before .before .before .before .before .before .before .before .before .before .before .before .before .before .kept-count .ensures in
+    let k = at-kept-count .kept-count .ensures in
     let l = length-plan t in
-    let f = c .before .before .before .before .before .before .before .before .before .before .before .before .before .before .before .if1 .left in
-    prints-done _ (17 + 13 * (c .before .before .before .before .before .before .before .before .before .before .before .before .before .before .before .before .kept-count .result) + 5) _ (a .out .now) _ (long-enough (length (a .out .now)) (planText t) (omega arith)) (omega arith) f
-    (plan-then t (replicate 2048 0) _ (z .within) p (c .before .before .before .before .before .before .before .before .before .before .before .before .before .before .before .before .kept-count .result) (c .before .before .before .before .before .before .before .before .before .before .before .before .before .kept-cost .result) (a .out .now) _ _ _ k (c .before .before .before .before .before .before .before .before .before .before .before .before .before .kept-cost .ensures) (c .before .before .before .before .before .before .before .before .before .before .before .put-head .ensures) (c .before .before .before .before .before .before .put-kept .ensures) (c .before .before .put-closing .ensures))
+    let f = at-if1 .if1 .left in
+    prints-done _ (17 + 13 * (at-kept-count .kept-count .result) + 5) _ (a .out .now) _ (long-enough (length (a .out .now)) (planText t) (omega arith)) (omega arith) f
+    (plan-then t (replicate 2048 0) _ (z .within) p (at-kept-count .kept-count .result) (at-kept-cost .kept-cost .result) (a .out .now) _ _ _ k (at-kept-cost .kept-cost .ensures) (at-put-head .put-head .ensures) (at-put-kept .put-kept .ensures) (c .before .before .put-closing .ensures))
 
 pub print-plan-spec : {M : Type 1} → statement M
 print-plan-spec =

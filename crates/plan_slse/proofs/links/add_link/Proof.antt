@@ -30,8 +30,9 @@ add-one-requires c κs = search needs
 
 add-one-requires-2 : tie.Need-add-one-requires-2
 add-one-requires-2 c κs =
+    let at-add-one = c .before .before .before in
     let a = c .before .before .before .before .before .before .before .before .before .before .before .args in
-    let q = c .before .before .before .add-one .ensures in
+    let q = at-add-one .add-one .ensures in
     let l = simp length-set at (ap length q) in
     let o = ap (λ x. getD x (a .high) 0) q ∙ getD-set-other (a .counts .now) (a .low) (a .high) _ 0 (λ z. omega arith) in
     (omega arith, omega arith)
@@ -44,10 +45,11 @@ same-length-3 c = search needs
 
 returns-2 : tie.Need-returns-2
 returns-2 c =
+    let at-add-one = c .before .before .before .before .before .before in
     let a = c .before .before .before .before .before .before .before .before .before .before .before .before .before .before .args in
     let at-test = c .before .before .before .before .before .before .before .before in
     let e = some-short (a .counts .now) (a .needs .now) (a .low) (a .high) _ (at-test .before .ends-below .ensures) (at-test .if1 .left) in
-    let q = c .before .before .add-one2 .ensures ∙ ap (λ x. changedAt (λ n. n + 1) x (a .high)) (c .before .before .before .before .before .before .add-one .ensures) in
+    let q = c .before .before .add-one2 .ensures ∙ ap (λ x. changedAt (λ n. n + 1) x (a .high)) (at-add-one .add-one .ensures) in
     (rw e, rw e q)
 
 pub add-link-spec : {M : Type 1} → statement M

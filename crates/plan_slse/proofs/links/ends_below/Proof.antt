@@ -29,10 +29,14 @@ shared-slice-read-if2-2 : tie.Need-shared-slice-read-if2-2
 shared-slice-read-if2-2 c = search needs
 
 returns : tie.Need-returns
-returns c = rw (lt-ltb _ _ (c .before .before .before .if1 .taken), lt-ltb _ _ (c .if2 .taken))
+returns c =
+    let at-if1 = c .before .before .before in
+    rw (lt-ltb _ _ (at-if1 .if1 .taken), lt-ltb _ _ (c .if2 .taken))
 
 returns-2 : tie.Need-returns-2
-returns-2 c = rw (lt-ltb _ _ (c .before .before .before .if1 .taken), le-ltb _ _ (c .if2 .left))
+returns-2 c =
+    let at-if1 = c .before .before .before in
+    rw (lt-ltb _ _ (at-if1 .if1 .taken), le-ltb _ _ (c .if2 .left))
 
 mul-if3 : tie.Need-mul-if3
 mul-if3 c = search needs
@@ -47,10 +51,14 @@ shared-slice-read-if3-2 : tie.Need-shared-slice-read-if3-2
 shared-slice-read-if3-2 c = search needs
 
 returns-3 : tie.Need-returns-3
-returns-3 c = rw (le-ltb _ _ (c .before .before .before .if1 .left), lt-ltb _ _ (c .if3 .taken))
+returns-3 c =
+    let at-if1 = c .before .before .before in
+    rw (le-ltb _ _ (at-if1 .if1 .left), lt-ltb _ _ (c .if3 .taken))
 
 returns-4 : tie.Need-returns-4
-returns-4 c = rw (le-ltb _ _ (c .before .before .before .if1 .left), le-ltb _ _ (c .if3 .left))
+returns-4 c =
+    let at-if1 = c .before .before .before in
+    rw (le-ltb _ _ (at-if1 .if1 .left), le-ltb _ _ (c .if3 .left))
 
 pub ends-below-spec : {M : Type 1} → statement M
 ends-below-spec =

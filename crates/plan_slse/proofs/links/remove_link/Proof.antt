@@ -30,7 +30,8 @@ same-length c = search needs
 
 returns-2 : tie.Need-returns-2
 returns-2 c =
-    let e = eq-eqb _ _ (c .before .before .before .if1 .left) in
+    let at-if1 = c .before .before .before in
+    let e = eq-eqb _ _ (at-if1 .if1 .left) in
     let a = c .before .before .before .before .before .before .before .before .args in
     let o = not-two-over (a .counts .now) (a .needs .now) (a .low) (a .high) _ (c .before .ends-below .ensures) (c .if2 .taken) in
     (rw (e, o), rw (e, o))
@@ -50,8 +51,9 @@ take-one-requires c κs =
 
 take-one-requires-2 : tie.Need-take-one-requires-2
 take-one-requires-2 c κs =
+    let at-take-one = c .before .before .before in
     let a = c .before .before .before .before .before .before .before .before .before .before .before .before .before .args in
-    let q = c .before .before .before .take-one .ensures in
+    let q = at-take-one .take-one .ensures in
     let l = simp length-set at (ap length q) in
     let z = ap (λ x. getD x (a .high) 0) q ∙ getD-set-other (a .counts .now) (a .low) (a .high) _ 0 (λ z. omega arith) in
     let at-test = c .before .before .before .before .before in
@@ -69,11 +71,13 @@ same-length-3 c = search needs
 
 returns-3 : tie.Need-returns-3
 returns-3 c =
-    let e = eq-eqb _ _ (c .before .before .before .before .before .before .before .before .before .before .before .if1 .left) in
+    let at-take-one = c .before .before .before .before .before .before in
+    let at-if1 = at-take-one .before .before .before .before .before in
+    let e = eq-eqb _ _ (at-if1 .if1 .left) in
     let a = c .before .before .before .before .before .before .before .before .before .before .before .before .before .before .before .before .args in
     let at-test = c .before .before .before .before .before .before .before .before in
     let o = two-over (a .counts .now) (a .needs .now) (a .low) (a .high) _ (at-test .before .ends-below .ensures) (at-test .if2 .left) in
-    let q = c .before .before .take-one2 .ensures ∙ ap (λ x. changedAt (λ n. n - 1) x (a .high)) (c .before .before .before .before .before .before .take-one .ensures) in
+    let q = c .before .before .take-one2 .ensures ∙ ap (λ x. changedAt (λ n. n - 1) x (a .high)) (at-take-one .take-one .ensures) in
     (rw (e, o), rw (e, o) q)
 
 pub remove-link-spec : {M : Type 1} → statement M

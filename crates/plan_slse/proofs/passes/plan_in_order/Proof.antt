@@ -18,9 +18,10 @@ slice-aggregate-add-links c = search needs
 
 add-links-requires : tie.Need-add-links-requires
 add-links-requires c κs =
+    let at-clear = c .before .before .before .before in
     let at-start = c .before .before .before .before .before .before .before .before .before .before .before in
     let a = at-start .args in
-    let cl = c .before .before .before .before .clear in
+    let cl = at-clear .clear in
     let room = at-start .pre .1 in
     let k = cl .kept .0 in (
       at-start .pre .0,
@@ -35,10 +36,12 @@ slice-aggregate-remove-links c = search needs
 
 remove-links-requires : tie.Need-remove-links-requires
 remove-links-requires c κs =
+    let at-add-links = c .before .before .before .before .before in
+    let at-clear = at-add-links .before .before .before .before .before in
     let at-start = c .before .before .before .before .before .before .before .before .before .before .before .before .before .before .before .before .before in
     let a = at-start .args in
-    let cl = c .before .before .before .before .before .before .before .before .before .before .clear in
-    let ad = c .before .before .before .before .before .add-links in
+    let cl = at-clear .clear in
+    let ad = at-add-links .add-links in
     let room = at-start .pre .1 in
     let k = cl .kept .0 in
     let k₂ = ad .kept .0 in
@@ -50,15 +53,18 @@ same-length c = search needs
 
 returns : tie.Need-returns
 returns c =
+    let at-remove-links = c .before .before .before in
+    let at-add-links = at-remove-links .before .before .before .before .before .before in
+    let at-clear = at-add-links .before .before .before .before .before in
     let at-start = c .before .before .before .before .before .before .before .before .before .before .before .before .before .before .before .before .before .before .before .before .before in
     let a = at-start .args in
-    let cl = c .before .before .before .before .before .before .before .before .before .before .before .before .before .before .clear in
-    let ad = c .before .before .before .before .before .before .before .before .before .add-links in
+    let cl = at-clear .clear in
+    let ad = at-add-links .add-links in
     let room : a .links ≤ length (cl .last .0) = omega (arith, cl .kept .0, at-start .pre .1) in
     λ probes costs is.
     let added-is = ad .ensures probes costs is in
     kept-bytes probes (a .links) (a .needs .now) (a .lows .now) (a .highs .now) costs (is .0) (a .plan .now) _ _ _ (at-start .pre .1) (cl .ensures) (added-is .0)
-    (c .before .before .before .remove-links .ensures probes costs is (λ j l. ap (λ (x : List ℕ). getD x j 0) (added-is .0) ∙ stored-at _ (a .links) (cl .last .0) j room l) (added-is .1))
+    (at-remove-links .remove-links .ensures probes costs is (λ j l. ap (λ (x : List ℕ). getD x j 0) (added-is .0) ∙ stored-at _ (a .links) (cl .last .0) j room l) (added-is .1))
 
 pub plan-in-order-spec : {M : Type 1} → statement M
 plan-in-order-spec =

@@ -22,10 +22,12 @@ same-length c = search needs
 
 returns : tie.Need-returns
 returns c =
-    let a = c .before .before .before .before .before .before .before .before .before .before .before .before .args in
-    let n = c .before .before .before .before .before .before .count-degrees in
+    let at-count-degrees = c .before .before .before .before .before .before in
+    let at-start = at-count-degrees .before .before .before .before .before .before in
+    let a = at-start .args in
+    let n = at-count-degrees .count-degrees in
     let k = n .kept .0 in
-    spares-right (a .probes) (a .links) (a .needs .now) (a .lows .now) (a .highs .now) (n .last .0) _ (links-ends (a .probes) (a .links) (item (a .lows .now)) (item (a .highs .now)) (c .before .before .before .before .before .before .before .before .before .before .before .before .pre .5)) (n .ensures) (omega arith) (c .before .before .take-needs .ensures)
+    spares-right (a .probes) (a .links) (a .needs .now) (a .lows .now) (a .highs .now) (n .last .0) _ (links-ends (a .probes) (a .links) (item (a .lows .now)) (item (a .highs .now)) (at-start .pre .5)) (n .ensures) (omega arith) (c .before .before .take-needs .ensures)
 
 pub find-spares-spec : {M : Type 1} → statement M
 find-spares-spec =

@@ -33,14 +33,16 @@ shared-slice-read-if2 c = search needs
 
 returns-2 : tie.Need-returns-2
 returns-2 c =
-    let i = c .before .before .before .before .args .i in
+    let at-start = c .before .before .before .before in
+    let i = at-start .args .i in
     let q : 2 * (2 * i) + 1 ≡ 4 * i + 1 = omega arith in
     let p : 2 * (2 * i + 1) + 1 ≡ 4 * i + 3 = omega arith in
     rw (q, p, eq-eqb _ _ (c .before .before .if1 .left), ne-eqb _ _ (c .if2 .taken))
 
 returns-3 : tie.Need-returns-3
 returns-3 c =
-    let i = c .before .before .before .before .args .i in
+    let at-start = c .before .before .before .before in
+    let i = at-start .args .i in
     let q : 2 * (2 * i) + 1 ≡ 4 * i + 1 = omega arith in
     let p : 2 * (2 * i + 1) + 1 ≡ 4 * i + 3 = omega arith in
     rw (q, p, eq-eqb _ _ (c .before .before .if1 .left), eq-eqb _ _ (c .if2 .left))

@@ -35,9 +35,10 @@ spare-of-requires c κs = search needs
 
 cast-counts : tie.Need-cast-counts Inv-loop μ-loop
 cast-counts c =
+    let at-loop = c .before .before .before .before in
     let e = c .spare-of .ensures in
     let w = c .before .wide .ensures in
-    omega (arith, c .before .before .slice-known2 .given (c .before .before .before .before .loop .v) .fits)
+    omega (arith, c .before .before .slice-known2 .given (at-loop .loop .v) .fits)
 
 mul-counts : tie.Need-mul-counts Inv-loop μ-loop
 mul-counts c = search needs
@@ -53,7 +54,8 @@ loop-less c = search needs
 
 loop-again : tie.Need-loop-again Inv-loop μ-loop
 loop-again c =
-    let l = c .before .before .before .before .loop in
+    let at-loop = c .before .before .before .before in
+    let l = at-loop .loop in
     let a = c .before .before .before .before .before .before .before .args in
     let f : ℕ → ℕ = λ k. item (a .counts .now) k - item (a .needs .now) k in
     let was : item (l .counts) (l .v) ≡ item (a .counts .now) (l .v) = ap (λ (x : List ℕ). item x (l .v)) (l .inv .1) ∙ stored-beyond f (l .v) (a .counts .now) (l .v) (omega arith) in
@@ -65,7 +67,8 @@ same-length c = c .before .loop .inv .2
 
 returns : tie.Need-returns Inv-loop μ-loop
 returns c =
-    let e : c .before .loop .v ≡ c .before .before .before .before .args .probes = omega arith in
+    let at-start = c .before .before .before .before in
+    let e : c .before .loop .v ≡ at-start .args .probes = omega arith in
     rw (← e) (c .before .loop .inv .1)
 
 pub take-needs-spec : {M : Type 1} → statement M

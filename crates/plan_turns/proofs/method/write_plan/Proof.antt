@@ -44,7 +44,8 @@ same-length c = c .before .loop .inv .2
 
 returns : tie.Need-returns Inv-loop μ-loop
 returns c =
-    let e : c .before .loop .i ≡ c .before .before .before .before .args .links = omega arith in
+    let at-start = c .before .before .before .before in
+    let e : c .before .loop .i ≡ at-start .args .links = omega arith in
     rw (← e) (c .before .loop .inv .1)
 
 pub write-plan-spec : {M : Type 1} → statement M

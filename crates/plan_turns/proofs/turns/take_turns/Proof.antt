@@ -19,14 +19,16 @@ abbrev μ-loop : tie.MeasureT-loop
 
 loop-holds : tie.Need-loop-holds Inv-loop μ-loop
 loop-holds c =
-    let a = c .before .before .before .before .before .before .before .before .args in
-    let p = c .before .before .before .before .before .before .before .before .pre in
+    let at-start = c .before .before .before .before .before .before .before .before in
+    let a = at-start .args in
+    let p = at-start .pre in
     (search needs, over-start (a .links) (a .lows .now) (a .highs .now) (a .costs .now) (a .spares .now) (a .rec .now) (p .0), p .1, refl, refl)
 
 turn-requires : tie.Need-turn-requires Inv-loop μ-loop
 turn-requires c κs =
+    let at-loop = c .before .before .before in
     let p = c .before .before .before .before .before .before .before .before .before .before .before .before .pre in
-    let i = c .before .before .before .loop .inv in
+    let i = at-loop .loop .inv in
     (i .1 .ready, i .2, p .2, p .3, omega (arith, c .before .before .loop-test .taken, p .4))
 
 add-p : tie.Need-add-p Inv-loop μ-loop
@@ -37,10 +39,13 @@ loop-less c = search needs
 
 loop-again : tie.Need-loop-again Inv-loop μ-loop
 loop-again c =
+    let at-turn = c .before .before .before .before in
+    let at-loop-test = at-turn .before .before .before in
+    let at-loop = at-loop-test .before in
     let a = c .before .before .before .before .before .before .before .before .before .before .before .before .before .before .before .before .before .args in
-    let i = c .before .before .before .before .before .before .before .before .loop .inv in
-    let t = c .before .before .before .before .turn in
-    (omega (arith, c .before .before .before .before .before .before .before .loop-test .taken), over-next (a .links) (a .lows .now) (a .highs .now) (a .costs .now) (a .spares .now) (c .before .before .before .before .before .before .before .before .loop .rec) (c .before .before .before .before .before .before .before .before .loop .p) _ (i .1) (t .ensures .0), t .ensures .1, t .kept .0 ∙ i .3, t .kept .1 .0 ∙ i .4)
+    let i = at-loop .loop .inv in
+    let t = at-turn .turn in
+    (omega (arith, at-loop-test .loop-test .taken), over-next (a .links) (a .lows .now) (a .highs .now) (a .costs .now) (a .spares .now) (at-loop .loop .rec) (at-loop .loop .p) _ (i .1) (t .ensures .0), t .ensures .1, t .kept .0 ∙ i .3, t .kept .1 .0 ∙ i .4)
 
 same-length : tie.Need-same-length Inv-loop μ-loop
 same-length c = c .before .loop .inv .3
@@ -50,7 +55,8 @@ same-length-2 c = c .before .loop .inv .4
 
 returns : tie.Need-returns Inv-loop μ-loop
 returns c =
-    let e : c .before .loop .p ≡ c .before .before .before .before .before .before .before .before .before .before .args .probes = omega arith in
+    let at-start = c .before .before .before .before .before .before .before .before .before .before in
+    let e : c .before .loop .p ≡ at-start .args .probes = omega arith in
     rw (← e) (c .before .loop .inv .1)
 
 pub take-turns-spec : {M : Type 1} → statement M

@@ -19,8 +19,9 @@ abbrev μ-loop : tie.MeasureT-loop
 
 loop-holds : tie.Need-loop-holds Inv-loop μ-loop
 loop-holds c =
-    let a = c .before .before .before .before .before .args in
-    (search needs, λ key f. chain-start (a .links) (a .lows .now) (a .highs .now) (a .order .now) key f (a .heads .now) (a .nexts .now) (c .before .before .before .before .before .pre .7), refl, refl)
+    let at-start = c .before .before .before .before .before in
+    let a = at-start .args in
+    (search needs, λ key f. chain-start (a .links) (a .lows .now) (a .highs .now) (a .order .now) key f (a .heads .now) (a .nexts .now) (at-start .pre .7), refl, refl)
 
 sub-k : tie.Need-sub-k Inv-loop μ-loop
 sub-k c = search needs
@@ -30,20 +31,27 @@ entry-requires c κs = search needs
 
 entry-requires-2 : tie.Need-entry-requires-2 Inv-loop μ-loop
 entry-requires-2 c κs =
-    let l = c .before .before .before .before .before .before .before .before .before .before .pre .6 (c .before .before .before .before .loop .k - 1) (omega arith) in
+    let at-loop = c .before .before .before .before in
+    let at-start = at-loop .before .before .before .before .before .before in
+    let l = at-start .pre .6 (at-loop .loop .k - 1) (omega arith) in
     omega arith
 
 entry-requires-3 : tie.Need-entry-requires-3 Inv-loop μ-loop
 entry-requires-3 c κs =
-    let l = c .before .before .before .before .before .before .before .before .before .before .before .pre .6 (c .before .before .before .before .before .loop .k - 1) (omega arith) in
+    let at-loop = c .before .before .before .before .before in
+    let at-start = at-loop .before .before .before .before .before .before in
+    let l = at-start .pre .6 (at-loop .loop .k - 1) (omega arith) in
     omega arith
 
 push-requires : tie.Need-push-requires Inv-loop μ-loop
 push-requires c κs =
-    let l = c .before .before .before .before .before .before .before .before .before .before .before .before .pre .6 (c .before .before .before .before .before .before .loop .k - 1) (omega arith) in
-    let e = c .before .before .before .before .entry .ensures in
-    let m = c .before .before .before .before .before .before .before .before .before .before .before .before .pre .5 (c .before .before .before .before .entry .result) (omega arith) in
-    let n = c .before .before .before .before .before .before .loop .inv in
+    let at-entry = c .before .before .before .before in
+    let at-loop = at-entry .before .before in
+    let at-start = at-loop .before .before .before .before .before .before in
+    let l = at-start .pre .6 (at-loop .loop .k - 1) (omega arith) in
+    let e = at-entry .entry .ensures in
+    let m = at-start .pre .5 (at-entry .entry .result) (omega arith) in
+    let n = at-loop .loop .inv in
     let x = c .before .entry2 .ensures in
     let y = c .entry3 .ensures in
     (omega arith, omega (arith, m .0), omega (arith, m .1, n .2), omega (arith, n .3))
@@ -53,22 +61,29 @@ loop-less c = search needs
 
 loop-again : tie.Need-loop-again Inv-loop μ-loop
 loop-again c =
-    let a = c .before .before .before .before .before .before .before .before .before .before .before .before .before .before .before .before .before .args in
-    let p = c .before .before .before .before .before .before .before .before .before .before .before .before .before .before .before .before .before .pre in
-    let n = c .before .before .before .before .before .before .before .before .before .before .before .loop .inv in
-    let k = c .before .before .before .before .before .before .before .before .before .before .before .loop .k in
-    let t = c .before .before .before .before .before .before .before .before .before .before .loop-test .taken in
-    let i = c .before .before .before .before .before .before .before .before .before .entry .result in
-    let z = c .before .before .before .before .before .before .before .before .before .entry .ensures in
+    let at-push = c .before .before .before .before in
+    let at-entry3 = at-push .before in
+    let at-entry2 = at-entry3 .before in
+    let at-entry = at-entry2 .before .before .before in
+    let at-loop-test = at-entry .before in
+    let at-loop = at-loop-test .before in
+    let at-start = at-loop .before .before .before .before .before .before in
+    let a = at-start .args in
+    let p = at-start .pre in
+    let n = at-loop .loop .inv in
+    let k = at-loop .loop .k in
+    let t = at-loop-test .loop-test .taken in
+    let i = at-entry .entry .result in
+    let z = at-entry .entry .ensures in
     let l = p .6 (k - 1) (omega arith) in
     let m = p .5 i (omega arith) in
-    let x = c .before .before .before .before .before .before .entry2 .ensures in
-    let y = c .before .before .before .before .before .entry3 .ensures in
+    let x = at-entry2 .entry2 .ensures in
+    let y = at-entry3 .entry3 .ensures in
     let e : k - 1 + 1 ≡ k = omega arith in (
       search needs,
-      λ key f. chain-next (a .links) (a .lows .now) (a .highs .now) (a .order .now) key f (λ j g. p .5 j g .0) (c .before .before .before .before .before .before .before .before .before .before .before .loop .heads) (c .before .before .before .before .before .before .before .before .before .before .before .loop .nexts) _ _ (k - 1) i (c .before .before .before .before .before .before .entry2 .result) (c .before .before .before .before .before .entry3 .result) (rw e (n .1 key f)) (omega arith) z x y (omega (arith, m .1, n .2)) (omega (arith, n .3)) (c .before .before .before .before .push .ensures .0) (c .before .before .before .before .push .ensures .1),
-      c .before .before .before .before .push .kept .0 ∙ n .2,
-      c .before .before .before .before .push .kept .1 .0 ∙ n .3,
+      λ key f. chain-next (a .links) (a .lows .now) (a .highs .now) (a .order .now) key f (λ j g. p .5 j g .0) (at-loop .loop .heads) (at-loop .loop .nexts) _ _ (k - 1) i (at-entry2 .entry2 .result) (at-entry3 .entry3 .result) (rw e (n .1 key f)) (omega arith) z x y (omega (arith, m .1, n .2)) (omega (arith, n .3)) (at-push .push .ensures .0) (at-push .push .ensures .1),
+      at-push .push .kept .0 ∙ n .2,
+      at-push .push .kept .1 .0 ∙ n .3,
     )
 
 same-length : tie.Need-same-length Inv-loop μ-loop

@@ -34,9 +34,11 @@ entry-requires c κs =
 
 store-requires : tie.Need-store-requires Inv-loop μ-loop
 store-requires c κs =
-    let k = c .before .before .before .loop .inv .2 in
+    let at-loop = c .before .before .before in
+    let at-shared-slice-known = at-loop .before .before in
+    let k = at-loop .loop .inv .2 in
     let e = c .entry .ensures in
-    let f = c .before .before .before .before .before .shared-slice-known .given (c .before .before .before .loop .v) .fits in
+    let f = at-shared-slice-known .shared-slice-known .given (at-loop .loop .v) .fits in
     (omega arith, omega arith)
 
 mul-store-2 : tie.Need-mul-store-2 Inv-loop μ-loop
@@ -52,10 +54,13 @@ entry-requires-2 c κs =
 
 store-requires-2 : tie.Need-store-requires-2 Inv-loop μ-loop
 store-requires-2 c κs =
-    let k = c .before .before .before .before .before .before .before .before .loop .inv .2 in
-    let n = c .before .before .before .before .store .kept .0 in
+    let at-store = c .before .before .before .before in
+    let at-loop = at-store .before .before .before .before in
+    let at-shared-slice-known2 = at-loop .before in
+    let k = at-loop .loop .inv .2 in
+    let n = at-store .store .kept .0 in
     let e = c .entry2 .ensures in
-    let f = c .before .before .before .before .before .before .before .before .before .shared-slice-known2 .given (c .before .before .before .before .before .before .before .before .loop .v) .fits in
+    let f = at-shared-slice-known2 .shared-slice-known2 .given (at-loop .loop .v) .fits in
     (omega arith, omega arith)
 
 add-v : tie.Need-add-v Inv-loop μ-loop
@@ -66,13 +71,20 @@ loop-less c = search needs
 
 loop-again : tie.Need-loop-again Inv-loop μ-loop
 loop-again c =
+    let at-entry2 = c .before .before .before in
+    let at-store = at-entry2 .before .before .before .before in
+    let at-entry = at-store .before in
+    let at-loop-test = at-entry .before .before in
+    let at-loop = at-loop-test .before in
     let a = c .before .before .before .before .before .before .before .before .before .before .before .before .before .before .before .args in
-    let i = c .before .before .before .before .before .before .before .before .before .before .before .loop .inv in
+    let i = at-loop .loop .inv in
     let k = i .2 in
-    (omega (arith, c .before .before .before .before .before .before .before .before .before .before .loop-test .taken), first-next (a .cursors .now) (a .lasts .now) (c .before .before .before .before .before .before .before .before .before .before .before .loop .marks) (c .before .before .before .before .before .before .before .store .last .0) _ (c .before .before .before .before .before .before .before .before .before .before .before .loop .v) (c .before .before .before .before .before .before .before .before .entry .result) (c .before .before .before .entry2 .result) (omega arith) (c .before .before .before .before .before .before .before .before .entry .ensures) (c .before .before .before .entry2 .ensures) (c .before .before .before .before .before .before .before .store .ensures) (c .before .before .store2 .ensures) (i .1), c .before .before .store2 .kept .0 ∙ c .before .before .before .before .before .before .before .store .kept .0 ∙ k)
+    (omega (arith, at-loop-test .loop-test .taken), first-next (a .cursors .now) (a .lasts .now) (at-loop .loop .marks) (at-store .store .last .0) _ (at-loop .loop .v) (at-entry .entry .result) (at-entry2 .entry2 .result) (omega arith) (at-entry .entry .ensures) (at-entry2 .entry2 .ensures) (at-store .store .ensures) (c .before .before .store2 .ensures) (i .1), c .before .before .store2 .kept .0 ∙ at-store .store .kept .0 ∙ k)
 
 same-length : tie.Need-same-length Inv-loop μ-loop
-same-length c = c .before .loop .inv .2 ∙ sym (c .before .before .before .before .before .pre .0)
+same-length c =
+    let at-start = c .before .before .before .before .before in
+    c .before .loop .inv .2 ∙ sym (at-start .pre .0)
 
 returns : tie.Need-returns Inv-loop μ-loop
 returns c =

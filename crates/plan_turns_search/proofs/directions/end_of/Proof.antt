@@ -15,7 +15,9 @@ wide-requires : tie.Need-wide-requires
 wide-requires c κs = search needs
 
 returns : tie.Need-returns
-returns c = let a = c .before .before .before .before .before .args in c .wide .ensures ∙ sym (end-even (a .firsts .now) (a .seconds .now) (a .d) (c .before .before .if1 .taken))
+returns c =
+    let at-start = c .before .before .before .before .before in
+    let a = at-start .args in c .wide .ensures ∙ sym (end-even (a .firsts .now) (a .seconds .now) (a .d) (c .before .before .if1 .taken))
 
 mul-wide-2 : tie.Need-mul-wide-2
 mul-wide-2 c = search needs
@@ -27,7 +29,9 @@ wide-requires-2 : tie.Need-wide-requires-2
 wide-requires-2 c κs = search needs
 
 returns-2 : tie.Need-returns-2
-returns-2 c = let a = c .before .before .before .before .before .args in c .wide2 .ensures ∙ sym (end-odd (a .firsts .now) (a .seconds .now) (a .d) (c .before .before .if1 .left))
+returns-2 c =
+    let at-start = c .before .before .before .before .before in
+    let a = at-start .args in c .wide2 .ensures ∙ sym (end-odd (a .firsts .now) (a .seconds .now) (a .d) (c .before .before .if1 .left))
 
 pub end-of-spec : {M : Type 1} → statement M
 end-of-spec =

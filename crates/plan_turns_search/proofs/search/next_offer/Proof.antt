@@ -32,8 +32,9 @@ mul-dirs c = search needs
 
 mul-entry : tie.Need-mul-entry Inv-loop μ-loop Inv-search μ-search
 mul-entry c =
-    let a = c .before .before .before .before .before .before .before .before .args in
-    let p = c .before .before .before .before .before .before .before .before .pre in
+    let at-start = c .before .before .before .before .before .before .before .before in
+    let a = at-start .args in
+    let p = at-start .pre in
     let k = p .1 .room in
     let w = p .0 .fits .within in
     let l = p .4 in
@@ -41,8 +42,9 @@ mul-entry c =
 
 add-entry : tie.Need-add-entry Inv-loop μ-loop Inv-search μ-search
 add-entry c =
-    let a = c .before .before .before .before .before .before .before .before .args in
-    let p = c .before .before .before .before .before .before .before .before .pre in
+    let at-start = c .before .before .before .before .before .before .before .before in
+    let a = at-start .args in
+    let p = at-start .pre in
     let k = p .1 .room in
     let w = p .0 .fits .within in
     let l = p .4 in
@@ -50,15 +52,18 @@ add-entry c =
 
 entry-requires : tie.Need-entry-requires Inv-loop μ-loop Inv-search μ-search
 entry-requires c κs =
-    let a = c .before .before .before .before .before .before .before .before .args in
-    let p = c .before .before .before .before .before .before .before .before .pre in
+    let at-start = c .before .before .before .before .before .before .before .before in
+    let a = at-start .args in
+    let p = at-start .pre in
     let k = p .1 .room in
     let w = p .0 .fits .within in
     let l = p .4 in
     omega arith
 
 search-holds : tie.Need-search-holds Inv-loop μ-loop Inv-search μ-search
-search-holds c = (refl, rw (c .entry .ensures) (c .before .before .before .before .before .before .before .before .before .pre .1 .cursors (c .before .before .before .before .before .before .before .before .before .args .u) (c .before .before .before .before .before .before .before .before .before .pre .4)))
+search-holds c =
+    let at-start = c .before .before .before .before .before .before .before .before .before in
+    (refl, rw (c .entry .ensures) (at-start .pre .1 .cursors (at-start .args .u) (at-start .pre .4)))
 
 entry-requires-2 : tie.Need-entry-requires-2 Inv-loop μ-loop Inv-search μ-search
 entry-requires-2 c κs = search needs
@@ -71,204 +76,288 @@ shared-slice-read-if1 c = search needs
 
 search-less : tie.Need-search-less Inv-loop μ-loop Inv-search μ-search
 search-less c =
-    let a = c .before .before .before .before .before .before .before .before .before .before .before .before .before .before .args in
-    let p = c .before .before .before .before .before .before .before .before .before .before .before .before .before .before .pre in
-    falls (2 * a .links) (endOf (a .lows .now) (a .highs .now)) (keyOf (a .costs .now)) (a .nexts .now) (p .2) (c .before .before .before .before .search .e) (c .before .before .entry2 .result) (c .before .before .before .search-test .taken) (c .before .before .entry2 .ensures)
+    let at-search-test = c .before .before .before in
+    let at-search = at-search-test .before in
+    let at-start = at-search .before .before .before .before .before .before .before .before .before .before in
+    let a = at-start .args in
+    let p = at-start .pre in
+    falls (2 * a .links) (endOf (a .lows .now) (a .highs .now)) (keyOf (a .costs .now)) (a .nexts .now) (p .2) (at-search .search .e) (c .before .before .entry2 .result) (at-search-test .search-test .taken) (c .before .before .entry2 .ensures)
 
 search-again : tie.Need-search-again Inv-loop μ-loop Inv-search μ-search
 search-again c =
-    let a = c .before .before .before .before .before .before .before .before .before .before .before .before .before .before .args in
-    let p = c .before .before .before .before .before .before .before .before .before .before .before .before .before .before .pre in
-    (c .before .before .before .before .search .inv .0, walk-next (a .links) (a .lows .now) (a .highs .now) (a .costs .now) (a .spares .now) (p .0 .fits) (atSource (a .rec .now)) (a .u) (a .nexts .now) (p .2) (c .before .before .before .before .search .e) (c .before .before .entry2 .result) (c .before .before .before .search-test .taken) (c .before .before .before .before .search .inv .1) (λ z. absurd (c .if1 .taken z)) (c .before .before .entry2 .ensures))
+    let at-search-test = c .before .before .before in
+    let at-search = at-search-test .before in
+    let at-start = at-search .before .before .before .before .before .before .before .before .before .before in
+    let a = at-start .args in
+    let p = at-start .pre in
+    (at-search .search .inv .0, walk-next (a .links) (a .lows .now) (a .highs .now) (a .costs .now) (a .spares .now) (p .0 .fits) (atSource (a .rec .now)) (a .u) (a .nexts .now) (p .2) (at-search .search .e) (c .before .before .entry2 .result) (at-search-test .search-test .taken) (at-search .search .inv .1) (λ z. absurd (c .if1 .taken z)) (c .before .before .entry2 .ensures))
 
 end-of-requires : tie.Need-end-of-requires Inv-loop μ-loop Inv-search μ-search
 end-of-requires c κs = search needs
 
 mul-entry-2 : tie.Need-mul-entry-2 Inv-loop μ-loop Inv-search μ-search
 mul-entry-2 c =
-    let a = c .before .before .before .before .before .before .before .before .before .before .before .before .before .before .before .args in
-    let p = c .before .before .before .before .before .before .before .before .before .before .before .before .before .before .before .pre in
+    let at-search-test = c .before .before .before .before in
+    let at-search = at-search-test .before in
+    let at-start = at-search .before .before .before .before .before .before .before .before .before .before in
+    let a = at-start .args in
+    let p = at-start .pre in
     let v = c .end-of in
-    let lv = rw (← v .ensures) at (target-below (a .links) (a .lows .now) (a .highs .now) (a .costs .now) (a .spares .now) (p .0 .fits) (c .before .before .before .before .before .search .e) (c .before .before .before .before .search-test .taken)) in
+    let lv = rw (← v .ensures) at (target-below (a .links) (a .lows .now) (a .highs .now) (a .costs .now) (a .spares .now) (p .0 .fits) (at-search .search .e) (at-search-test .search-test .taken)) in
     let k = p .1 .room in
     let w = p .0 .fits .within in
     omega arith
 
 add-entry-2 : tie.Need-add-entry-2 Inv-loop μ-loop Inv-search μ-search
 add-entry-2 c =
-    let a = c .before .before .before .before .before .before .before .before .before .before .before .before .before .before .before .args in
-    let p = c .before .before .before .before .before .before .before .before .before .before .before .before .before .before .before .pre in
+    let at-search-test = c .before .before .before .before in
+    let at-search = at-search-test .before in
+    let at-start = at-search .before .before .before .before .before .before .before .before .before .before in
+    let a = at-start .args in
+    let p = at-start .pre in
     let v = c .end-of in
-    let lv = rw (← v .ensures) at (target-below (a .links) (a .lows .now) (a .highs .now) (a .costs .now) (a .spares .now) (p .0 .fits) (c .before .before .before .before .before .search .e) (c .before .before .before .before .search-test .taken)) in
+    let lv = rw (← v .ensures) at (target-below (a .links) (a .lows .now) (a .highs .now) (a .costs .now) (a .spares .now) (p .0 .fits) (at-search .search .e) (at-search-test .search-test .taken)) in
     let k = p .1 .room in
     let w = p .0 .fits .within in
     omega arith
 
 entry-requires-3 : tie.Need-entry-requires-3 Inv-loop μ-loop Inv-search μ-search
 entry-requires-3 c κs =
-    let a = c .before .before .before .before .before .before .before .before .before .before .before .before .before .before .before .args in
-    let p = c .before .before .before .before .before .before .before .before .before .before .before .before .before .before .before .pre in
+    let at-search-test = c .before .before .before .before in
+    let at-search = at-search-test .before in
+    let at-start = at-search .before .before .before .before .before .before .before .before .before .before in
+    let a = at-start .args in
+    let p = at-start .pre in
     let v = c .end-of in
-    let lv = rw (← v .ensures) at (target-below (a .links) (a .lows .now) (a .highs .now) (a .costs .now) (a .spares .now) (p .0 .fits) (c .before .before .before .before .before .search .e) (c .before .before .before .before .search-test .taken)) in
+    let lv = rw (← v .ensures) at (target-below (a .links) (a .lows .now) (a .highs .now) (a .costs .now) (a .spares .now) (p .0 .fits) (at-search .search .e) (at-search-test .search-test .taken)) in
     let k = p .1 .room in
     let w = p .0 .fits .within in
     omega arith
 
 entry-requires-4 : tie.Need-entry-requires-4 Inv-loop μ-loop Inv-search μ-search
 entry-requires-4 c κs =
-    let a = c .before .before .before .before .before .before .before .before .before .before .before .before .before .before .before .before .args in
-    let p = c .before .before .before .before .before .before .before .before .before .before .before .before .before .before .before .before .pre in
+    let at-search-test = c .before .before .before .before .before in
+    let at-search = at-search-test .before in
+    let at-start = at-search .before .before .before .before .before .before .before .before .before .before in
+    let a = at-start .args in
+    let p = at-start .pre in
     let v = c .before .end-of in
-    let lv = rw (← v .ensures) at (target-below (a .links) (a .lows .now) (a .highs .now) (a .costs .now) (a .spares .now) (p .0 .fits) (c .before .before .before .before .before .before .search .e) (c .before .before .before .before .before .search-test .taken)) in
+    let lv = rw (← v .ensures) at (target-below (a .links) (a .lows .now) (a .highs .now) (a .costs .now) (a .spares .now) (p .0 .fits) (at-search .search .e) (at-search-test .search-test .taken)) in
     omega arith
 
 mul-entry-3 : tie.Need-mul-entry-3 Inv-loop μ-loop Inv-search μ-search
 mul-entry-3 c =
-    let a = c .before .before .before .before .before .before .before .before .before .before .before .before .before .before .before .before .before .before .args in
-    let p = c .before .before .before .before .before .before .before .before .before .before .before .before .before .before .before .before .before .before .pre in
-    let v = c .before .before .before .end-of in
-    let lv = rw (← v .ensures) at (target-below (a .links) (a .lows .now) (a .highs .now) (a .costs .now) (a .spares .now) (p .0 .fits) (c .before .before .before .before .before .before .before .before .search .e) (c .before .before .before .before .before .before .before .search-test .taken)) in
+    let at-end-of = c .before .before .before in
+    let at-search-test = at-end-of .before .before .before .before in
+    let at-search = at-search-test .before in
+    let at-start = at-search .before .before .before .before .before .before .before .before .before .before in
+    let a = at-start .args in
+    let p = at-start .pre in
+    let v = at-end-of .end-of in
+    let lv = rw (← v .ensures) at (target-below (a .links) (a .lows .now) (a .highs .now) (a .costs .now) (a .spares .now) (p .0 .fits) (at-search .search .e) (at-search-test .search-test .taken)) in
     let k = p .1 .room in
     let w = p .0 .fits .within in
     omega arith
 
 add-entry-3 : tie.Need-add-entry-3 Inv-loop μ-loop Inv-search μ-search
 add-entry-3 c =
-    let a = c .before .before .before .before .before .before .before .before .before .before .before .before .before .before .before .before .before .before .args in
-    let p = c .before .before .before .before .before .before .before .before .before .before .before .before .before .before .before .before .before .before .pre in
-    let v = c .before .before .before .end-of in
-    let lv = rw (← v .ensures) at (target-below (a .links) (a .lows .now) (a .highs .now) (a .costs .now) (a .spares .now) (p .0 .fits) (c .before .before .before .before .before .before .before .before .search .e) (c .before .before .before .before .before .before .before .search-test .taken)) in
+    let at-end-of = c .before .before .before in
+    let at-search-test = at-end-of .before .before .before .before in
+    let at-search = at-search-test .before in
+    let at-start = at-search .before .before .before .before .before .before .before .before .before .before in
+    let a = at-start .args in
+    let p = at-start .pre in
+    let v = at-end-of .end-of in
+    let lv = rw (← v .ensures) at (target-below (a .links) (a .lows .now) (a .highs .now) (a .costs .now) (a .spares .now) (p .0 .fits) (at-search .search .e) (at-search-test .search-test .taken)) in
     let k = p .1 .room in
     let w = p .0 .fits .within in
     omega arith
 
 entry-requires-5 : tie.Need-entry-requires-5 Inv-loop μ-loop Inv-search μ-search
 entry-requires-5 c κs =
-    let a = c .before .before .before .before .before .before .before .before .before .before .before .before .before .before .before .before .before .before .args in
-    let p = c .before .before .before .before .before .before .before .before .before .before .before .before .before .before .before .before .before .before .pre in
-    let v = c .before .before .before .end-of in
-    let lv = rw (← v .ensures) at (target-below (a .links) (a .lows .now) (a .highs .now) (a .costs .now) (a .spares .now) (p .0 .fits) (c .before .before .before .before .before .before .before .before .search .e) (c .before .before .before .before .before .before .before .search-test .taken)) in
+    let at-end-of = c .before .before .before in
+    let at-search-test = at-end-of .before .before .before .before in
+    let at-search = at-search-test .before in
+    let at-start = at-search .before .before .before .before .before .before .before .before .before .before in
+    let a = at-start .args in
+    let p = at-start .pre in
+    let v = at-end-of .end-of in
+    let lv = rw (← v .ensures) at (target-below (a .links) (a .lows .now) (a .highs .now) (a .costs .now) (a .spares .now) (p .0 .fits) (at-search .search .e) (at-search-test .search-test .taken)) in
     let k = p .1 .room in
     let w = p .0 .fits .within in
     omega arith
 
 loop-holds : tie.Need-loop-holds Inv-loop μ-loop Inv-search μ-search
 loop-holds c =
-    let a = c .before .before .before .before .before .before .before .before .before .before .before .before .before .before .before .before .before .before .before .args in
-    let p = c .before .before .before .before .before .before .before .before .before .before .before .before .before .before .before .before .before .before .before .pre in
-    let v = c .before .before .before .before .end-of in
-    let lv = rw (← v .ensures) at (target-below (a .links) (a .lows .now) (a .highs .now) (a .costs .now) (a .spares .now) (p .0 .fits) (c .before .before .before .before .before .before .before .before .before .search .e) (c .before .before .before .before .before .before .before .before .search-test .taken)) in
-    (c .before .before .before .before .before .before .before .before .before .search .inv .0, rw (c .entry5 .ensures) (p .1 .lasts (v .result) lv (c .before .before .before .before .before .before .before .before .before .search .e) (c .before .before .before .before .before .before .before .before .search-test .taken) (sym (v .ensures))))
+    let at-end-of = c .before .before .before .before in
+    let at-search-test = at-end-of .before .before .before .before in
+    let at-search = at-search-test .before in
+    let at-start = at-search .before .before .before .before .before .before .before .before .before .before in
+    let a = at-start .args in
+    let p = at-start .pre in
+    let v = at-end-of .end-of in
+    let lv = rw (← v .ensures) at (target-below (a .links) (a .lows .now) (a .highs .now) (a .costs .now) (a .spares .now) (p .0 .fits) (at-search .search .e) (at-search-test .search-test .taken)) in
+    (at-search .search .inv .0, rw (c .entry5 .ensures) (p .1 .lasts (v .result) lv (at-search .search .e) (at-search-test .search-test .taken) (sym (v .ensures))))
 
 cheaper-requires : tie.Need-cheaper-requires Inv-loop μ-loop Inv-search μ-search
 cheaper-requires c κs =
-    let a = c .before .before .before .before .before .before .before .before .before .before .before .before .before .before .before .before .before .before .before .before .args in
-    let p = c .before .before .before .before .before .before .before .before .before .before .before .before .before .before .before .before .before .before .before .before .pre in
+    let at-search-test = c .before .before .before .before .before .before .before .before .before in
+    let at-start = at-search-test .before .before .before .before .before .before .before .before .before .before .before in
+    let a = at-start .args in
+    let p = at-start .pre in
     let l = c .loop .inv .1 .below in
-    let m = c .before .before .before .before .before .before .before .before .before .search-test .taken in
+    let m = at-search-test .search-test .taken in
     let k = p .0 .fits .few in
     let n = p .0 .fits .in-costs in
     (omega arith, omega arith, omega arith, omega arith)
 
 search-less-2 : tie.Need-search-less-2 Inv-loop μ-loop Inv-search μ-search
 search-less-2 c =
-    let a = c .before .before .before .before .before .before .before .before .before .before .before .before .before .before .before .before .before .before .before .before .before .before .args in
-    let p = c .before .before .before .before .before .before .before .before .before .before .before .before .before .before .before .before .before .before .before .before .before .before .pre in
-    falls (2 * a .links) (endOf (a .lows .now) (a .highs .now)) (keyOf (a .costs .now)) (a .nexts .now) (p .2) (c .before .before .before .before .before .before .before .before .before .before .before .before .search .e) (c .before .before .before .before .before .before .before .before .before .before .entry2 .result) (c .before .before .before .before .before .before .before .before .before .before .before .search-test .taken) (c .before .before .before .before .before .before .before .before .before .before .entry2 .ensures)
+    let at-entry2 = c .before .before .before .before .before .before .before .before .before .before in
+    let at-search-test = at-entry2 .before in
+    let at-search = at-search-test .before in
+    let at-start = at-search .before .before .before .before .before .before .before .before .before .before in
+    let a = at-start .args in
+    let p = at-start .pre in
+    falls (2 * a .links) (endOf (a .lows .now) (a .highs .now)) (keyOf (a .costs .now)) (a .nexts .now) (p .2) (at-search .search .e) (at-entry2 .entry2 .result) (at-search-test .search-test .taken) (at-entry2 .entry2 .ensures)
 
 search-again-2 : tie.Need-search-again-2 Inv-loop μ-loop Inv-search μ-search
 search-again-2 c =
-    let a = c .before .before .before .before .before .before .before .before .before .before .before .before .before .before .before .before .before .before .before .before .before .before .args in
-    let p = c .before .before .before .before .before .before .before .before .before .before .before .before .before .before .before .before .before .before .before .before .before .before .pre in
-    let v = c .before .before .before .before .before .before .before .end-of in
-    let lv = rw (← v .ensures) at (target-below (a .links) (a .lows .now) (a .highs .now) (a .costs .now) (a .spares .now) (p .0 .fits) (c .before .before .before .before .before .before .before .before .before .before .before .before .search .e) (c .before .before .before .before .before .before .before .before .before .before .before .search-test .taken)) in
+    let at-if2 = c .before .before .before .before in
+    let at-entry4 = at-if2 .before in
+    let at-entry3 = at-entry4 .before in
+    let at-end-of = at-entry3 .before in
+    let at-entry2 = at-end-of .before .before .before in
+    let at-search-test = at-entry2 .before in
+    let at-search = at-search-test .before in
+    let at-start = at-search .before .before .before .before .before .before .before .before .before .before in
+    let a = at-start .args in
+    let p = at-start .pre in
+    let v = at-end-of .end-of in
+    let lv = rw (← v .ensures) at (target-below (a .links) (a .lows .now) (a .highs .now) (a .costs .now) (a .spares .now) (p .0 .fits) (at-search .search .e) (at-search-test .search-test .taken)) in
     let n = p .1 .held (v .result) lv in
-    let h = c .before .before .before .before .before .before .entry3 .ensures in
-    let s = c .before .before .before .before .before .entry4 .ensures in
-    let full : item (a .spares .now) (v .result) ≤ holds (siteOf (siteSlicesOf (a .links) (a .lows .now) (a .highs .now) (a .costs .now) (a .spares .now))) (atSource (a .rec .now)) (v .result) = omega (arith, c .before .before .before .before .if2 .left) in (
+    let h = at-entry3 .entry3 .ensures in
+    let s = at-entry4 .entry4 .ensures in
+    let full : item (a .spares .now) (v .result) ≤ holds (siteOf (siteSlicesOf (a .links) (a .lows .now) (a .highs .now) (a .costs .now) (a .spares .now))) (atSource (a .rec .now)) (v .result) = omega (arith, at-if2 .if2 .left) in (
       c .before .before .loop .inv .0,
-      walk-next (a .links) (a .lows .now) (a .highs .now) (a .costs .now) (a .spares .now) (p .0 .fits) (atSource (a .rec .now)) (a .u) (a .nexts .now) (p .2) (c .before .before .before .before .before .before .before .before .before .before .before .before .search .e) (c .before .before .before .before .before .before .before .before .before .before .entry2 .result) (c .before .before .before .before .before .before .before .before .before .before .before .search-test .taken) (c .before .before .before .before .before .before .before .before .before .before .before .before .search .inv .1)
-          (λ z. held-refuses (a .links) (a .lows .now) (a .highs .now) (a .costs .now) (a .spares .now) (p .0 .fits) (atSource (a .rec .now)) (p .0 .inv) (v .result) (c .before .before .loop .f) (c .before .before .loop .inv .1) full (c .before .before .before .before .before .before .before .before .before .before .before .before .search .e) (c .before .before .before .before .before .before .before .before .before .before .before .search-test .taken) (sym (v .ensures)) (λ y. omega arith) (ltb-false (keyOf (a .costs .now) (c .before .before .loop .f)) (keyOf (a .costs .now) (c .before .before .before .before .before .before .before .before .before .before .before .before .search .e)) (sym (c .before .cheaper .ensures) ∙ c .if3 .left))) (c .before .before .before .before .before .before .before .before .before .before .entry2 .ensures),
+      walk-next (a .links) (a .lows .now) (a .highs .now) (a .costs .now) (a .spares .now) (p .0 .fits) (atSource (a .rec .now)) (a .u) (a .nexts .now) (p .2) (at-search .search .e) (at-entry2 .entry2 .result) (at-search-test .search-test .taken) (at-search .search .inv .1)
+          (λ z. held-refuses (a .links) (a .lows .now) (a .highs .now) (a .costs .now) (a .spares .now) (p .0 .fits) (atSource (a .rec .now)) (p .0 .inv) (v .result) (c .before .before .loop .f) (c .before .before .loop .inv .1) full (at-search .search .e) (at-search-test .search-test .taken) (sym (v .ensures)) (λ y. omega arith) (ltb-false (keyOf (a .costs .now) (c .before .before .loop .f)) (keyOf (a .costs .now) (at-search .search .e)) (sym (c .before .cheaper .ensures) ∙ c .if3 .left))) (at-entry2 .entry2 .ensures),
     )
 
 opposite-requires : tie.Need-opposite-requires Inv-loop μ-loop Inv-search μ-search
 opposite-requires c κs =
+    let at-start = c .before .before .before .before .before .before .before .before .before .before .before .before .before .before .before .before .before .before .before .before .before .before in
     let f = c .before .before .loop .inv .1 .below in
-    let k = c .before .before .before .before .before .before .before .before .before .before .before .before .before .before .before .before .before .before .before .before .before .before .pre .0 .fits .few in
+    let k = at-start .pre .0 .fits .few in
     omega arith
 
 mul-if4 : tie.Need-mul-if4 Inv-loop μ-loop Inv-search μ-search
 mul-if4 c =
-    let b = opposite-below (c .before .before .before .before .before .before .before .before .before .before .before .before .before .before .before .before .before .before .before .before .before .before .before .args .links) (c .before .before .before .loop .f) (c .before .before .before .loop .inv .1 .below) in
+    let at-loop = c .before .before .before in
+    let at-start = at-loop .before .before .before .before .before .before .before .before .before .before .before .before .before .before .before .before .before .before .before .before in
+    let b = opposite-below (at-start .args .links) (at-loop .loop .f) (at-loop .loop .inv .1 .below) in
     let e = c .opposite .ensures in
-    let k = c .before .before .before .before .before .before .before .before .before .before .before .before .before .before .before .before .before .before .before .before .before .before .before .pre .0 .fits .few in
+    let k = at-start .pre .0 .fits .few in
     omega arith
 
 add-if4 : tie.Need-add-if4 Inv-loop μ-loop Inv-search μ-search
 add-if4 c =
-    let b = opposite-below (c .before .before .before .before .before .before .before .before .before .before .before .before .before .before .before .before .before .before .before .before .before .before .before .args .links) (c .before .before .before .loop .f) (c .before .before .before .loop .inv .1 .below) in
+    let at-loop = c .before .before .before in
+    let at-start = at-loop .before .before .before .before .before .before .before .before .before .before .before .before .before .before .before .before .before .before .before .before in
+    let b = opposite-below (at-start .args .links) (at-loop .loop .f) (at-loop .loop .inv .1 .below) in
     let e = c .opposite .ensures in
-    let k = c .before .before .before .before .before .before .before .before .before .before .before .before .before .before .before .before .before .before .before .before .before .before .before .pre .0 .fits .few in
+    let k = at-start .pre .0 .fits .few in
     omega arith
 
 shared-slice-read-if4 : tie.Need-shared-slice-read-if4 Inv-loop μ-loop Inv-search μ-search
 shared-slice-read-if4 c =
-    let b = opposite-below (c .before .before .before .before .before .before .before .before .before .before .before .before .before .before .before .before .before .before .before .before .before .before .before .before .args .links) (c .before .before .before .before .loop .f) (c .before .before .before .before .loop .inv .1 .below) in
+    let at-loop = c .before .before .before .before in
+    let at-start = at-loop .before .before .before .before .before .before .before .before .before .before .before .before .before .before .before .before .before .before .before .before in
+    let b = opposite-below (at-start .args .links) (at-loop .loop .f) (at-loop .loop .inv .1 .below) in
     let e = c .before .opposite .ensures in
-    let k = c .before .before .before .before .before .before .before .before .before .before .before .before .before .before .before .before .before .before .before .before .before .before .before .before .pre .0 .paired .room in
+    let k = at-start .pre .0 .paired .room in
     omega arith
 
 entry-requires-6 : tie.Need-entry-requires-6 Inv-loop μ-loop Inv-search μ-search
 entry-requires-6 c κs =
-    let f = c .before .before .before .before .before .loop .inv .1 .below in
-    let k = c .before .before .before .before .before .before .before .before .before .before .before .before .before .before .before .before .before .before .before .before .before .before .before .before .before .pre .3 .long in
+    let at-loop = c .before .before .before .before .before in
+    let at-start = at-loop .before .before .before .before .before .before .before .before .before .before .before .before .before .before .before .before .before .before .before .before in
+    let f = at-loop .loop .inv .1 .below in
+    let k = at-start .pre .3 .long in
     omega arith
 
 loop-less : tie.Need-loop-less Inv-loop μ-loop Inv-search μ-search
 loop-less c =
-    let a = c .before .before .before .before .before .before .before .before .before .before .before .before .before .before .before .before .before .before .before .before .before .before .before .before .before .before .args in
-    let p = c .before .before .before .before .before .before .before .before .before .before .before .before .before .before .before .before .before .before .before .before .before .before .before .before .before .before .pre in
-    falls (2 * a .links) (endOf (a .lows .now) (a .highs .now)) (turnedKey (a .costs .now)) (a .ups .now) (p .3) (c .before .before .before .before .before .before .loop .f) (c .entry6 .result) (c .before .before .before .before .before .before .loop .inv .1 .below) (c .entry6 .ensures)
+    let at-loop = c .before .before .before .before .before .before in
+    let at-start = at-loop .before .before .before .before .before .before .before .before .before .before .before .before .before .before .before .before .before .before .before .before in
+    let a = at-start .args in
+    let p = at-start .pre in
+    falls (2 * a .links) (endOf (a .lows .now) (a .highs .now)) (turnedKey (a .costs .now)) (a .ups .now) (p .3) (at-loop .loop .f) (c .entry6 .result) (at-loop .loop .inv .1 .below) (c .entry6 .ensures)
 
 loop-again : tie.Need-loop-again Inv-loop μ-loop Inv-search μ-search
 loop-again c =
-    let a = c .before .before .before .before .before .before .before .before .before .before .before .before .before .before .before .before .before .before .before .before .before .before .before .before .before .before .args in
-    let p = c .before .before .before .before .before .before .before .before .before .before .before .before .before .before .before .before .before .before .before .before .before .before .before .before .before .before .pre in
-    let v = c .before .before .before .before .before .before .before .before .before .before .before .end-of in
-    let lv = rw (← v .ensures) at (target-below (a .links) (a .lows .now) (a .highs .now) (a .costs .now) (a .spares .now) (p .0 .fits) (c .before .before .before .before .before .before .before .before .before .before .before .before .before .before .before .before .search .e) (c .before .before .before .before .before .before .before .before .before .before .before .before .before .before .before .search-test .taken)) in
+    let at-opposite = c .before .before .before in
+    let at-if3 = at-opposite .before in
+    let at-cheaper = at-if3 .before in
+    let at-loop = at-cheaper .before in
+    let at-if2 = at-loop .before .before in
+    let at-entry4 = at-if2 .before in
+    let at-entry3 = at-entry4 .before in
+    let at-end-of = at-entry3 .before in
+    let at-search-test = at-end-of .before .before .before .before in
+    let at-search = at-search-test .before in
+    let at-start = at-search .before .before .before .before .before .before .before .before .before .before in
+    let a = at-start .args in
+    let p = at-start .pre in
+    let v = at-end-of .end-of in
+    let lv = rw (← v .ensures) at (target-below (a .links) (a .lows .now) (a .highs .now) (a .costs .now) (a .spares .now) (p .0 .fits) (at-search .search .e) (at-search-test .search-test .taken)) in
     let n = p .1 .held (v .result) lv in
-    let h = c .before .before .before .before .before .before .before .before .before .before .entry3 .ensures in
-    let s = c .before .before .before .before .before .before .before .before .before .entry4 .ensures in
-    let full : item (a .spares .now) (v .result) ≤ holds (siteOf (siteSlicesOf (a .links) (a .lows .now) (a .highs .now) (a .costs .now) (a .spares .now))) (atSource (a .rec .now)) (v .result) = omega (arith, c .before .before .before .before .before .before .before .before .if2 .left) in (
-      c .before .before .before .before .before .before .loop .inv .0,
-      held-next (a .links) (a .lows .now) (a .highs .now) (a .costs .now) (a .spares .now) (p .0 .fits) (atSource (a .rec .now)) (p .0 .inv) (v .result) (c .before .before .before .before .before .before .loop .f) (c .before .before .before .before .before .before .loop .inv .1) full (a .ups .now) (p .3)
-          (λ z. c .before .if4 .left (ap (atTarget (a .rec .now)) (c .before .before .before .opposite .ensures) ∙ p .0 .paired .twin (opposite (c .before .before .before .before .before .before .loop .f)) ∙ z)) (c .before .before .before .before .before .before .before .before .before .before .before .before .before .before .before .before .search .e) (c .before .before .before .before .before .before .before .before .before .before .before .before .before .before .before .search-test .taken) (sym (v .ensures)) (ltb-true (keyOf (a .costs .now) (c .before .before .before .before .before .before .loop .f)) (keyOf (a .costs .now) (c .before .before .before .before .before .before .before .before .before .before .before .before .before .before .before .before .search .e)) (sym (c .before .before .before .before .before .cheaper .ensures) ∙ c .before .before .before .before .if3 .taken)) (c .entry6 .result) (c .entry6 .ensures),
+    let h = at-entry3 .entry3 .ensures in
+    let s = at-entry4 .entry4 .ensures in
+    let full : item (a .spares .now) (v .result) ≤ holds (siteOf (siteSlicesOf (a .links) (a .lows .now) (a .highs .now) (a .costs .now) (a .spares .now))) (atSource (a .rec .now)) (v .result) = omega (arith, at-if2 .if2 .left) in (
+      at-loop .loop .inv .0,
+      held-next (a .links) (a .lows .now) (a .highs .now) (a .costs .now) (a .spares .now) (p .0 .fits) (atSource (a .rec .now)) (p .0 .inv) (v .result) (at-loop .loop .f) (at-loop .loop .inv .1) full (a .ups .now) (p .3)
+          (λ z. c .before .if4 .left (ap (atTarget (a .rec .now)) (at-opposite .opposite .ensures) ∙ p .0 .paired .twin (opposite (at-loop .loop .f)) ∙ z)) (at-search .search .e) (at-search-test .search-test .taken) (sym (v .ensures)) (ltb-true (keyOf (a .costs .now) (at-loop .loop .f)) (keyOf (a .costs .now) (at-search .search .e)) (sym (at-cheaper .cheaper .ensures) ∙ at-if3 .if3 .taken)) (c .entry6 .result) (c .entry6 .ensures),
     )
 
 returns : tie.Need-returns Inv-loop μ-loop Inv-search μ-search
 returns c =
-    let a = c .before .before .before .before .before .before .before .before .before .before .before .args in
-    let p = c .before .before .before .before .before .before .before .before .before .before .before .pre in
+    let at-start = c .before .before .before .before .before .before .before .before .before .before .before in
+    let a = at-start .args in
+    let p = at-start .pre in
     let e = c .before .search .inv .0 in
     (rw e (walk-end (a .links) (a .lows .now) (a .highs .now) (a .costs .now) (a .spares .now) (p .0 .fits) (atSource (a .rec .now)) (a .u) (c .before .search .e) (c .search-test .left) (c .before .search .inv .1)), omega arith)
 
 returns-2 : tie.Need-returns-2 Inv-loop μ-loop Inv-search μ-search
 returns-2 c =
-    let a = c .before .before .before .before .before .before .before .before .before .before .before .before .before .before .before .before .before .before .args in
-    let p = c .before .before .before .before .before .before .before .before .before .before .before .before .before .before .before .before .before .before .pre in
-    let v = c .before .before .before .end-of in
-    let lv = rw (← v .ensures) at (target-below (a .links) (a .lows .now) (a .highs .now) (a .costs .now) (a .spares .now) (p .0 .fits) (c .before .before .before .before .before .before .before .before .search .e) (c .before .before .before .before .before .before .before .search-test .taken)) in
+    let at-end-of = c .before .before .before in
+    let at-if1 = at-end-of .before in
+    let at-search-test = at-if1 .before .before .before in
+    let at-search = at-search-test .before in
+    let at-start = at-search .before .before .before .before .before .before .before .before .before .before in
+    let a = at-start .args in
+    let p = at-start .pre in
+    let v = at-end-of .end-of in
+    let lv = rw (← v .ensures) at (target-below (a .links) (a .lows .now) (a .highs .now) (a .costs .now) (a .spares .now) (p .0 .fits) (at-search .search .e) (at-search-test .search-test .taken)) in
     let n = p .1 .held (v .result) lv in
     let h = c .before .before .entry3 .ensures in
     let s = c .before .entry4 .ensures in
-    (walk-found (a .links) (a .lows .now) (a .highs .now) (a .costs .now) (a .spares .now) (p .0 .fits) (atSource (a .rec .now)) (a .u) (c .before .before .before .before .before .before .before .before .search .e) (c .before .before .before .before .before .before .before .search-test .taken) (c .before .before .before .before .before .before .before .before .search .inv .1) (c .before .before .before .before .if1 .left) (taken-free (a .links) (a .lows .now) (a .highs .now) (a .costs .now) (a .spares .now) (p .0 .fits) (atSource (a .rec .now)) (p .0 .inv) (v .result) (c .before .before .before .before .before .before .before .before .search .e) (mark (a .marks .now) (v .result) 1) (sym (v .ensures)) n (omega (arith, c .if2 .taken))), omega arith)
+    (walk-found (a .links) (a .lows .now) (a .highs .now) (a .costs .now) (a .spares .now) (p .0 .fits) (atSource (a .rec .now)) (a .u) (at-search .search .e) (at-search-test .search-test .taken) (at-search .search .inv .1) (at-if1 .if1 .left) (taken-free (a .links) (a .lows .now) (a .highs .now) (a .costs .now) (a .spares .now) (p .0 .fits) (atSource (a .rec .now)) (p .0 .inv) (v .result) (at-search .search .e) (mark (a .marks .now) (v .result) 1) (sym (v .ensures)) n (omega (arith, c .if2 .taken))), omega arith)
 
 returns-3 : tie.Need-returns-3 Inv-loop μ-loop Inv-search μ-search
 returns-3 c =
-    let a = c .before .before .before .before .before .before .before .before .before .before .before .before .before .before .before .before .before .before .before .before .before .before .before .before .before .args in
-    let p = c .before .before .before .before .before .before .before .before .before .before .before .before .before .before .before .before .before .before .before .before .before .before .before .before .before .pre in
-    let v = c .before .before .before .before .before .before .before .before .before .before .end-of in
-    (walk-found (a .links) (a .lows .now) (a .highs .now) (a .costs .now) (a .spares .now) (p .0 .fits) (atSource (a .rec .now)) (a .u) (c .before .before .before .before .before .before .before .before .before .before .before .before .before .before .before .search .e) (c .before .before .before .before .before .before .before .before .before .before .before .before .before .before .search-test .taken) (c .before .before .before .before .before .before .before .before .before .before .before .before .before .before .before .search .inv .1) (c .before .before .before .before .before .before .before .before .before .before .before .if1 .left) (held-wanted (a .links) (a .lows .now) (a .highs .now) (a .costs .now) (a .spares .now) (p .0 .fits) (atSource (a .rec .now)) (p .0 .inv) (v .result) (c .before .before .before .before .before .loop .f) (c .before .before .before .before .before .loop .inv .1) (c .before .before .before .before .before .before .before .before .before .before .before .before .before .before .before .search .e) (sym (v .ensures)) (ltb-true (keyOf (a .costs .now) (c .before .before .before .before .before .loop .f)) (keyOf (a .costs .now) (c .before .before .before .before .before .before .before .before .before .before .before .before .before .before .before .search .e)) (sym (c .before .before .before .before .cheaper .ensures) ∙ c .before .before .before .if3 .taken)) (sym (ap (atTarget (a .rec .now)) (c .before .before .opposite .ensures) ∙ p .0 .paired .twin (opposite (c .before .before .before .before .before .loop .f))) ∙ c .if4 .taken)), omega arith)
+    let at-if3 = c .before .before .before in
+    let at-cheaper = at-if3 .before in
+    let at-loop = at-cheaper .before in
+    let at-end-of = at-loop .before .before .before .before .before in
+    let at-if1 = at-end-of .before in
+    let at-search-test = at-if1 .before .before .before in
+    let at-search = at-search-test .before in
+    let at-start = at-search .before .before .before .before .before .before .before .before .before .before in
+    let a = at-start .args in
+    let p = at-start .pre in
+    let v = at-end-of .end-of in
+    (walk-found (a .links) (a .lows .now) (a .highs .now) (a .costs .now) (a .spares .now) (p .0 .fits) (atSource (a .rec .now)) (a .u) (at-search .search .e) (at-search-test .search-test .taken) (at-search .search .inv .1) (at-if1 .if1 .left) (held-wanted (a .links) (a .lows .now) (a .highs .now) (a .costs .now) (a .spares .now) (p .0 .fits) (atSource (a .rec .now)) (p .0 .inv) (v .result) (at-loop .loop .f) (at-loop .loop .inv .1) (at-search .search .e) (sym (v .ensures)) (ltb-true (keyOf (a .costs .now) (at-loop .loop .f)) (keyOf (a .costs .now) (at-search .search .e)) (sym (at-cheaper .cheaper .ensures) ∙ at-if3 .if3 .taken)) (sym (ap (atTarget (a .rec .now)) (c .before .before .opposite .ensures) ∙ p .0 .paired .twin (opposite (at-loop .loop .f))) ∙ c .if4 .taken)), omega arith)
 
 pub next-offer-spec : {M : Type 1} → statement M
 next-offer-spec =

@@ -16,8 +16,9 @@ decide-requires c κs = search needs
 
 alter-requires : tie.Need-alter-requires
 alter-requires c κs =
-    let a = c .before .before .before .before .before .before .before .before .args in
-    let p = c .before .before .before .before .before .before .before .before .pre in
+    let at-start = c .before .before .before .before .before .before .before .before in
+    let a = at-start .args in
+    let p = at-start .pre in
     let t : Table = ofSlices 0 0 (a .links) (a .needs .now) (a .lows .now) (a .highs .now) (a .costs .now) in
     let w = befalls-within t (a .probe) (a .event) (a .rec .now) (p .2) in
     let r = p .1 .room in

@@ -17,10 +17,16 @@ field-requires-3 : tie.Need-field-requires-3
 field-requires-3 c κs = search needs
 
 returns : tie.Need-returns
-returns c = rw (← c .before .before .before .before .field .ensures, ← c .before .before .before .field2 .ensures, ← c .before .before .between .ensures, ← c .before .field3 .ensures, eq-eqb _ _ (c .if1 .taken))
+returns c =
+    let at-field2 = c .before .before .before in
+    let at-field = at-field2 .before in
+    rw (← at-field .field .ensures, ← at-field2 .field2 .ensures, ← c .before .before .between .ensures, ← c .before .field3 .ensures, eq-eqb _ _ (c .if1 .taken))
 
 returns-2 : tie.Need-returns-2
-returns-2 c = rw (← c .before .before .before .before .field .ensures, ← c .before .before .before .field2 .ensures, ← c .before .before .between .ensures, ← c .before .field3 .ensures, ne-eqb _ _ (c .if1 .left))
+returns-2 c =
+    let at-field2 = c .before .before .before in
+    let at-field = at-field2 .before in
+    rw (← at-field .field .ensures, ← at-field2 .field2 .ensures, ← c .before .before .between .ensures, ← c .before .field3 .ensures, ne-eqb _ _ (c .if1 .left))
 
 pub event-of-spec : {M : Type 1} → statement M
 event-of-spec =

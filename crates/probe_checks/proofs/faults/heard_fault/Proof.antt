@@ -21,17 +21,23 @@ field-requires c κs = (sym (c .before .frame-fault .ensures) ∙ c .if1 .left, 
 returns-2 : tie.Need-returns-2
 unfolding heardFault
 returns-2 c =
-    let z = sym (c .before .before .before .frame-fault .ensures) ∙ c .before .before .if1 .left in
+    let at-frame-fault = c .before .before .before in
+    let z = sym (at-frame-fault .frame-fault .ensures) ∙ c .before .before .if1 .left in
     rw (z, sym (c .before .field .ensures) ∙ c .if2 .taken)
 
 returns-3 : tie.Need-returns-3
 unfolding heardFault
 returns-3 c =
-    let z = sym (c .before .before .before .before .frame-fault .ensures) ∙ c .before .before .before .if1 .left in
+    let at-if1 = c .before .before .before in
+    let at-frame-fault = at-if1 .before in
+    let z = sym (at-frame-fault .frame-fault .ensures) ∙ at-if1 .if1 .left in
     rw (z, ← c .before .before .field .ensures, other-kind _ (c .if3 .taken))
 
 field-requires-2 : tie.Need-field-requires-2
-field-requires-2 c κs = (sym (c .before .before .before .before .frame-fault .ensures) ∙ c .before .before .before .if1 .left, search needs, search needs)
+field-requires-2 c κs =
+    let at-if1 = c .before .before .before in
+    let at-frame-fault = at-if1 .before in
+    (sym (at-frame-fault .frame-fault .ensures) ∙ at-if1 .if1 .left, search needs, search needs)
 
 wide-requires : tie.Need-wide-requires
 wide-requires c κs = search needs
@@ -39,11 +45,19 @@ wide-requires c κs = search needs
 returns-4 : tie.Need-returns-4
 unfolding heardFault
 returns-4 c =
-    let z = sym (c .before .before .before .before .before .before .before .frame-fault .ensures) ∙ c .before .before .before .before .before .before .if1 .left in
-    rw (z, ← c .before .before .before .before .before .field .ensures, known-kind _ (c .before .before .before .before .if2 .left) (c .before .before .before .if3 .left), ← c .before .before .field2 .ensures, ne-eqb _ _ (λ q. c .if4 .taken (q ∙ sym (c .before .wide .ensures))))
+    let at-if3 = c .before .before .before in
+    let at-if2 = at-if3 .before in
+    let at-field = at-if2 .before in
+    let at-if1 = at-field .before in
+    let at-frame-fault = at-if1 .before in
+    let z = sym (at-frame-fault .frame-fault .ensures) ∙ at-if1 .if1 .left in
+    rw (z, ← at-field .field .ensures, known-kind _ (at-if2 .if2 .left) (at-if3 .if3 .left), ← c .before .before .field2 .ensures, ne-eqb _ _ (λ q. c .if4 .taken (q ∙ sym (c .before .wide .ensures))))
 
 field-requires-3 : tie.Need-field-requires-3
-field-requires-3 c κs = (sym (c .before .before .before .before .before .before .before .frame-fault .ensures) ∙ c .before .before .before .before .before .before .if1 .left, search needs, search needs)
+field-requires-3 c κs =
+    let at-if1 = c .before .before .before .before .before .before in
+    let at-frame-fault = at-if1 .before in
+    (sym (at-frame-fault .frame-fault .ensures) ∙ at-if1 .if1 .left, search needs, search needs)
 
 returns-5 : tie.Need-returns-5
 unfolding heardFault

@@ -16,16 +16,20 @@ enum-known-event c = search needs
 
 mul-if1 : tie.Need-mul-if1
 mul-if1 c =
-    let w = rw (c .before .event .given .1) at (c .before .before .before .pre) in
+    let at-start = c .before .before .before in
+    let w = rw (c .before .event .given .1) at (at-start .pre) in
     omega arith
 
 shared-slice-read-if1 : tie.Need-shared-slice-read-if1
 shared-slice-read-if1 c =
-    let w = rw (c .before .before .event .given .1) at (c .before .before .before .before .pre) in
+    let at-start = c .before .before .before .before in
+    let w = rw (c .before .before .event .given .1) at (at-start .pre) in
     omega arith
 
 returns : tie.Need-returns
-returns c = rw (c .before .before .before .event .given .1, eq-eqb _ _ (c .if1 .taken))
+returns c =
+    let at-event = c .before .before .before in
+    rw (at-event .event .given .1, eq-eqb _ _ (c .if1 .taken))
 
 returns-2 : tie.Need-returns-2
 returns-2 c = rw (c .enum-told .given .1)
@@ -34,7 +38,9 @@ returns-3 : tie.Need-returns-3
 returns-3 c = rw (c .enum-told2 .given .1)
 
 returns-4 : tie.Need-returns-4
-returns-4 c = rw (c .before .before .before .event .given .1, ne-eqb _ _ (c .if1 .left))
+returns-4 c =
+    let at-event = c .before .before .before in
+    rw (at-event .event .given .1, ne-eqb _ _ (c .if1 .left))
 
 pub untried-fault-spec : {M : Type 1} → statement M
 untried-fault-spec =

@@ -29,7 +29,9 @@ touches-requires : tie.Need-touches-requires
 touches-requires c κs = search needs
 
 returns-3 : tie.Need-returns-3
-returns-3 c = rw (le-ltb _ _ (c .before .before .before .before .if1 .left), le-ltb _ _ (c .before .before .if2 .left), ← c .before .touches .ensures, c .if3 .taken)
+returns-3 c =
+    let at-if1 = c .before .before .before .before in
+    rw (le-ltb _ _ (at-if1 .if1 .left), le-ltb _ _ (c .before .before .if2 .left), ← c .before .touches .ensures, c .if3 .taken)
 
 mul-if4 : tie.Need-mul-if4
 mul-if4 c = search needs
@@ -38,7 +40,11 @@ shared-slice-read-if4 : tie.Need-shared-slice-read-if4
 shared-slice-read-if4 c = search needs
 
 returns-4 : tie.Need-returns-4
-returns-4 c = rw (le-ltb _ _ (c .before .before .before .before .before .before .if1 .left), le-ltb _ _ (c .before .before .before .before .if2 .left), ← c .before .before .before .touches .ensures, c .before .before .if3 .left, ne-eqb _ _ (c .if4 .taken))
+returns-4 c =
+    let at-touches = c .before .before .before in
+    let at-if2 = at-touches .before in
+    let at-if1 = at-if2 .before .before in
+    rw (le-ltb _ _ (at-if1 .if1 .left), le-ltb _ _ (at-if2 .if2 .left), ← at-touches .touches .ensures, c .before .before .if3 .left, ne-eqb _ _ (c .if4 .taken))
 
 mul-if5 : tie.Need-mul-if5
 mul-if5 c = search needs
@@ -50,10 +56,20 @@ shared-slice-read-if5 : tie.Need-shared-slice-read-if5
 shared-slice-read-if5 c = search needs
 
 returns-5 : tie.Need-returns-5
-returns-5 c = rw (le-ltb _ _ (c .before .before .before .before .before .before .before .before .if1 .left), le-ltb _ _ (c .before .before .before .before .before .before .if2 .left), ← c .before .before .before .before .before .touches .ensures, c .before .before .before .before .if3 .left, eq-eqb _ _ (c .before .before .if4 .left), ne-eqb _ _ (c .if5 .taken))
+returns-5 c =
+    let at-if3 = c .before .before .before .before in
+    let at-touches = at-if3 .before in
+    let at-if2 = at-touches .before in
+    let at-if1 = at-if2 .before .before in
+    rw (le-ltb _ _ (at-if1 .if1 .left), le-ltb _ _ (at-if2 .if2 .left), ← at-touches .touches .ensures, at-if3 .if3 .left, eq-eqb _ _ (c .before .before .if4 .left), ne-eqb _ _ (c .if5 .taken))
 
 returns-6 : tie.Need-returns-6
-returns-6 c = rw (le-ltb _ _ (c .before .before .before .before .before .before .before .before .if1 .left), le-ltb _ _ (c .before .before .before .before .before .before .if2 .left), ← c .before .before .before .before .before .touches .ensures, c .before .before .before .before .if3 .left, eq-eqb _ _ (c .before .before .if4 .left), eq-eqb _ _ (c .if5 .left))
+returns-6 c =
+    let at-if3 = c .before .before .before .before in
+    let at-touches = at-if3 .before in
+    let at-if2 = at-touches .before in
+    let at-if1 = at-if2 .before .before in
+    rw (le-ltb _ _ (at-if1 .if1 .left), le-ltb _ _ (at-if2 .if2 .left), ← at-touches .touches .ensures, at-if3 .if3 .left, eq-eqb _ _ (c .before .before .if4 .left), eq-eqb _ _ (c .if5 .left))
 
 pub byte-fault-spec : {M : Type 1} → statement M
 byte-fault-spec =

@@ -30,7 +30,8 @@ byte-fault-requires c κs = search needs
 
 returns : tie.Need-returns Inv-loop μ-loop
 returns c =
-    let l = c .before .before .before .loop in
+    let at-loop = c .before .before .before in
+    let l = at-loop .loop in
     let a = c .before .before .before .before .before .before .before .args in
     let e = c .before .byte-fault .ensures in
     e ∙ sym (first-some (fault (a .rec .now) (a .lows .now) (a .highs .now) (a .probe)) (a .links) (l .i) (l .inv .1) (search needs) (λ z. c .if1 .taken (e ∙ z)))
@@ -43,14 +44,16 @@ loop-less c = search needs
 
 loop-again : tie.Need-loop-again Inv-loop μ-loop
 loop-again c =
-    let l = c .before .before .before .loop in
+    let at-loop = c .before .before .before in
+    let l = at-loop .loop in
     let a = c .before .before .before .before .before .before .before .args in
     (search needs, first-none (fault (a .rec .now) (a .lows .now) (a .highs .now) (a .probe)) (l .i) (l .inv .1) (sym (c .before .byte-fault .ensures) ∙ c .if1 .left))
 
 returns-2 : tie.Need-returns-2 Inv-loop μ-loop
 returns-2 c =
+    let at-start = c .before .before .before .before .before in
     let l = c .before .loop in
-    let e : l .i ≡ c .before .before .before .before .before .args .links = omega arith in
+    let e : l .i ≡ at-start .args .links = omega arith in
     rw (← e) (sym (l .inv .1))
 
 pub bytes-fault-spec : {M : Type 1} → statement M

@@ -45,7 +45,8 @@ loop-less c = search needs
 
 loop-again : tie.Need-loop-again Inv-loop μ-loop
 loop-again c =
-    let l = c .before .before .before .loop in
+    let at-loop = c .before .before .before in
+    let l = at-loop .loop in
     let a = c .before .before .before .before .args in
     (search needs, l .inv .1 ∙ sym (count-miss (one (a .rec .now) (a .at)) (l .i) (ne-eqb _ _ (c .if1 .taken))), search needs)
 
@@ -57,7 +58,8 @@ loop-less-2 c = search needs
 
 loop-again-2 : tie.Need-loop-again-2 Inv-loop μ-loop
 loop-again-2 c =
-    let l = c .before .before .before .loop in
+    let at-loop = c .before .before .before in
+    let l = at-loop .loop in
     let a = c .before .before .before .before .args in
     (search needs, (let h = count-hit (one (a .rec .now) (a .at)) (l .i) (eq-eqb _ _ (c .if1 .left)) in let e = l .inv .1 in omega arith), search needs)
 

@@ -80,6 +80,7 @@ loop-less-3 c = search needs
 
 loop-again-3 : tie.Need-loop-again-3 Inv-loop μ-loop
 loop-again-3 c =
+    let at-touches = c .before .before .before in
     let at-byte = c .before .before .before .before in
     let at-loop = at-byte .before .before .before in
     let l = at-loop .loop in
@@ -87,7 +88,7 @@ loop-again-3 c =
     let a = at-start .args in
     let t : Table = ofSlices 0 0 (a .links) [] (a .lows .now) (a .highs .now) (a .costs .now) in
     let byte = side-is (a .value) (a .rec .now) (l .i) (at-start .pre .2) in
-    let own = and-intro (sym (c .before .before .before .touches .ensures) ∙ not-false _ (c .before .before .if2 .left)) (eq-eqb (sideByte (a .value) (a .rec .now) (l .i)) (a .value) (sym byte ∙ at-byte .if1 .left)) in
+    let own = and-intro (sym (at-touches .touches .ensures) ∙ not-false _ (c .before .before .if2 .left)) (eq-eqb (sideByte (a .value) (a .rec .now) (l .i)) (a .value) (sym byte ∙ at-byte .if1 .left)) in
     let less = side-behind t (at-start .pre .0 .order) (a .value) (l .i) (l .best) (search needs) (sym (c .before .goes-before .ensures) ∙ not-true _ (c .if3 .taken)) in
     (search needs, found-old (sideBetter (a .value) t) (sought (a .value) t (a .probe) (a .rec .now)) (a .links) (l .i) (l .best) own (less .0) (less .1) (l .inv .1))
 
@@ -96,6 +97,7 @@ loop-less-4 c = search needs
 
 loop-again-4 : tie.Need-loop-again-4 Inv-loop μ-loop
 loop-again-4 c =
+    let at-touches = c .before .before .before in
     let at-byte = c .before .before .before .before in
     let at-loop = at-byte .before .before .before in
     let l = at-loop .loop in
@@ -103,7 +105,7 @@ loop-again-4 c =
     let a = at-start .args in
     let t : Table = ofSlices 0 0 (a .links) [] (a .lows .now) (a .highs .now) (a .costs .now) in
     let byte = side-is (a .value) (a .rec .now) (l .i) (at-start .pre .2) in
-    let own = and-intro (sym (c .before .before .before .touches .ensures) ∙ not-false _ (c .before .before .if2 .left)) (eq-eqb (sideByte (a .value) (a .rec .now) (l .i)) (a .value) (sym byte ∙ at-byte .if1 .left)) in
+    let own = and-intro (sym (at-touches .touches .ensures) ∙ not-false _ (c .before .before .if2 .left)) (eq-eqb (sideByte (a .value) (a .rec .now) (l .i)) (a .value) (sym byte ∙ at-byte .if1 .left)) in
     let more = side-before t (at-start .pre .0 .order) (a .value) (l .i) (l .best) (search needs) (sym (c .before .goes-before .ensures) ∙ not-false _ (c .if3 .left)) in
     (search needs, found-new (sideBetter (a .value) t) (sought (a .value) t (a .probe) (a .rec .now)) (a .links) (l .i) (l .best) (search needs) own more (l .inv .1))
 

@@ -16,13 +16,15 @@ enum-known-event c = search needs
 
 mul-if1 : tie.Need-mul-if1
 mul-if1 c =
-    let w = rw (c .before .event .given .1) at (c .before .before .before .before .before .before .before .before .pre .2) in
-    let r = c .before .before .before .before .before .before .before .before .pre .1 .room in omega arith
+    let at-start = c .before .before .before .before .before .before .before .before in
+    let w = rw (c .before .event .given .1) at (at-start .pre .2) in
+    let r = at-start .pre .1 .room in omega arith
 
 add-if1 : tie.Need-add-if1
 add-if1 c =
-    let w = rw (c .before .event .given .1) at (c .before .before .before .before .before .before .before .before .pre .2) in
-    let r = c .before .before .before .before .before .before .before .before .pre .1 .room in omega arith
+    let at-start = c .before .before .before .before .before .before .before .before in
+    let w = rw (c .before .event .given .1) at (at-start .pre .2) in
+    let r = at-start .pre .1 .room in omega arith
 
 shared-slice-read-if1 : tie.Need-shared-slice-read-if1
 shared-slice-read-if1 c =
@@ -32,7 +34,9 @@ shared-slice-read-if1 c =
     let r = at-start .pre .1 .room in omega arith
 
 returns : tie.Need-returns
-returns c = rw (c .before .before .before .event .given .1, ne-eqb _ _ (c .if1 .taken))
+returns c =
+    let at-event = c .before .before .before in
+    rw (at-event .event .given .1, ne-eqb _ _ (c .if1 .taken))
 
 decide-offer-requires : tie.Need-decide-offer-requires
 decide-offer-requires c κs =
@@ -46,8 +50,9 @@ enum-known-event-2 c = search needs
 
 mul-if2 : tie.Need-mul-if2
 mul-if2 c =
-    let w = rw (c .before .event2 .given .1) at (c .before .before .before .before .before .before .before .before .pre .2) in
-    let r = c .before .before .before .before .before .before .before .before .pre .1 .room in omega arith
+    let at-start = c .before .before .before .before .before .before .before .before in
+    let w = rw (c .before .event2 .given .1) at (at-start .pre .2) in
+    let r = at-start .pre .1 .room in omega arith
 
 shared-slice-read-if2 : tie.Need-shared-slice-read-if2
 shared-slice-read-if2 c =
@@ -57,16 +62,22 @@ shared-slice-read-if2 c =
     let r = at-start .pre .1 .room in omega arith
 
 returns-2 : tie.Need-returns-2
-returns-2 c = rw (c .before .before .before .event2 .given .1, eq-eqb _ _ (c .if2 .taken))
+returns-2 c =
+    let at-event2 = c .before .before .before in
+    rw (at-event2 .event2 .given .1, eq-eqb _ _ (c .if2 .taken))
 
 returns-3 : tie.Need-returns-3
 returns-3 c = rw (c .before .enum-told .given .1) (c .decide-opening .ensures)
 
 returns-4 : tie.Need-returns-4
-returns-4 c = rw (c .before .before .before .before .event .given .1, eq-eqb _ _ (c .before .if1 .left)) (c .decide-offer .ensures)
+returns-4 c =
+    let at-event = c .before .before .before .before in
+    rw (at-event .event .given .1, eq-eqb _ _ (c .before .if1 .left)) (c .decide-offer .ensures)
 
 returns-5 : tie.Need-returns-5
-returns-5 c = rw (c .before .before .before .event2 .given .1, ne-eqb _ _ (c .if2 .left))
+returns-5 c =
+    let at-event2 = c .before .before .before in
+    rw (at-event2 .event2 .given .1, ne-eqb _ _ (c .if2 .left))
 
 pub decide-spec : {M : Type 1} → statement M
 decide-spec =

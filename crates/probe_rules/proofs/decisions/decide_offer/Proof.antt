@@ -17,9 +17,10 @@ ones-requires c κs = search needs
 
 returns : tie.Need-returns
 returns c =
-    let a = c .before .before .before .before .before .before .before .before .args in
+    let at-start = c .before .before .before .before .before .before .before .before in
+    let a = at-start .args in
     let t : Table = ofSlices 0 0 (a .links) (a .needs .now) (a .lows .now) (a .highs .now) (a .costs .now) in
-    rw (← ones-held t (a .probe) (a .rec .now) (c .before .before .before .before .before .before .before .before .pre .1 .bytes), ← c .before .ones .ensures .0, ← c .before .before .spare .ensures, lt-ltb _ _ (c .if1 .taken))
+    rw (← ones-held t (a .probe) (a .rec .now) (at-start .pre .1 .bytes), ← c .before .ones .ensures .0, ← c .before .before .spare .ensures, lt-ltb _ _ (c .if1 .taken))
 
 best-own-requires : tie.Need-best-own-requires
 best-own-requires c κs = search needs

@@ -9,10 +9,14 @@ enum-known-outcome : tie.Need-enum-known-outcome
 enum-known-outcome c = search needs
 
 mul-rec : tie.Need-mul-rec
-mul-rec c = let w = rw (c .before .outcome .given .1) at (c .before .before .before .pre) in omega arith
+mul-rec c =
+    let at-start = c .before .before .before in
+    let w = rw (c .before .outcome .given .1) at (at-start .pre) in omega arith
 
 slice-write-rec : tie.Need-slice-write-rec
-slice-write-rec c = let w = rw (c .before .outcome .given .1) at (c .before .before .before .pre) in omega arith
+slice-write-rec c =
+    let at-start = c .before .before .before in
+    let w = rw (c .before .outcome .given .1) at (at-start .pre) in omega arith
 
 enum-told : tie.Need-enum-told
 enum-told c = search needs
@@ -21,55 +25,83 @@ enum-known-outcome-2 : tie.Need-enum-known-outcome-2
 enum-known-outcome-2 c = search needs
 
 mul-rec-2 : tie.Need-mul-rec-2
-mul-rec-2 c = let w = rw (c .before .outcome2 .given .1) at (c .before .before .before .pre) in omega arith
+mul-rec-2 c =
+    let at-start = c .before .before .before in
+    let w = rw (c .before .outcome2 .given .1) at (at-start .pre) in omega arith
 
 add-rec : tie.Need-add-rec
-add-rec c = let w = rw (c .before .outcome2 .given .1) at (c .before .before .before .pre) in omega arith
+add-rec c =
+    let at-start = c .before .before .before in
+    let w = rw (c .before .outcome2 .given .1) at (at-start .pre) in omega arith
 
 slice-write-rec-2 : tie.Need-slice-write-rec-2
-slice-write-rec-2 c = let w = rw (c .before .outcome2 .given .1) at (c .before .before .before .pre) in omega arith
+slice-write-rec-2 c =
+    let at-start = c .before .before .before in
+    let w = rw (c .before .outcome2 .given .1) at (at-start .pre) in omega arith
 
 enum-known-outcome-3 : tie.Need-enum-known-outcome-3
 enum-known-outcome-3 c = search needs
 
 mul-rec-3 : tie.Need-mul-rec-3
-mul-rec-3 c = let w = rw (c .before .outcome3 .given .1) at (c .before .before .before .pre) in omega arith
+mul-rec-3 c =
+    let at-start = c .before .before .before in
+    let w = rw (c .before .outcome3 .given .1) at (at-start .pre) in omega arith
 
 add-rec-2 : tie.Need-add-rec-2
-add-rec-2 c = let w = rw (c .before .outcome3 .given .1) at (c .before .before .before .pre) in omega arith
+add-rec-2 c =
+    let at-start = c .before .before .before in
+    let w = rw (c .before .outcome3 .given .1) at (at-start .pre) in omega arith
 
 slice-write-rec-3 : tie.Need-slice-write-rec-3
-slice-write-rec-3 c = let w = rw (c .before .outcome3 .given .1) at (c .before .before .before .pre) in omega arith
+slice-write-rec-3 c =
+    let at-start = c .before .before .before in
+    let w = rw (c .before .outcome3 .given .1) at (at-start .pre) in omega arith
 
 mul-rec-4 : tie.Need-mul-rec-4
-mul-rec-4 c = let w = rw (c .before .outcome3 .given .1) at (c .before .before .before .pre) in omega arith
+mul-rec-4 c =
+    let at-start = c .before .before .before in
+    let w = rw (c .before .outcome3 .given .1) at (at-start .pre) in omega arith
 
 add-rec-3 : tie.Need-add-rec-3
-add-rec-3 c = let w = rw (c .before .outcome3 .given .1) at (c .before .before .before .pre) in omega arith
+add-rec-3 c =
+    let at-start = c .before .before .before in
+    let w = rw (c .before .outcome3 .given .1) at (at-start .pre) in omega arith
 
 slice-write-rec-4 : tie.Need-slice-write-rec-4
-slice-write-rec-4 c = let w = rw (c .before .outcome3 .given .1) at (c .before .before .before .pre) in simp length-set (omega arith)
+slice-write-rec-4 c =
+    let at-start = c .before .before .before in
+    let w = rw (c .before .outcome3 .given .1) at (at-start .pre) in simp length-set (omega arith)
 
 enum-known-outcome-4 : tie.Need-enum-known-outcome-4
 enum-known-outcome-4 c = search needs
 
 mul-rec-5 : tie.Need-mul-rec-5
-mul-rec-5 c = let w = rw (c .before .outcome4 .given .1) at (c .before .before .before .pre) in omega arith
+mul-rec-5 c =
+    let at-start = c .before .before .before in
+    let w = rw (c .before .outcome4 .given .1) at (at-start .pre) in omega arith
 
 add-rec-4 : tie.Need-add-rec-4
-add-rec-4 c = let w = rw (c .before .outcome4 .given .1) at (c .before .before .before .pre) in omega arith
+add-rec-4 c =
+    let at-start = c .before .before .before in
+    let w = rw (c .before .outcome4 .given .1) at (at-start .pre) in omega arith
 
 slice-write-rec-5 : tie.Need-slice-write-rec-5
-slice-write-rec-5 c = let w = rw (c .before .outcome4 .given .1) at (c .before .before .before .pre) in omega arith
+slice-write-rec-5 c =
+    let at-start = c .before .before .before in
+    let w = rw (c .before .outcome4 .given .1) at (at-start .pre) in omega arith
 
 enum-known-outcome-5 : tie.Need-enum-known-outcome-5
 enum-known-outcome-5 c = search needs
 
 mul-rec-6 : tie.Need-mul-rec-6
-mul-rec-6 c = let w = rw (c .before .outcome5 .given .1) at (c .before .before .before .pre) in omega arith
+mul-rec-6 c =
+    let at-start = c .before .before .before in
+    let w = rw (c .before .outcome5 .given .1) at (at-start .pre) in omega arith
 
 slice-write-rec-6 : tie.Need-slice-write-rec-6
-slice-write-rec-6 c = let w = rw (c .before .outcome5 .given .1) at (c .before .before .before .pre) in omega arith
+slice-write-rec-6 c =
+    let at-start = c .before .before .before in
+    let w = rw (c .before .outcome5 .given .1) at (at-start .pre) in omega arith
 
 enum-told-2 : tie.Need-enum-told-2
 enum-told-2 c = search needs

@@ -8,7 +8,9 @@ enum-known-outcome : tie.Need-enum-known-outcome
 enum-known-outcome c = search needs
 
 cast-t13 : tie.Need-cast-t13
-cast-t13 c = let w = rw (c .before .outcome .given .1) at (c .before .before .before .before .before .pre .0) in omega arith
+cast-t13 c =
+    let at-start = c .before .before .before .before .before in
+    let w = rw (c .before .outcome .given .1) at (at-start .pre .0) in omega arith
 
 enum-told : tie.Need-enum-told
 enum-told c = search needs
@@ -17,37 +19,48 @@ enum-known-outcome-2 : tie.Need-enum-known-outcome-2
 enum-known-outcome-2 c = search needs
 
 cast-t14 : tie.Need-cast-t14
-cast-t14 c = let w = rw (c .before .outcome2 .given .1) at (c .before .before .before .before .before .pre .0) in omega arith
+cast-t14 c =
+    let at-start = c .before .before .before .before .before in
+    let w = rw (c .before .outcome2 .given .1) at (at-start .pre .0) in omega arith
 
 enum-known-outcome-3 : tie.Need-enum-known-outcome-3
 enum-known-outcome-3 c = search needs
 
 cast-t15 : tie.Need-cast-t15
-cast-t15 c = let w = rw (c .before .outcome3 .given .1) at (c .before .before .before .before .before .pre .0) in omega (arith, w .0)
+cast-t15 c =
+    let at-start = c .before .before .before .before .before in
+    let w = rw (c .before .outcome3 .given .1) at (at-start .pre .0) in omega (arith, w .0)
 
 other-requires : tie.Need-other-requires
 other-requires c κs =
-    let l = rw (c .before .outcome3 .given .1) at (c .before .before .before .before .before .pre .1) in
-    let h = rw (c .before .outcome3 .given .1) at (c .before .before .before .before .before .pre .2) in
+    let at-start = c .before .before .before .before .before in
+    let l = rw (c .before .outcome3 .given .1) at (at-start .pre .1) in
+    let h = rw (c .before .outcome3 .given .1) at (at-start .pre .2) in
     (l .1, h .1)
 
 enum-known-outcome-4 : tie.Need-enum-known-outcome-4
 enum-known-outcome-4 c = search needs
 
 cast-t17 : tie.Need-cast-t17
-cast-t17 c = let w = rw (c .before .outcome4 .given .1) at (c .before .before .before .before .before .pre .0) in omega arith
+cast-t17 c =
+    let at-start = c .before .before .before .before .before in
+    let w = rw (c .before .outcome4 .given .1) at (at-start .pre .0) in omega arith
 
 enum-known-outcome-5 : tie.Need-enum-known-outcome-5
 enum-known-outcome-5 c = search needs
 
 cast-t18 : tie.Need-cast-t18
-cast-t18 c = let w = rw (c .before .outcome5 .given .1) at (c .before .before .before .before .before .pre .0) in omega arith
+cast-t18 c =
+    let at-start = c .before .before .before .before .before in
+    let w = rw (c .before .outcome5 .given .1) at (at-start .pre .0) in omega arith
 
 enum-known-outcome-6 : tie.Need-enum-known-outcome-6
 enum-known-outcome-6 c = search needs
 
 cast-t19 : tie.Need-cast-t19
-cast-t19 c = let w = rw (c .before .outcome6 .given .1) at (c .before .before .before .before .before .pre .0) in omega arith
+cast-t19 c =
+    let at-start = c .before .before .before .before .before in
+    let w = rw (c .before .outcome6 .given .1) at (at-start .pre .0) in omega arith
 
 returns : tie.Need-returns
 returns c = rw (c .before .outcome .given .1)

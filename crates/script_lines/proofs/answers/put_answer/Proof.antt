@@ -11,7 +11,8 @@ enum-known-answer c = search needs
 
 put-entry-requires : tie.Need-put-entry-requires
 put-entry-requires c κs =
-    let w = rw (c .before .before .answer .given .1) at (c .before .before .before .before .before .pre) in
+    let at-start = c .before .before .before .before .before in
+    let w = rw (c .before .before .answer .given .1) at (at-start .pre) in
     let n = length-entry (c .before .before .answer .given .0 .0) in
     omega arith
 
@@ -23,7 +24,8 @@ enum-known-answer-2 c = search needs
 
 put-refusal-requires : tie.Need-put-refusal-requires
 put-refusal-requires c κs =
-    let w = rw (c .before .before .answer2 .given .1) at (c .before .before .before .before .before .pre) in
+    let at-start = c .before .before .before .before .before in
+    let w = rw (c .before .before .answer2 .given .1) at (at-start .pre) in
     omega arith
 
 add-result-2 : tie.Need-add-result-2
@@ -34,14 +36,17 @@ same-length c = search needs
 
 returns : tie.Need-returns
 returns c =
-    let n = length-entry (c .before .before .before .before .before .answer .given .0 .0) in
-    rw (c .before .before .before .before .before .answer .given .1) (c .before .before .put-entry .ensures, omega arith)
+    let at-answer = c .before .before .before .before .before in
+    let n = length-entry (at-answer .answer .given .0 .0) in
+    rw (at-answer .answer .given .1) (c .before .before .put-entry .ensures, omega arith)
 
 same-length-2 : tie.Need-same-length-2
 same-length-2 c = search needs
 
 returns-2 : tie.Need-returns-2
-returns-2 c = rw (c .before .before .before .before .before .answer2 .given .1) (c .before .before .put-refusal .ensures, refl)
+returns-2 c =
+    let at-answer2 = c .before .before .before .before .before in
+    rw (at-answer2 .answer2 .given .1) (c .before .before .put-refusal .ensures, refl)
 
 pub put-answer-spec : {M : Type 1} → statement M
 put-answer-spec =

@@ -23,7 +23,9 @@ slice-write-out : tie.Need-slice-write-out
 slice-write-out c = search needs
 
 same-length : tie.Need-same-length
-same-length c = simp length-set (omega (arith, c .before .before .put-number2 .kept .0, c .before .before .before .before .before .before .put-number .kept .0))
+same-length c =
+    let at-put-number = c .before .before .before .before .before .before in
+    simp length-set (omega (arith, c .before .before .put-number2 .kept .0, at-put-number .put-number .kept .0))
 
 returns : tie.Need-returns
 returns c =

@@ -19,7 +19,9 @@ same-length : tie.Need-same-length
 same-length c = search needs
 
 returns-2 : tie.Need-returns-2
-returns-2 c = rw (ne-eqb _ _ (c .before .before .before .before .if1 .left)) (c .before .before .put-refusal .ensures, refl)
+returns-2 c =
+    let at-if1 = c .before .before .before .before in
+    rw (ne-eqb _ _ (at-if1 .if1 .left)) (c .before .before .put-refusal .ensures, refl)
 
 pub put-unclosed-spec : {M : Type 1} → statement M
 put-unclosed-spec =

@@ -33,10 +33,11 @@ loop-less c = search needs
 
 loop-again : tie.Need-loop-again Inv-loop μ-loop
 loop-again c =
+    let at-start = c .before .before .before in
     let l = c .before .before .loop in
-    let a = c .before .before .before .args in
+    let a = at-start .args in
     let z : 0 + l .i ≡ l .i = omega arith in
-    (search needs, rw z at (sets-next (a .to .now) (l .to) (a .from .now) 0 (l .i) (omega (arith, c .before .before .before .pre .1, c .before .loop-test .taken)) (l .inv .1)), simp length-set (l .inv .2))
+    (search needs, rw z at (sets-next (a .to .now) (l .to) (a .from .now) 0 (l .i) (omega (arith, at-start .pre .1, c .before .loop-test .taken)) (l .inv .1)), simp length-set (l .inv .2))
 
 same-length : tie.Need-same-length Inv-loop μ-loop
 same-length c = c .before .loop .inv .2

@@ -40,10 +40,11 @@ shared-slice-read-if1-2 c = search needs
 
 returns : tie.Need-returns Inv-loop μ-loop
 returns c =
+    let at-loop-test = c .before .before .before in
     let l = c .before .before .before .before in
     let a = c .before .before .before .before .before .args in
     let e : fault (a .counts .now) (a .needs .now) (l .loop .v) ≡ 7 = rw (lt-ltb _ _ (c .if1 .taken)) in
-    sym (first-some (fault (a .counts .now) (a .needs .now)) (a .probes) (l .loop .v) (l .loop .inv .1) (c .before .before .before .loop-test .taken) (λ z. omega arith) ∙ e)
+    sym (first-some (fault (a .counts .now) (a .needs .now)) (a .probes) (l .loop .v) (l .loop .inv .1) (at-loop-test .loop-test .taken) (λ z. omega arith) ∙ e)
 
 add-v : tie.Need-add-v Inv-loop μ-loop
 add-v c = search needs

@@ -28,13 +28,16 @@ ends-fault-requires c κs = search needs
 
 returns : tie.Need-returns
 returns c =
+    let at-wide = c .before .before .before .before in
     let a = c .before .before .before .before .before .before .before .before .args in
-    link-not-ends (a .probes) (item (a .lows .now)) (item (a .highs .now)) (a .i) _ _ _ (c .before .before .before .before .wide .ensures) (c .before .before .wide2 .ensures) (c .before .ends-fault .ensures) (c .if1 .taken)
+    link-not-ends (a .probes) (item (a .lows .now)) (item (a .highs .now)) (a .i) _ _ _ (at-wide .wide .ensures) (c .before .before .wide2 .ensures) (c .before .ends-fault .ensures) (c .if1 .taken)
 
 returns-2 : tie.Need-returns-2
 returns-2 c =
+    let at-wide2 = c .before .before .before in
+    let at-wide = at-wide2 .before .before in
     let a = c .before .before .before .before .before .before .before .before .before .args in
-    link-alone (a .probes) (item (a .lows .now)) (item (a .highs .now)) (a .i) _ _ _ (c .before .before .before .before .before .wide .ensures) (c .before .before .before .wide2 .ensures) (c .before .before .ends-fault .ensures) (c .before .if1 .left) (c .if2 .taken)
+    link-alone (a .probes) (item (a .lows .now)) (item (a .highs .now)) (a .i) _ _ _ (at-wide .wide .ensures) (at-wide2 .wide2 .ensures) (c .before .before .ends-fault .ensures) (c .before .if1 .left) (c .if2 .taken)
 
 sub-wide : tie.Need-sub-wide
 sub-wide c = search needs
@@ -65,8 +68,14 @@ order-fault-requires c κs = search needs
 
 returns-3 : tie.Need-returns-3
 returns-3 c =
+    let at-wide3 = c .before .before .before in
+    let at-if2 = at-wide3 .before .before in
+    let at-if1 = at-if2 .before in
+    let at-ends-fault = at-if1 .before in
+    let at-wide2 = at-ends-fault .before in
+    let at-wide = at-wide2 .before .before in
     let a = c .before .before .before .before .before .before .before .before .before .before .before .before .before .before .args in
-    link-after (a .probes) (item (a .lows .now)) (item (a .highs .now)) (a .i) _ _ _ (c .before .before .before .before .before .before .before .before .before .before .wide .ensures) (c .before .before .before .before .before .before .before .before .wide2 .ensures) (c .before .before .before .before .before .before .before .ends-fault .ensures) (c .before .before .before .before .before .before .if1 .left) (c .before .before .before .before .before .if2 .left) _ _ _ (c .before .before .before .wide3 .ensures) (c .before .wide4 .ensures) (c .order-fault .ensures)
+    link-after (a .probes) (item (a .lows .now)) (item (a .highs .now)) (a .i) _ _ _ (at-wide .wide .ensures) (at-wide2 .wide2 .ensures) (at-ends-fault .ends-fault .ensures) (at-if1 .if1 .left) (at-if2 .if2 .left) _ _ _ (at-wide3 .wide3 .ensures) (c .before .wide4 .ensures) (c .order-fault .ensures)
 
 pub link-fault-spec : {M : Type 1} → statement M
 link-fault-spec =

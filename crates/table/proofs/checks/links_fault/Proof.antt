@@ -46,7 +46,8 @@ loop-again c =
 
 returns-2 : tie.Need-returns-2 Inv-loop μ-loop
 returns-2 c =
-    let e : c .before .loop .i ≡ c .before .before .before .before .args .links = omega arith in
+    let at-start = c .before .before .before .before in
+    let e : c .before .loop .i ≡ at-start .args .links = omega arith in
     rw (← e) (sym (c .before .loop .inv .1))
 
 pub links-fault-spec : {M : Type 1} → statement M

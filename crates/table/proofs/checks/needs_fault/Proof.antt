@@ -28,9 +28,10 @@ above-fault-requires c κs = search needs
 
 returns : tie.Need-returns
 returns c =
+    let at-count-degrees = c .before .before .before in
     let a = c .before .before .before .before .before .before .before .before .args in
     let t = ofSlices 0 (a .probes) (a .links) (a .needs .now) (a .lows .now) (a .highs .now) [] in
-    let d = c .before .before .before .count-degrees in
+    let d = at-count-degrees .count-degrees in
     c .above-fault .ensures ∙ first-same _ (needFault t) (a .probes) (λ v l. ap (λ (k : ℕ). aboveFault k (item (a .needs .now) v)) (d .ensures v))
 
 pub needs-fault-spec : {M : Type 1} → statement M

@@ -22,7 +22,9 @@ abbrev μ-loop : tie.MeasureT-loop
 
 loop-holds : tie.Need-loop-holds Inv-loop μ-loop
 unfolding sum
-loop-holds c = (search needs, c .before .before .before .pre .4, refl)
+loop-holds c =
+    let at-start = c .before .before .before in
+    (search needs, at-start .pre .4, refl)
 
 mul-wide : tie.Need-mul-wide Inv-loop μ-loop
 mul-wide c = search needs
@@ -44,25 +46,33 @@ wide-requires-2 c κs = search needs
 
 add-one-requires : tie.Need-add-one-requires Inv-loop μ-loop
 add-one-requires c κs =
+    let at-wide = c .before .before .before in
+    let at-loop-test = at-wide .before .before in
+    let at-start = at-loop-test .before .before .before .before .before in
     let l = c .before .before .before .before .before .before in
-    let a = c .before .before .before .before .before .before .before .before .before .before .args in
-    let g = c .before .before .before .before .before .before .before .before .before .before .pre .3 (l .loop .i) (c .before .before .before .before .before .loop-test .taken) in
-    let e = c .before .before .before .wide .ensures in
-    let n = count-le (l .loop .i) (touches (ofSlices 0 0 0 [] (a .lows .now) (a .highs .now) []) (c .before .before .before .wide .result)) in
-    let k = l .loop .inv .1 (c .before .before .before .wide .result) in
+    let a = at-start .args in
+    let g = at-start .pre .3 (l .loop .i) (at-loop-test .loop-test .taken) in
+    let e = at-wide .wide .ensures in
+    let n = count-le (l .loop .i) (touches (ofSlices 0 0 0 [] (a .lows .now) (a .highs .now) []) (at-wide .wide .result)) in
+    let k = l .loop .inv .1 (at-wide .wide .result) in
     (omega arith, omega arith)
 
 add-one-requires-2 : tie.Need-add-one-requires-2 Inv-loop μ-loop
 add-one-requires-2 c κs =
+    let at-add-one = c .before .before .before in
+    let at-wide2 = at-add-one .before .before in
+    let at-wide = at-wide2 .before .before in
+    let at-loop-test = at-wide .before .before in
+    let at-start = at-loop-test .before .before .before .before .before in
     let l = c .before .before .before .before .before .before .before .before .before .before in
-    let a = c .before .before .before .before .before .before .before .before .before .before .before .before .before .before .args in
-    let g = c .before .before .before .before .before .before .before .before .before .before .before .before .before .before .pre .3 (l .loop .i) (c .before .before .before .before .before .before .before .before .before .loop-test .taken) in
-    let e = c .before .before .before .before .before .before .before .wide .ensures in
-    let f = c .before .before .before .before .before .wide2 .ensures in
-    let n = count-le (l .loop .i) (touches (ofSlices 0 0 0 [] (a .lows .now) (a .highs .now) []) (c .before .before .before .before .before .wide2 .result)) in
-    let k = l .loop .inv .1 (c .before .before .before .before .before .wide2 .result) in
-    let o = ap (λ x. getD x (c .before .before .before .before .before .wide2 .result) 0) (c .before .before .before .add-one .ensures) ∙ getD-set-other (l .loop .counts) (c .before .before .before .before .before .before .before .wide .result) (c .before .before .before .before .before .wide2 .result) _ 0 (λ z. omega arith) in
-    let s = simp length-set at (ap length (c .before .before .before .add-one .ensures)) in
+    let a = at-start .args in
+    let g = at-start .pre .3 (l .loop .i) (at-loop-test .loop-test .taken) in
+    let e = at-wide .wide .ensures in
+    let f = at-wide2 .wide2 .ensures in
+    let n = count-le (l .loop .i) (touches (ofSlices 0 0 0 [] (a .lows .now) (a .highs .now) []) (at-wide2 .wide2 .result)) in
+    let k = l .loop .inv .1 (at-wide2 .wide2 .result) in
+    let o = ap (λ x. getD x (at-wide2 .wide2 .result) 0) (at-add-one .add-one .ensures) ∙ getD-set-other (l .loop .counts) (at-wide .wide .result) (at-wide2 .wide2 .result) _ 0 (λ z. omega arith) in
+    let s = simp length-set at (ap length (at-add-one .add-one .ensures)) in
     (omega arith, omega arith)
 
 add-i : tie.Need-add-i Inv-loop μ-loop
@@ -73,21 +83,27 @@ loop-less c = search needs
 
 loop-again : tie.Need-loop-again Inv-loop μ-loop
 loop-again c =
+    let at-add-one = c .before .before .before .before .before .before in
+    let at-wide2 = at-add-one .before .before in
+    let at-wide = at-wide2 .before .before in
+    let at-loop-test = at-wide .before .before in
+    let at-start = at-loop-test .before .before .before .before .before in
     let l = c .before .before .before .before .before .before .before .before .before .before .before .before .before in
-    let a = c .before .before .before .before .before .before .before .before .before .before .before .before .before .before .before .before .before .args in
-    let g = c .before .before .before .before .before .before .before .before .before .before .before .before .before .before .before .before .before .pre .3 (l .loop .i) (c .before .before .before .before .before .before .before .before .before .before .before .before .loop-test .taken) in
-    let one = c .before .before .before .before .before .before .add-one .ensures in
+    let a = at-start .args in
+    let g = at-start .pre .3 (l .loop .i) (at-loop-test .loop-test .taken) in
+    let one = at-add-one .add-one .ensures in
     let two = c .before .before .add-one2 .ensures in
     let s = simp length-set at (ap length one) in
     let t = simp length-set at (ap length two) in
-    (search needs, λ v. counted-next (item (a .lows .now)) (item (a .highs .now)) (l .loop .i) _ _ (l .loop .counts) _ _ (c .before .before .before .before .before .before .before .before .before .before .wide .ensures) (c .before .before .before .before .before .before .before .before .wide2 .ensures) (omega arith) (omega arith) (g .rises) one two v (l .loop .inv .1 v), omega arith)
+    (search needs, λ v. counted-next (item (a .lows .now)) (item (a .highs .now)) (l .loop .i) _ _ (l .loop .counts) _ _ (at-wide .wide .ensures) (at-wide2 .wide2 .ensures) (omega arith) (omega arith) (g .rises) one two v (l .loop .inv .1 v), omega arith)
 
 same-length : tie.Need-same-length Inv-loop μ-loop
 same-length c = c .before .loop .inv .2
 
 returns : tie.Need-returns Inv-loop μ-loop
 returns c =
-    let e : c .before .loop .i ≡ c .before .before .before .before .before .args .links = omega arith in
+    let at-start = c .before .before .before .before .before in
+    let e : c .before .loop .i ≡ at-start .args .links = omega arith in
     λ v. rw (← e) (c .before .loop .inv .1 v)
 
 pub count-degrees-spec : {M : Type 1} → statement M

@@ -35,15 +35,17 @@ shared-slice-read-if2-2 c = search needs
 
 returns-2 : tie.Need-returns-2
 returns-2 c =
+    let at-if1 = c .before .before .before in
     let a = c .before .before .before .before .before .before .args in
     let l = c .if2 .taken in
-    rw (le-ltb _ _ (c .before .before .before .if1 .left), ne-eqb (getD (a .costs .now) (a .i) 0) (getD (a .costs .now) (a .j) 0) (λ e. omega arith))
+    rw (le-ltb _ _ (at-if1 .if1 .left), ne-eqb (getD (a .costs .now) (a .i) 0) (getD (a .costs .now) (a .j) 0) (λ e. omega arith))
 
 returns-3 : tie.Need-returns-3
 returns-3 c =
+    let at-if1 = c .before .before .before in
     let a = c .before .before .before .before .before .before .args in
     let l = c .if2 .left in
-    let m = c .before .before .before .if1 .left in
+    let m = at-if1 .if1 .left in
     rw (le-ltb _ _ m, eq-eqb (getD (a .costs .now) (a .i) 0) (getD (a .costs .now) (a .j) 0) (omega arith))
 
 pub dearer-spec : {M : Type 1} → statement M

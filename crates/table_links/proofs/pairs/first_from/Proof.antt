@@ -38,26 +38,31 @@ loop-less c = let t = c .before .before .loop-test .taken in omega arith
 
 loop-again : tie.Need-loop-again Inv-loop μ-loop
 loop-again c =
-    let a = c .before .before .before .before .before .before .args in
-    let l = c .before .before .before .loop in
+    let at-loop = c .before .before .before in
+    let at-start = at-loop .before .before .before in
+    let a = at-start .args in
+    let l = at-loop .loop in
     let t = c .before .before .loop-test .taken in
-    split-up (a .links) (a .lows .now) (a .highs .now) (c .before .before .before .before .before .before .pre) (a .low) (a .high) (l .start) (l .end) (l .inv) (l .start + (l .end - l .start) / 2) (omega arith) (sym (c .before .is-earlier .ensures) ∙ c .if1 .taken)
+    split-up (a .links) (a .lows .now) (a .highs .now) (at-start .pre) (a .low) (a .high) (l .start) (l .end) (l .inv) (l .start + (l .end - l .start) / 2) (omega arith) (sym (c .before .is-earlier .ensures) ∙ c .if1 .taken)
 
 loop-less-2 : tie.Need-loop-less-2 Inv-loop μ-loop
 loop-less-2 c = let t = c .before .before .loop-test .taken in omega arith
 
 loop-again-2 : tie.Need-loop-again-2 Inv-loop μ-loop
 loop-again-2 c =
-    let a = c .before .before .before .before .before .before .args in
-    let l = c .before .before .before .loop in
+    let at-loop = c .before .before .before in
+    let at-start = at-loop .before .before .before in
+    let a = at-start .args in
+    let l = at-loop .loop in
     let t = c .before .before .loop-test .taken in
-    split-down (a .links) (a .lows .now) (a .highs .now) (c .before .before .before .before .before .before .pre) (a .low) (a .high) (l .start) (l .end) (l .inv) (l .start + (l .end - l .start) / 2) (omega arith) (omega arith) (sym (c .before .is-earlier .ensures) ∙ c .if1 .left)
+    split-down (a .links) (a .lows .now) (a .highs .now) (at-start .pre) (a .low) (a .high) (l .start) (l .end) (l .inv) (l .start + (l .end - l .start) / 2) (omega arith) (omega arith) (sym (c .before .is-earlier .ensures) ∙ c .if1 .left)
 
 returns : tie.Need-returns Inv-loop μ-loop
 returns c =
-    let a = c .before .before .before .before .args in
+    let at-start = c .before .before .before .before in
+    let a = at-start .args in
     let l = c .before .loop in
-    split-end (a .links) (a .lows .now) (a .highs .now) (c .before .before .before .before .pre) (a .low) (a .high) (l .start) (l .end) (l .inv) (c .loop-test .left)
+    split-end (a .links) (a .lows .now) (a .highs .now) (at-start .pre) (a .low) (a .high) (l .start) (l .end) (l .inv) (c .loop-test .left)
 
 pub first-from-spec : {M : Type 1} → statement M
 first-from-spec =

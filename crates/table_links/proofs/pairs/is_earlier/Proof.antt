@@ -19,7 +19,9 @@ returns : tie.Need-returns
 returns c = rw (← c .before .wide .ensures, lt-ltb _ _ (c .if1 .taken))
 
 returns-2 : tie.Need-returns-2
-returns-2 c = rw (← c .before .before .wide .ensures, le-ltb _ _ (c .before .if1 .left), ne-eqb (c .before .before .wide .result) (c .before .before .before .before .before .before .args .low) (λ q. let k = c .if2 .taken in omega arith))
+returns-2 c =
+    let at-start = c .before .before .before .before .before .before in
+    rw (← c .before .before .wide .ensures, le-ltb _ _ (c .before .if1 .left), ne-eqb (c .before .before .wide .result) (at-start .args .low) (λ q. let k = c .if2 .taken in omega arith))
 
 mul-wide-2 : tie.Need-mul-wide-2
 mul-wide-2 c = search needs
@@ -32,8 +34,11 @@ wide-requires-2 c κs = search needs
 
 returns-3 : tie.Need-returns-3
 returns-3 c =
-    let same : c .before .before .before .before .wide .result ≡ c .before .before .before .before .before .before .before .before .args .low = let k = c .before .before .if2 .left in let j = c .before .before .before .if1 .left in omega arith in
-    rw (← c .before .before .before .before .wide .ensures, le-ltb _ _ (c .before .before .before .if1 .left), eq-eqb _ _ same, ← c .wide2 .ensures)
+    let at-if1 = c .before .before .before in
+    let at-wide = at-if1 .before in
+    let at-start = at-wide .before .before .before .before in
+    let same : at-wide .wide .result ≡ at-start .args .low = let k = c .before .before .if2 .left in let j = at-if1 .if1 .left in omega arith in
+    rw (← at-wide .wide .ensures, le-ltb _ _ (at-if1 .if1 .left), eq-eqb _ _ same, ← c .wide2 .ensures)
 
 pub is-earlier-spec : {M : Type 1} → statement M
 is-earlier-spec =

@@ -26,13 +26,18 @@ are-ends-requires : tie.Need-are-ends-requires
 are-ends-requires c κs = search needs
 
 returns : tie.Need-returns
-returns c = rw (← c .before .before .before .before .wide .ensures, ← c .before .before .wide2 .ensures, sym (c .before .are-ends .ensures) ∙ c .if1 .taken)
+returns c =
+    let at-wide = c .before .before .before .before in
+    rw (← at-wide .wide .ensures, ← c .before .before .wide2 .ensures, sym (c .before .are-ends .ensures) ∙ c .if1 .taken)
 
 are-ends-requires-2 : tie.Need-are-ends-requires-2
 are-ends-requires-2 c κs = search needs
 
 returns-2 : tie.Need-returns-2
-returns-2 c = rw (← c .before .before .before .before .before .wide .ensures, ← c .before .before .before .wide2 .ensures, sym (c .before .before .are-ends .ensures) ∙ c .before .if1 .left) (c .are-ends2 .ensures)
+returns-2 c =
+    let at-wide2 = c .before .before .before in
+    let at-wide = at-wide2 .before .before in
+    rw (← at-wide .wide .ensures, ← at-wide2 .wide2 .ensures, sym (c .before .before .are-ends .ensures) ∙ c .before .if1 .left) (c .are-ends2 .ensures)
 
 pub joins-spec : {M : Type 1} → statement M
 joins-spec =

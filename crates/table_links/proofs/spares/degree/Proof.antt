@@ -37,7 +37,8 @@ loop-less c = search needs
 
 loop-again : tie.Need-loop-again Inv-loop μ-loop
 loop-again c =
-    let l = c .before .before .before .loop in
+    let at-loop = c .before .before .before in
+    let l = at-loop .loop in
     let a = c .before .before .before .before .before .before .args in
     (search needs, l .inv .1 ∙ sym (count-miss (own (a .lows .now) (a .highs .now) (a .probe)) (l .i) (sym (c .before .touches .ensures) ∙ not-true _ (c .if1 .taken))), search needs)
 
@@ -49,14 +50,16 @@ loop-less-2 c = search needs
 
 loop-again-2 : tie.Need-loop-again-2 Inv-loop μ-loop
 loop-again-2 c =
-    let l = c .before .before .before .loop in
+    let at-loop = c .before .before .before in
+    let l = at-loop .loop in
     let a = c .before .before .before .before .before .before .args in
     (search needs, (let h = count-hit (own (a .lows .now) (a .highs .now) (a .probe)) (l .i) (sym (c .before .touches .ensures) ∙ not-false _ (c .if1 .left)) in let e = l .inv .1 in omega arith), search needs)
 
 returns : tie.Need-returns Inv-loop μ-loop
 returns c =
+    let at-start = c .before .before .before .before in
     let l = c .before .loop in
-    let e : l .i ≡ c .before .before .before .before .args .links = omega arith in
+    let e : l .i ≡ at-start .args .links = omega arith in
     (rw (← e) (l .inv .1), search needs)
 
 pub degree-spec : {M : Type 1} → statement M

@@ -17,56 +17,65 @@ number-requires-2 c κs =
 
 number-requires-3 : tie.Need-number-requires-3
 number-requires-3 c κs =
-    let w = text-head 256 2048 true (c .before .before .before .args .text .now) (c .before .before .before .pre) .line .within in
+    let at-start = c .before .before .before in
+    let w = text-head 256 2048 true (at-start .args .text .now) (at-start .pre) .line .within in
     (omega arith, omega arith)
 
 cast-t5 : tie.Need-cast-t5
 cast-t5 c =
-    let s = c .before .before .before .before .args .text .now in
-    let f = head-field 256 2048 s 0 (text-head 256 2048 true s (c .before .before .before .before .pre)) (omega arith) .fits in
+    let at-start = c .before .before .before .before in
+    let s = at-start .args .text .now in
+    let f = head-field 256 2048 s 0 (text-head 256 2048 true s (at-start .pre)) (omega arith) .fits in
     let e = c .before .before .number .ensures in
     omega arith
 
 cast-t6 : tie.Need-cast-t6
 cast-t6 c =
-    let z = text-head 256 2048 true (c .before .before .before .before .args .text .now) (c .before .before .before .before .pre) .size in
+    let at-start = c .before .before .before .before in
+    let z = text-head 256 2048 true (at-start .args .text .now) (at-start .pre) .size in
     let e = c .before .number2 .ensures in
     omega arith
 
 cast-t7 : tie.Need-cast-t7
 cast-t7 c =
-    let z = text-head 256 2048 true (c .before .before .before .before .args .text .now) (c .before .before .before .before .pre) .size in
+    let at-start = c .before .before .before .before in
+    let z = text-head 256 2048 true (at-start .args .text .now) (at-start .pre) .size in
     let e = c .number3 .ensures in
     omega arith
 
 mul-t8 : tie.Need-mul-t8
 mul-t8 c =
-    let z = text-head 256 2048 true (c .before .before .before .before .args .text .now) (c .before .before .before .before .pre) .size in
+    let at-start = c .before .before .before .before in
+    let z = text-head 256 2048 true (at-start .args .text .now) (at-start .pre) .size in
     let e = c .before .number2 .ensures in
     omega arith
 
 add-t9 : tie.Need-add-t9
 add-t9 c =
-    let z = text-head 256 2048 true (c .before .before .before .before .args .text .now) (c .before .before .before .before .pre) .size in
+    let at-start = c .before .before .before .before in
+    let z = text-head 256 2048 true (at-start .args .text .now) (at-start .pre) .size in
     let e = c .before .number2 .ensures in
     omega arith
 
 mul-t10 : tie.Need-mul-t10
 mul-t10 c =
-    let z = text-head 256 2048 true (c .before .before .before .before .args .text .now) (c .before .before .before .before .pre) .size in
+    let at-start = c .before .before .before .before in
+    let z = text-head 256 2048 true (at-start .args .text .now) (at-start .pre) .size in
     let e = c .number3 .ensures in
     omega arith
 
 add-t11 : tie.Need-add-t11
 add-t11 c =
-    let z = text-head 256 2048 true (c .before .before .before .before .args .text .now) (c .before .before .before .before .pre) .size in
+    let at-start = c .before .before .before .before in
+    let z = text-head 256 2048 true (at-start .args .text .now) (at-start .pre) .size in
     let e = c .before .number2 .ensures in
     let f = c .number3 .ensures in
     omega arith
 
 add-t12 : tie.Need-add-t12
 add-t12 c =
-    let z = text-head 256 2048 true (c .before .before .before .before .args .text .now) (c .before .before .before .before .pre) .size in
+    let at-start = c .before .before .before .before in
+    let z = text-head 256 2048 true (at-start .args .text .now) (at-start .pre) .size in
     let e = c .before .number2 .ensures in
     let f = c .number3 .ensures in
     omega arith

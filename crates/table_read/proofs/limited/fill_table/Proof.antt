@@ -14,93 +14,117 @@ use Rattle.table_text.proofs.Good.{text-head, fields, fields-stored}
 
 number-requires : tie.Need-number-requires
 number-requires c κs =
-    let w = text-head 256 2048 true (c .before .before .before .before .before .args .text .now) (c .before .before .before .before .before .pre .0) .line .within in
+    let at-start = c .before .before .before .before .before in
+    let w = text-head 256 2048 true (at-start .args .text .now) (at-start .pre .0) .line .within in
     (omega arith, omega arith)
 
 number-requires-2 : tie.Need-number-requires-2
 number-requires-2 c κs =
-    let w = text-head 256 2048 true (c .before .before .before .before .before .before .args .text .now) (c .before .before .before .before .before .before .pre .0) .line .within in
+    let at-start = c .before .before .before .before .before .before in
+    let w = text-head 256 2048 true (at-start .args .text .now) (at-start .pre .0) .line .within in
     (omega arith, omega arith)
 
 fill-requires : tie.Need-fill-requires
 fill-requires c κs =
-    let a = c .before .before .before .before .before .before .before .before .args in
+    let at-start = c .before .before .before .before .before .before .before .before in
+    let a = at-start .args in
     let s = a .text .now in
     let p = c .before .before .number .ensures in
     let m = c .before .number2 .ensures in
-    let z = text-head 256 2048 true s (c .before .before .before .before .before .before .before .before .pre .0) .size in
-    let room = room-good (ofText s .probes) (ofText s .links) (length (a .needs .now)) (length (a .lows .now)) (length (a .highs .now)) (length (a .costs .now)) (c .before .before .before .before .before .before .before .before .pre .1) in
-    let g = text-good 256 2048 true s (c .before .before .before .before .before .before .before .before .pre .0) in
+    let z = text-head 256 2048 true s (at-start .pre .0) .size in
+    let room = room-good (ofText s .probes) (ofText s .links) (length (a .needs .now)) (length (a .lows .now)) (length (a .highs .now)) (length (a .costs .now)) (at-start .pre .1) in
+    let g = text-good 256 2048 true s (at-start .pre .0) in
     (omega arith, fields s 13 5 (c .before .before .number .result) 4 0 needStart (λ v l. g .need v (omega arith)) (omega arith) (λ i. omega arith))
 
 mul-fill : tie.Need-mul-fill
 mul-fill c =
-    let p = c .before .before .before .before .before .number .ensures in
-    let z = text-head 256 2048 true (c .before .before .before .before .before .before .before .before .before .before .before .args .text .now) (c .before .before .before .before .before .before .before .before .before .before .before .pre .0) .size in
+    let at-number = c .before .before .before .before .before in
+    let at-start = at-number .before .before .before .before .before .before in
+    let p = at-number .number .ensures in
+    let z = text-head 256 2048 true (at-start .args .text .now) (at-start .pre .0) .size in
     omega arith
 
 add-fill : tie.Need-add-fill
 add-fill c =
-    let p = c .before .before .before .before .before .number .ensures in
-    let z = text-head 256 2048 true (c .before .before .before .before .before .before .before .before .before .before .before .args .text .now) (c .before .before .before .before .before .before .before .before .before .before .before .pre .0) .size in
+    let at-number = c .before .before .before .before .before in
+    let at-start = at-number .before .before .before .before .before .before in
+    let p = at-number .number .ensures in
+    let z = text-head 256 2048 true (at-start .args .text .now) (at-start .pre .0) .size in
     omega arith
 
 fill-requires-2 : tie.Need-fill-requires-2
 fill-requires-2 c κs =
-    let a = c .before .before .before .before .before .before .before .before .before .before .before .before .args in
+    let at-number2 = c .before .before .before .before .before in
+    let at-number = at-number2 .before in
+    let at-start = at-number .before .before .before .before .before .before in
+    let a = at-start .args in
     let s = a .text .now in
-    let p = c .before .before .before .before .before .before .number .ensures in
-    let m = c .before .before .before .before .before .number2 .ensures in
-    let z = text-head 256 2048 true s (c .before .before .before .before .before .before .before .before .before .before .before .before .pre .0) .size in
-    let room = room-good (ofText s .probes) (ofText s .links) (length (a .needs .now)) (length (a .lows .now)) (length (a .highs .now)) (length (a .costs .now)) (c .before .before .before .before .before .before .before .before .before .before .before .before .pre .1) in
-    let g = text-good 256 2048 true s (c .before .before .before .before .before .before .before .before .before .before .before .before .pre .0) in
-    (omega arith, fields s (13 + 5 * c .before .before .before .before .before .before .number .result) 13 (c .before .before .before .before .before .number2 .result) 12 0 (linkStart (ofText s .probes)) (λ i l. g .link i (omega arith)) (omega arith) (λ i. omega arith))
+    let p = at-number .number .ensures in
+    let m = at-number2 .number2 .ensures in
+    let z = text-head 256 2048 true s (at-start .pre .0) .size in
+    let room = room-good (ofText s .probes) (ofText s .links) (length (a .needs .now)) (length (a .lows .now)) (length (a .highs .now)) (length (a .costs .now)) (at-start .pre .1) in
+    let g = text-good 256 2048 true s (at-start .pre .0) in
+    (omega arith, fields s (13 + 5 * at-number .number .result) 13 (at-number2 .number2 .result) 12 0 (linkStart (ofText s .probes)) (λ i l. g .link i (omega arith)) (omega arith) (λ i. omega arith))
 
 mul-fill-2 : tie.Need-mul-fill-2
 mul-fill-2 c =
-    let p = c .before .before .before .before .before .before .before .before .before .number .ensures in
-    let z = text-head 256 2048 true (c .before .before .before .before .before .before .before .before .before .before .before .before .before .before .before .args .text .now) (c .before .before .before .before .before .before .before .before .before .before .before .before .before .before .before .pre .0) .size in
+    let at-number = c .before .before .before .before .before .before .before .before .before in
+    let at-start = at-number .before .before .before .before .before .before in
+    let p = at-number .number .ensures in
+    let z = text-head 256 2048 true (at-start .args .text .now) (at-start .pre .0) .size in
     omega arith
 
 add-fill-2 : tie.Need-add-fill-2
 add-fill-2 c =
-    let p = c .before .before .before .before .before .before .before .before .before .number .ensures in
-    let z = text-head 256 2048 true (c .before .before .before .before .before .before .before .before .before .before .before .before .before .before .before .args .text .now) (c .before .before .before .before .before .before .before .before .before .before .before .before .before .before .before .pre .0) .size in
+    let at-number = c .before .before .before .before .before .before .before .before .before in
+    let at-start = at-number .before .before .before .before .before .before in
+    let p = at-number .number .ensures in
+    let z = text-head 256 2048 true (at-start .args .text .now) (at-start .pre .0) .size in
     omega arith
 
 fill-requires-3 : tie.Need-fill-requires-3
 fill-requires-3 c κs =
-    let a = c .before .before .before .before .before .before .before .before .before .before .before .before .before .before .before .before .args in
+    let at-number2 = c .before .before .before .before .before .before .before .before .before in
+    let at-number = at-number2 .before in
+    let at-start = at-number .before .before .before .before .before .before in
+    let a = at-start .args in
     let s = a .text .now in
-    let p = c .before .before .before .before .before .before .before .before .before .before .number .ensures in
-    let m = c .before .before .before .before .before .before .before .before .before .number2 .ensures in
-    let z = text-head 256 2048 true s (c .before .before .before .before .before .before .before .before .before .before .before .before .before .before .before .before .pre .0) .size in
-    let room = room-good (ofText s .probes) (ofText s .links) (length (a .needs .now)) (length (a .lows .now)) (length (a .highs .now)) (length (a .costs .now)) (c .before .before .before .before .before .before .before .before .before .before .before .before .before .before .before .before .pre .1) in
-    let g = text-good 256 2048 true s (c .before .before .before .before .before .before .before .before .before .before .before .before .before .before .before .before .pre .0) in
-    (omega arith, fields s (17 + 5 * c .before .before .before .before .before .before .before .before .before .before .number .result) 13 (c .before .before .before .before .before .before .before .before .before .number2 .result) 12 4 (linkStart (ofText s .probes)) (λ i l. g .link i (omega arith)) (omega arith) (λ i. omega arith))
+    let p = at-number .number .ensures in
+    let m = at-number2 .number2 .ensures in
+    let z = text-head 256 2048 true s (at-start .pre .0) .size in
+    let room = room-good (ofText s .probes) (ofText s .links) (length (a .needs .now)) (length (a .lows .now)) (length (a .highs .now)) (length (a .costs .now)) (at-start .pre .1) in
+    let g = text-good 256 2048 true s (at-start .pre .0) in
+    (omega arith, fields s (17 + 5 * at-number .number .result) 13 (at-number2 .number2 .result) 12 4 (linkStart (ofText s .probes)) (λ i l. g .link i (omega arith)) (omega arith) (λ i. omega arith))
 
 mul-fill-3 : tie.Need-mul-fill-3
 mul-fill-3 c =
-    let p = c .before .before .before .before .before .before .before .before .before .before .before .before .before .number .ensures in
-    let z = text-head 256 2048 true (c .before .before .before .before .before .before .before .before .before .before .before .before .before .before .before .before .before .before .before .args .text .now) (c .before .before .before .before .before .before .before .before .before .before .before .before .before .before .before .before .before .before .before .pre .0) .size in
+    let at-number = c .before .before .before .before .before .before .before .before .before .before .before .before .before in
+    let at-start = at-number .before .before .before .before .before .before in
+    let p = at-number .number .ensures in
+    let z = text-head 256 2048 true (at-start .args .text .now) (at-start .pre .0) .size in
     omega arith
 
 add-fill-3 : tie.Need-add-fill-3
 add-fill-3 c =
-    let p = c .before .before .before .before .before .before .before .before .before .before .before .before .before .number .ensures in
-    let z = text-head 256 2048 true (c .before .before .before .before .before .before .before .before .before .before .before .before .before .before .before .before .before .before .before .args .text .now) (c .before .before .before .before .before .before .before .before .before .before .before .before .before .before .before .before .before .before .before .pre .0) .size in
+    let at-number = c .before .before .before .before .before .before .before .before .before .before .before .before .before in
+    let at-start = at-number .before .before .before .before .before .before in
+    let p = at-number .number .ensures in
+    let z = text-head 256 2048 true (at-start .args .text .now) (at-start .pre .0) .size in
     omega arith
 
 fill-requires-4 : tie.Need-fill-requires-4
 fill-requires-4 c κs =
-    let a = c .before .before .before .before .before .before .before .before .before .before .before .before .before .before .before .before .before .before .before .before .args in
+    let at-number2 = c .before .before .before .before .before .before .before .before .before .before .before .before .before in
+    let at-number = at-number2 .before in
+    let at-start = at-number .before .before .before .before .before .before in
+    let a = at-start .args in
     let s = a .text .now in
-    let p = c .before .before .before .before .before .before .before .before .before .before .before .before .before .before .number .ensures in
-    let m = c .before .before .before .before .before .before .before .before .before .before .before .before .before .number2 .ensures in
-    let z = text-head 256 2048 true s (c .before .before .before .before .before .before .before .before .before .before .before .before .before .before .before .before .before .before .before .before .pre .0) .size in
-    let room = room-good (ofText s .probes) (ofText s .links) (length (a .needs .now)) (length (a .lows .now)) (length (a .highs .now)) (length (a .costs .now)) (c .before .before .before .before .before .before .before .before .before .before .before .before .before .before .before .before .before .before .before .before .pre .1) in
-    let g = text-good 256 2048 true s (c .before .before .before .before .before .before .before .before .before .before .before .before .before .before .before .before .before .before .before .before .pre .0) in
-    (omega arith, fields s (21 + 5 * c .before .before .before .before .before .before .before .before .before .before .before .before .before .before .number .result) 13 (c .before .before .before .before .before .before .before .before .before .before .before .before .before .number2 .result) 12 8 (linkStart (ofText s .probes)) (λ i l. g .link i (omega arith)) (omega arith) (λ i. omega arith))
+    let p = at-number .number .ensures in
+    let m = at-number2 .number2 .ensures in
+    let z = text-head 256 2048 true s (at-start .pre .0) .size in
+    let room = room-good (ofText s .probes) (ofText s .links) (length (a .needs .now)) (length (a .lows .now)) (length (a .highs .now)) (length (a .costs .now)) (at-start .pre .1) in
+    let g = text-good 256 2048 true s (at-start .pre .0) in
+    (omega arith, fields s (21 + 5 * at-number .number .result) 13 (at-number2 .number2 .result) 12 8 (linkStart (ofText s .probes)) (λ i l. g .link i (omega arith)) (omega arith) (λ i. omega arith))
 
 same-length : tie.Need-same-length
 same-length c = search needs
@@ -116,15 +140,20 @@ same-length-4 c = search needs
 
 returns : tie.Need-returns
 returns c =
+    let at-fill3 = c .before .before .before .before .before .before in
+    let at-fill2 = at-fill3 .before .before .before .before in
+    let at-fill = at-fill2 .before .before .before .before in
+    let at-number2 = at-fill .before .before in
+    let at-number = at-number2 .before in
     let a = c .before .before .before .before .before .before .before .before .before .before .before .before .before .before .before .before .before .before .before .before .before .before .before .args in
     let s = a .text .now in
-    let p = c .before .before .before .before .before .before .before .before .before .before .before .before .before .before .before .before .before .number .ensures in
-    let m = c .before .before .before .before .before .before .before .before .before .before .before .before .before .before .before .before .number2 .ensures in
+    let p = at-number .number .ensures in
+    let m = at-number2 .number2 .ensures in
     record {
-      need = fields-stored s 13 5 _ (ofText s .probes) needStart (a .needs .now) _ (c .before .before .before .before .before .before .before .before .before .before .before .before .before .before .fill .ensures) p (λ i. refl);
-      low = fields-stored s (13 + 5 * c .before .before .before .before .before .before .before .before .before .before .before .before .before .before .before .before .before .number .result) 13 _ (ofText s .links) (linkStart (ofText s .probes)) (a .lows .now) _ (c .before .before .before .before .before .before .before .before .before .before .fill2 .ensures) m (λ i. omega arith);
-      high = fields-stored s (17 + 5 * c .before .before .before .before .before .before .before .before .before .before .before .before .before .before .before .before .before .number .result) 13 _ (ofText s .links) (λ i. linkStart (ofText s .probes) i + 4) (a .highs .now) _ (c .before .before .before .before .before .before .fill3 .ensures) m (λ i. omega arith);
-      cost = fields-stored s (21 + 5 * c .before .before .before .before .before .before .before .before .before .before .before .before .before .before .before .before .before .number .result) 13 _ (ofText s .links) (λ i. linkStart (ofText s .probes) i + 8) (a .costs .now) _ (c .before .before .fill4 .ensures) m (λ i. omega arith);
+      need = fields-stored s 13 5 _ (ofText s .probes) needStart (a .needs .now) _ (at-fill .fill .ensures) p (λ i. refl);
+      low = fields-stored s (13 + 5 * at-number .number .result) 13 _ (ofText s .links) (linkStart (ofText s .probes)) (a .lows .now) _ (at-fill2 .fill2 .ensures) m (λ i. omega arith);
+      high = fields-stored s (17 + 5 * at-number .number .result) 13 _ (ofText s .links) (λ i. linkStart (ofText s .probes) i + 4) (a .highs .now) _ (at-fill3 .fill3 .ensures) m (λ i. omega arith);
+      cost = fields-stored s (21 + 5 * at-number .number .result) 13 _ (ofText s .links) (λ i. linkStart (ofText s .probes) i + 8) (a .costs .now) _ (c .before .before .fill4 .ensures) m (λ i. omega arith);
     }
 
 pub fill-table-spec : {M : Type 1} → statement M

@@ -32,7 +32,10 @@ room-fault-requires c κs = search needs
 
 returns-2 : tie.Need-returns-2
 unfolding readFault
-returns-2 c = or-next _ _ _ _ (c .before .before .before .before .text-fault .ensures) (c .before .before .before .if1 .left) (c .room-fault .ensures ∙ rw (c .before .before .number .ensures, c .before .number2 .ensures))
+returns-2 c =
+    let at-if1 = c .before .before .before in
+    let at-text-fault = at-if1 .before in
+    or-next _ _ _ _ (at-text-fault .text-fault .ensures) (at-if1 .if1 .left) (c .room-fault .ensures ∙ rw (c .before .before .number .ensures, c .before .number2 .ensures))
 
 pub read-fault-spec : {M : Type 1} → statement M
 read-fault-spec =

@@ -19,15 +19,19 @@ returns c =
 
 answer-requires : tie.Need-answer-requires
 answer-requires c κs =
-    let a = c .before .before .before .before .before .before .before .args in
+    let at-start = c .before .before .before .before .before .before .before in
+    let a = at-start .args in
     let e = sym (c .before .read-fault .ensures) ∙ c .if1 .left in
-    text-wider (a .pmax) (a .lmax) 256 2048 (a .more) (a .text .now) (c .before .before .before .before .before .before .before .pre .0) (c .before .before .before .before .before .before .before .pre .1) (read-text (a .pmax) (a .lmax) (a .more) (a .text .now) (length (a .needs .now)) (length (a .lows .now)) (length (a .highs .now)) (length (a .costs .now)) e)
+    text-wider (a .pmax) (a .lmax) 256 2048 (a .more) (a .text .now) (at-start .pre .0) (at-start .pre .1) (read-text (a .pmax) (a .lmax) (a .more) (a .text .now) (length (a .needs .now)) (length (a .lows .now)) (length (a .highs .now)) (length (a .costs .now)) e)
 
 fill-table-requires : tie.Need-fill-table-requires
 fill-table-requires c κs =
-    let a = c .before .before .before .before .before .before .before .before .before .before .before .before .args in
-    let e = sym (c .before .before .before .before .before .before .read-fault .ensures) ∙ c .before .before .before .before .before .if1 .left in (
-      text-wider (a .pmax) (a .lmax) 256 2048 (a .more) (a .text .now) (c .before .before .before .before .before .before .before .before .before .before .before .before .pre .0) (c .before .before .before .before .before .before .before .before .before .before .before .before .pre .1) (read-text (a .pmax) (a .lmax) (a .more) (a .text .now) (length (a .needs .now)) (length (a .lows .now)) (length (a .highs .now)) (length (a .costs .now)) e),
+    let at-if1 = c .before .before .before .before .before in
+    let at-read-fault = at-if1 .before in
+    let at-start = at-read-fault .before .before .before .before .before .before in
+    let a = at-start .args in
+    let e = sym (at-read-fault .read-fault .ensures) ∙ at-if1 .if1 .left in (
+      text-wider (a .pmax) (a .lmax) 256 2048 (a .more) (a .text .now) (at-start .pre .0) (at-start .pre .1) (read-text (a .pmax) (a .lmax) (a .more) (a .text .now) (length (a .needs .now)) (length (a .lows .now)) (length (a .highs .now)) (length (a .costs .now)) e),
       read-room (a .pmax) (a .lmax) (a .more) (a .text .now) (length (a .needs .now)) (length (a .lows .now)) (length (a .highs .now)) (length (a .costs .now)) e,
     )
 
@@ -45,9 +49,13 @@ same-length-4 c = search needs
 
 returns-2 : tie.Need-returns-2
 returns-2 c =
+    let at-fill-table = c .before .before .before .before .before .before .before .before in
+    let at-answer = at-fill-table .before .before .before .before .before in
+    let at-if1 = at-answer .before in
+    let at-read-fault = at-if1 .before in
     let a = c .before .before .before .before .before .before .before .before .before .before .before .before .before .before .before .before .before .before .before .before .before .args in
-    let e = sym (c .before .before .before .before .before .before .before .before .before .before .before .before .before .before .before .read-fault .ensures) ∙ c .before .before .before .before .before .before .before .before .before .before .before .before .before .before .if1 .left in
-    reads-table _ (ofText (a .text .now)) _ (lentOf (a .needs .now) (a .lows .now) (a .highs .now) (a .costs .now)) _ e (c .before .before .before .before .before .before .before .before .before .before .before .before .before .answer .ensures) (c .before .before .before .before .before .before .before .before .fill-table .ensures)
+    let e = sym (at-read-fault .read-fault .ensures) ∙ at-if1 .if1 .left in
+    reads-table _ (ofText (a .text .now)) _ (lentOf (a .needs .now) (a .lows .now) (a .highs .now) (a .costs .now)) _ e (at-answer .answer .ensures) (at-fill-table .fill-table .ensures)
 
 pub read-limited-spec : {M : Type 1} → statement M
 read-limited-spec =

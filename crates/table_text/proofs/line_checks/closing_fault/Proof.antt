@@ -27,13 +27,17 @@ sub-if3 c = search needs
 
 returns-3 : tie.Need-returns-3
 returns-3 c =
-    let a = c .before .before .before .before .before .before .args in
-    closing-followed (a .more) (a .text .now) (a .at) (sym (c .before .before .before .stands-at .ensures) ∙ not-false _ (c .before .before .if1 .left)) (c .before .if2 .left) (c .before .before .before .before .before .before .pre) (c .if3 .taken)
+    let at-stands-at = c .before .before .before in
+    let at-start = at-stands-at .before .before .before in
+    let a = at-start .args in
+    closing-followed (a .more) (a .text .now) (a .at) (sym (at-stands-at .stands-at .ensures) ∙ not-false _ (c .before .before .if1 .left)) (c .before .if2 .left) (at-start .pre) (c .if3 .taken)
 
 returns-4 : tie.Need-returns-4
 returns-4 c =
-    let a = c .before .before .before .before .before .before .args in
-    closing-last (a .more) (a .text .now) (a .at) (sym (c .before .before .before .stands-at .ensures) ∙ not-false _ (c .before .before .if1 .left)) (c .before .if2 .left) (c .before .before .before .before .before .before .pre) (c .if3 .left)
+    let at-stands-at = c .before .before .before in
+    let at-start = at-stands-at .before .before .before in
+    let a = at-start .args in
+    closing-last (a .more) (a .text .now) (a .at) (sym (at-stands-at .stands-at .ensures) ∙ not-false _ (c .before .before .if1 .left)) (c .before .if2 .left) (at-start .pre) (c .if3 .left)
 
 pub closing-fault-spec : {M : Type 1} → statement M
 closing-fault-spec =

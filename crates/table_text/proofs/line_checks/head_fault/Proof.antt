@@ -15,13 +15,15 @@ returns c = or-here _ _ _ (c .before .line-fault .ensures) (c .if1 .taken)
 
 number-requires : tie.Need-number-requires
 number-requires c κs =
-    let g = line-good (c .before .before .before .args .text .now) 0 12 (sym (c .before .line-fault .ensures) ∙ c .if1 .left) in
+    let at-start = c .before .before .before in
+    let g = line-good (at-start .args .text .now) 0 12 (sym (c .before .line-fault .ensures) ∙ c .if1 .left) in
     let w = g .within in
     (omega arith, omega arith)
 
 number-requires-2 : tie.Need-number-requires-2
 number-requires-2 c κs =
-    let g = line-good (c .before .before .before .before .args .text .now) 0 12 (sym (c .before .before .line-fault .ensures) ∙ c .before .if1 .left) in
+    let at-start = c .before .before .before .before in
+    let g = line-good (at-start .args .text .now) 0 12 (sym (c .before .before .line-fault .ensures) ∙ c .before .if1 .left) in
     let w = g .within in
     (omega arith, omega arith)
 
@@ -30,8 +32,10 @@ size-fault-requires c κs = search needs
 
 returns-2 : tie.Need-returns-2
 returns-2 c =
+    let at-if1 = c .before .before .before in
+    let at-line-fault = at-if1 .before in
     let a = c .before .before .before .before .before .before .args in
-    or-next _ _ _ _ (c .before .before .before .before .line-fault .ensures) (c .before .before .before .if1 .left) (c .size-fault .ensures ∙ rw (c .before .before .number .ensures, c .before .number2 .ensures))
+    or-next _ _ _ _ (at-line-fault .line-fault .ensures) (at-if1 .if1 .left) (c .size-fault .ensures ∙ rw (c .before .before .number .ensures, c .before .number2 .ensures))
 
 pub head-fault-spec : {M : Type 1} → statement M
 head-fault-spec =

@@ -26,8 +26,9 @@ line-fault-requires c κs = search needs
 
 returns : tie.Need-returns
 returns c =
-    let a = c .before .before .before .args in
-    link-line-refused (a .text .now) (a .probes) (a .i) _ (c .before .before .before .pre .0) (c .before .line-fault .ensures) (c .if1 .taken)
+    let at-start = c .before .before .before in
+    let a = at-start .args in
+    link-line-refused (a .text .now) (a .probes) (a .i) _ (at-start .pre .0) (c .before .line-fault .ensures) (c .if1 .taken)
 
 number-requires : tie.Need-number-requires
 number-requires c κs =
@@ -49,29 +50,40 @@ ends-fault-requires c κs = search needs
 
 returns-2 : tie.Need-returns-2
 returns-2 c =
-    let a = c .before .before .before .before .before .before .before .args in
+    let at-number = c .before .before .before in
+    let at-if1 = at-number .before in
+    let at-line-fault = at-if1 .before in
+    let at-start = at-line-fault .before .before in
+    let a = at-start .args in
     let s = a .text .now in
-    let p = c .before .before .before .before .before .before .before .pre .0 in
-    let e = c .before .before .before .before .before .line-fault .ensures in
-    link-line-then s (a .probes) (a .i) _ p e (c .before .before .before .before .if1 .left) _
-    (link-not-ends (a .probes) (ofText s .low) (ofText s .high) (a .i) _ _ _ (low-is s (a .probes) (a .i) _ p e _ (c .before .before .before .number .ensures)) (high-is s (a .probes) (a .i) _ p e _ (c .before .before .number2 .ensures)) (c .before .ends-fault .ensures) (c .if2 .taken))
+    let p = at-start .pre .0 in
+    let e = at-line-fault .line-fault .ensures in
+    link-line-then s (a .probes) (a .i) _ p e (at-if1 .if1 .left) _
+    (link-not-ends (a .probes) (ofText s .low) (ofText s .high) (a .i) _ _ _ (low-is s (a .probes) (a .i) _ p e _ (at-number .number .ensures)) (high-is s (a .probes) (a .i) _ p e _ (c .before .before .number2 .ensures)) (c .before .ends-fault .ensures) (c .if2 .taken))
 
 returns-3 : tie.Need-returns-3
 returns-3 c =
-    let a = c .before .before .before .before .before .before .before .before .args in
+    let at-number2 = c .before .before .before in
+    let at-number = at-number2 .before in
+    let at-if1 = at-number .before in
+    let at-line-fault = at-if1 .before in
+    let at-start = at-line-fault .before .before in
+    let a = at-start .args in
     let s = a .text .now in
-    let p = c .before .before .before .before .before .before .before .before .pre .0 in
-    let e = c .before .before .before .before .before .before .line-fault .ensures in
-    link-line-then s (a .probes) (a .i) _ p e (c .before .before .before .before .before .if1 .left) _
-    (link-alone (a .probes) (ofText s .low) (ofText s .high) (a .i) _ _ _ (low-is s (a .probes) (a .i) _ p e _ (c .before .before .before .before .number .ensures)) (high-is s (a .probes) (a .i) _ p e _ (c .before .before .before .number2 .ensures)) (c .before .before .ends-fault .ensures) (c .before .if2 .left) (c .if3 .taken))
+    let p = at-start .pre .0 in
+    let e = at-line-fault .line-fault .ensures in
+    link-line-then s (a .probes) (a .i) _ p e (at-if1 .if1 .left) _
+    (link-alone (a .probes) (ofText s .low) (ofText s .high) (a .i) _ _ _ (low-is s (a .probes) (a .i) _ p e _ (at-number .number .ensures)) (high-is s (a .probes) (a .i) _ p e _ (at-number2 .number2 .ensures)) (c .before .before .ends-fault .ensures) (c .before .if2 .left) (c .if3 .taken))
 
 sub-number : tie.Need-sub-number
 sub-number c = search needs
 
 number-requires-3 : tie.Need-number-requires-3
 number-requires-3 c κs =
+    let at-if1 = c .before .before .before .before .before in
+    let at-line-fault = at-if1 .before in
     let a = c .before .before .before .before .before .before .before .before .args in
-    let w = line-good (a .text .now) (linkStart (a .probes) (a .i)) 12 (sym (c .before .before .before .before .before .before .line-fault .ensures) ∙ c .before .before .before .before .before .if1 .left) .within in
+    let w = line-good (a .text .now) (linkStart (a .probes) (a .i)) 12 (sym (at-line-fault .line-fault .ensures) ∙ at-if1 .if1 .left) .within in
     (omega arith, omega arith)
 
 sub-number-2 : tie.Need-sub-number-2
@@ -79,8 +91,10 @@ sub-number-2 c = search needs
 
 number-requires-4 : tie.Need-number-requires-4
 number-requires-4 c κs =
+    let at-if1 = c .before .before .before .before .before .before in
+    let at-line-fault = at-if1 .before in
     let a = c .before .before .before .before .before .before .before .before .before .args in
-    let w = line-good (a .text .now) (linkStart (a .probes) (a .i)) 12 (sym (c .before .before .before .before .before .before .before .line-fault .ensures) ∙ c .before .before .before .before .before .before .if1 .left) .within in
+    let w = line-good (a .text .now) (linkStart (a .probes) (a .i)) 12 (sym (at-line-fault .line-fault .ensures) ∙ at-if1 .if1 .left) .within in
     (omega arith, omega arith)
 
 order-fault-requires : tie.Need-order-fault-requires
@@ -88,13 +102,21 @@ order-fault-requires c κs = search needs
 
 returns-4 : tie.Need-returns-4
 returns-4 c =
-    let a = c .before .before .before .before .before .before .before .before .before .before .before .args in
+    let at-if3 = c .before .before .before in
+    let at-if2 = at-if3 .before in
+    let at-ends-fault = at-if2 .before in
+    let at-number2 = at-ends-fault .before in
+    let at-number = at-number2 .before in
+    let at-if1 = at-number .before in
+    let at-line-fault = at-if1 .before in
+    let at-start = at-line-fault .before .before in
+    let a = at-start .args in
     let s = a .text .now in
-    let p = c .before .before .before .before .before .before .before .before .before .before .before .pre .0 in
-    let e = c .before .before .before .before .before .before .before .before .before .line-fault .ensures in
-    let some = c .before .before .before .if3 .left in
-    link-line-then s (a .probes) (a .i) _ p e (c .before .before .before .before .before .before .before .before .if1 .left) _
-    (link-after (a .probes) (ofText s .low) (ofText s .high) (a .i) _ _ _ (low-is s (a .probes) (a .i) _ p e _ (c .before .before .before .before .before .before .before .number .ensures)) (high-is s (a .probes) (a .i) _ p e _ (c .before .before .before .before .before .before .number2 .ensures)) (c .before .before .before .before .before .ends-fault .ensures) (c .before .before .before .before .if2 .left) some _ _ _ (low-before s (a .probes) (a .i) _ p e some _ (c .before .before .number3 .ensures)) (high-before s (a .probes) (a .i) _ p e some _ (c .before .number4 .ensures)) (c .order-fault .ensures))
+    let p = at-start .pre .0 in
+    let e = at-line-fault .line-fault .ensures in
+    let some = at-if3 .if3 .left in
+    link-line-then s (a .probes) (a .i) _ p e (at-if1 .if1 .left) _
+    (link-after (a .probes) (ofText s .low) (ofText s .high) (a .i) _ _ _ (low-is s (a .probes) (a .i) _ p e _ (at-number .number .ensures)) (high-is s (a .probes) (a .i) _ p e _ (at-number2 .number2 .ensures)) (at-ends-fault .ends-fault .ensures) (at-if2 .if2 .left) some _ _ _ (low-before s (a .probes) (a .i) _ p e some _ (c .before .before .number3 .ensures)) (high-before s (a .probes) (a .i) _ p e some _ (c .before .number4 .ensures)) (c .order-fault .ensures))
 
 pub link-line-fault-spec : {M : Type 1} → statement M
 link-line-fault-spec =

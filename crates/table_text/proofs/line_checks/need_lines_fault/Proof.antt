@@ -51,7 +51,8 @@ loop-again c =
 
 returns-2 : tie.Need-returns-2 Inv-loop μ-loop
 returns-2 c =
-    let e : c .before .loop .v ≡ c .before .before .before .args .probes = omega arith in
+    let at-start = c .before .before .before in
+    let e : c .before .loop .v ≡ at-start .args .probes = omega arith in
     rw (← e) (sym (c .before .loop .inv .1))
 
 pub need-lines-fault-spec : {M : Type 1} → statement M

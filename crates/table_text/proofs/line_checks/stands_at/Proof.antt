@@ -39,9 +39,11 @@ shared-slice-read-if2-2 c = search needs
 
 returns-2 : tie.Need-returns-2 Inv-loop μ-loop
 returns-2 c =
+    let at-if1 = c .before .before .before in
+    let at-loop-test = at-if1 .before in
     let l = c .before .before .before .before .before in
     let a = c .before .before .before .before .before .before .args in
-    sym (l .loop .inv .1 ∙ begins-other (a .text .now) (a .what .now) (a .at) (l .loop .k) (c .before .before .before .before .loop-test .taken) (c .before .before .before .if1 .left) (c .if2 .taken))
+    sym (l .loop .inv .1 ∙ begins-other (a .text .now) (a .what .now) (a .at) (l .loop .k) (at-loop-test .loop-test .taken) (at-if1 .if1 .left) (c .if2 .taken))
 
 add-k : tie.Need-add-k Inv-loop μ-loop
 add-k c = search needs
@@ -51,9 +53,11 @@ loop-less c = search needs
 
 loop-again : tie.Need-loop-again Inv-loop μ-loop
 loop-again c =
+    let at-if1 = c .before .before .before in
+    let at-loop-test = at-if1 .before in
     let l = c .before .before .before .before .before in
     let a = c .before .before .before .before .before .before .args in
-    (search needs, l .loop .inv .1 ∙ begins-next (a .text .now) (a .what .now) (a .at) (l .loop .k) (c .before .before .before .before .loop-test .taken) (c .before .before .before .if1 .left) (c .if2 .left), search needs)
+    (search needs, l .loop .inv .1 ∙ begins-next (a .text .now) (a .what .now) (a .at) (l .loop .k) (at-loop-test .loop-test .taken) (at-if1 .if1 .left) (c .if2 .left), search needs)
 
 returns-3 : tie.Need-returns-3 Inv-loop μ-loop
 returns-3 c =

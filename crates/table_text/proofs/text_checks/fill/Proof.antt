@@ -23,22 +23,26 @@ loop-holds c = (search needs, refl, refl)
 
 mul-number : tie.Need-mul-number Inv-loop μ-loop
 mul-number c =
-    let g = c .before .before .before .before .pre .1 (c .before .loop .i) (c .loop-test .taken) in
+    let at-start = c .before .before .before .before in
+    let g = at-start .pre .1 (c .before .loop .i) (c .loop-test .taken) in
     omega arith
 
 add-number : tie.Need-add-number Inv-loop μ-loop
 add-number c =
-    let g = c .before .before .before .before .pre .1 (c .before .loop .i) (c .loop-test .taken) in
+    let at-start = c .before .before .before .before in
+    let g = at-start .pre .1 (c .before .loop .i) (c .loop-test .taken) in
     omega arith
 
 number-requires : tie.Need-number-requires Inv-loop μ-loop
 number-requires c κs =
-    let g = c .before .before .before .before .pre .1 (c .before .loop .i) (c .loop-test .taken) in
+    let at-start = c .before .before .before .before in
+    let g = at-start .pre .1 (c .before .loop .i) (c .loop-test .taken) in
     (g .0, omega arith)
 
 cast-out : tie.Need-cast-out Inv-loop μ-loop
 cast-out c =
-    let g = c .before .before .before .before .before .pre .1 (c .before .before .loop .i) (c .before .loop-test .taken) in
+    let at-start = c .before .before .before .before .before in
+    let g = at-start .pre .1 (c .before .before .loop .i) (c .before .loop-test .taken) in
     let e = c .number .ensures in
     omega arith
 
@@ -65,7 +69,8 @@ same-length c = c .before .loop .inv .2
 
 returns : tie.Need-returns Inv-loop μ-loop
 returns c =
-    let e : c .before .loop .i ≡ c .before .before .before .before .args .n = omega arith in
+    let at-start = c .before .before .before .before in
+    let e : c .before .loop .i ≡ at-start .args .n = omega arith in
     rw (← e) (c .before .loop .inv .1)
 
 pub fill-spec : {M : Type 1} → statement M

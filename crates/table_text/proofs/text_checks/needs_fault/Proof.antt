@@ -30,9 +30,10 @@ slice-aggregate-fill-2 c = search needs
 
 fill-requires-2 : tie.Need-fill-requires-2
 fill-requires-2 c κs =
-    let a = c .before .before .before .before .before .args in
-    let e = c .before .before .before .before .before .pre .0 in
-    (search needs, fields (a .text .now) (13 + 5 * a .probes) 13 (a .links) 12 0 (linkStart (ofText (a .text .now) .probes)) (link-lines (a .text .now) (a .links) (c .before .before .before .before .before .pre .5)) (omega arith) (λ i. omega arith))
+    let at-start = c .before .before .before .before .before in
+    let a = at-start .args in
+    let e = at-start .pre .0 in
+    (search needs, fields (a .text .now) (13 + 5 * a .probes) 13 (a .links) 12 0 (linkStart (ofText (a .text .now) .probes)) (link-lines (a .text .now) (a .links) (at-start .pre .5)) (omega arith) (λ i. omega arith))
 
 mul-fill-2 : tie.Need-mul-fill-2
 mul-fill-2 c = search needs
@@ -45,9 +46,10 @@ slice-aggregate-fill-3 c = search needs
 
 fill-requires-3 : tie.Need-fill-requires-3
 fill-requires-3 c κs =
-    let a = c .before .before .before .before .before .before .before .before .args in
-    let e = c .before .before .before .before .before .before .before .before .pre .0 in
-    (search needs, fields (a .text .now) (17 + 5 * a .probes) 13 (a .links) 12 4 (linkStart (ofText (a .text .now) .probes)) (link-lines (a .text .now) (a .links) (c .before .before .before .before .before .before .before .before .pre .5)) (omega arith) (λ i. omega arith))
+    let at-start = c .before .before .before .before .before .before .before .before in
+    let a = at-start .args in
+    let e = at-start .pre .0 in
+    (search needs, fields (a .text .now) (17 + 5 * a .probes) 13 (a .links) 12 4 (linkStart (ofText (a .text .now) .probes)) (link-lines (a .text .now) (a .links) (at-start .pre .5)) (omega arith) (λ i. omega arith))
 
 slice-aggregate-needs-fault : tie.Need-slice-aggregate-needs-fault
 slice-aggregate-needs-fault c = search needs
@@ -60,37 +62,45 @@ slice-aggregate-needs-fault-3 c = search needs
 
 needs-fault-requires : tie.Need-needs-fault-requires
 needs-fault-requires c κs =
-    let a = c .before .before .before .before .before .before .before .before .before .before .before .before .before .args in
+    let at-fill3 = c .before .before .before .before in
+    let at-fill2 = at-fill3 .before .before .before in
+    let at-fill = at-fill2 .before .before .before in
+    let at-start = at-fill .before .before .before in
+    let a = at-start .args in
     let s = a .text .now in
-    let p = c .before .before .before .before .before .before .before .before .before .before .before .before .before .pre .0 in
-    let e1 = c .before .before .before .before .before .before .before .before .before .before .fill .ensures in
-    let e2 = c .before .before .before .before .before .before .before .fill2 .ensures in
-    let e3 = c .before .before .before .before .fill3 .ensures in
-    let l1 : length (c .before .before .before .before .before .before .before .before .before .before .fill .last .1 .1 .1 .1 .0) ≡ 256 = same-length _ (a .probes) (replicate 256 0) _ e1 in
-    let l2 : length (c .before .before .before .before .before .before .before .fill2 .last .1 .1 .1 .1 .0) ≡ 2048 = same-length _ (a .links) (replicate 2048 0) _ e2 in
-    let l3 : length (c .before .before .before .before .fill3 .last .1 .1 .1 .1 .0) ≡ 2048 = same-length _ (a .links) (replicate 2048 0) _ e3 in (
+    let p = at-start .pre .0 in
+    let e1 = at-fill .fill .ensures in
+    let e2 = at-fill2 .fill2 .ensures in
+    let e3 = at-fill3 .fill3 .ensures in
+    let l1 : length (at-fill .fill .last .1 .1 .1 .1 .0) ≡ 256 = same-length _ (a .probes) (replicate 256 0) _ e1 in
+    let l2 : length (at-fill2 .fill2 .last .1 .1 .1 .1 .0) ≡ 2048 = same-length _ (a .links) (replicate 2048 0) _ e2 in
+    let l3 : length (at-fill3 .fill3 .last .1 .1 .1 .1 .0) ≡ 2048 = same-length _ (a .links) (replicate 2048 0) _ e3 in (
       search needs,
       omega arith,
       search needs,
       omega arith,
       omega arith,
-      local-links s (a .probes) (a .links) (c .before .before .before .before .before .before .before .before .before .before .fill .last .1 .1 .1 .1 .0) (c .before .before .before .before .before .before .before .fill2 .last .1 .1 .1 .1 .0) (c .before .before .before .before .fill3 .last .1 .1 .1 .1 .0) p (c .before .before .before .before .before .before .before .before .before .before .before .before .before .pre .1)
+      local-links s (a .probes) (a .links) (at-fill .fill .last .1 .1 .1 .1 .0) (at-fill2 .fill2 .last .1 .1 .1 .1 .0) (at-fill3 .fill3 .last .1 .1 .1 .1 .0) p (at-start .pre .1)
           (field-at s 13 5 (a .probes) needStart (replicate 256 0) _ e1 (search needs) (λ i. refl))
           (field-at s (13 + 5 * a .probes) 13 (a .links) (linkStart (ofText s .probes)) (replicate 2048 0) _ e2 (search needs) (λ i. omega arith))
           (field-at s (17 + 5 * a .probes) 13 (a .links) (λ i. linkStart (ofText s .probes) i + 4) (replicate 2048 0) _ e3 (search needs) (λ i. omega arith))
-          (links-good s (a .links) (c .before .before .before .before .before .before .before .before .before .before .before .before .before .pre .5)),
+          (links-good s (a .links) (at-start .pre .5)),
     )
 
 returns : tie.Need-returns
 returns c =
-    let a = c .before .before .before .before .before .before .before .before .before .before .before .before .before .before .args in
+    let at-fill3 = c .before .before .before .before .before in
+    let at-fill2 = at-fill3 .before .before .before in
+    let at-fill = at-fill2 .before .before .before in
+    let at-start = at-fill .before .before .before in
+    let a = at-start .args in
     let s = a .text .now in
-    let p = c .before .before .before .before .before .before .before .before .before .before .before .before .before .before .pre .0 in
-    let e1 = c .before .before .before .before .before .before .before .before .before .before .before .fill .ensures in
-    let e2 = c .before .before .before .before .before .before .before .before .fill2 .ensures in
-    let e3 = c .before .before .before .before .before .fill3 .ensures in
+    let p = at-start .pre .0 in
+    let e1 = at-fill .fill .ensures in
+    let e2 = at-fill2 .fill2 .ensures in
+    let e3 = at-fill3 .fill3 .ensures in
     c .needs-fault .ensures
-    ∙ local-needs s (a .probes) (a .links) (c .before .before .before .before .before .before .before .before .before .before .before .fill .last .1 .1 .1 .1 .0) (c .before .before .before .before .before .before .before .before .fill2 .last .1 .1 .1 .1 .0) (c .before .before .before .before .before .fill3 .last .1 .1 .1 .1 .0) p (c .before .before .before .before .before .before .before .before .before .before .before .before .before .before .pre .1)
+    ∙ local-needs s (a .probes) (a .links) (at-fill .fill .last .1 .1 .1 .1 .0) (at-fill2 .fill2 .last .1 .1 .1 .1 .0) (at-fill3 .fill3 .last .1 .1 .1 .1 .0) p (at-start .pre .1)
     (field-at s 13 5 (a .probes) needStart (replicate 256 0) _ e1 (search needs) (λ i. refl))
     (field-at s (13 + 5 * a .probes) 13 (a .links) (linkStart (ofText s .probes)) (replicate 2048 0) _ e2 (search needs) (λ i. omega arith))
     (field-at s (17 + 5 * a .probes) 13 (a .links) (λ i. linkStart (ofText s .probes) i + 4) (replicate 2048 0) _ e3 (search needs) (λ i. omega arith))

@@ -31,8 +31,9 @@ number-requires-2 c κs =
 
 body-fault-requires : tie.Need-body-fault-requires
 body-fault-requires c κs =
+    let at-head-fault = c .before .before .before in
     let a = c .before .before .before .before .before .args in
-    let g = head-good (a .pmax) (a .lmax) (a .text .now) (sym (c .before .before .before .head-fault .ensures) ∙ c .before .before .if1 .left) in
+    let g = head-good (a .pmax) (a .lmax) (a .text .now) (sym (at-head-fault .head-fault .ensures) ∙ c .before .before .if1 .left) in
     let w = g .line .within in
     let z = g .size in
     let p = c .before .number .ensures in
@@ -41,7 +42,10 @@ body-fault-requires c κs =
 
 returns-2 : tie.Need-returns-2
 unfolding textFault
-returns-2 c = or-next _ _ _ _ (c .before .before .before .before .head-fault .ensures) (c .before .before .before .if1 .left) (c .body-fault .ensures)
+returns-2 c =
+    let at-if1 = c .before .before .before in
+    let at-head-fault = at-if1 .before in
+    or-next _ _ _ _ (at-head-fault .head-fault .ensures) (at-if1 .if1 .left) (c .body-fault .ensures)
 
 pub text-fault-spec : {M : Type 1} → statement M
 text-fault-spec =

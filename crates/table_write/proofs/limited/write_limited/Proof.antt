@@ -43,7 +43,11 @@ same-length : tie.Need-same-length
 same-length c = search needs
 
 returns-3 : tie.Need-returns-3
-returns-3 c = writes-text _ _ _ _ (room-enough _ _ _ (c .before .before .before .before .before .before .if1 .left) ∙ sym (c .before .before .before .before .before .slice-fault .ensures) ∙ c .before .before .before .before .if2 .left) (c .before .before .before .before .before .before .if1 .left) (c .before .before .put-table .ensures)
+returns-3 c =
+    let at-if2 = c .before .before .before .before in
+    let at-slice-fault = at-if2 .before in
+    let at-if1 = at-slice-fault .before in
+    writes-text _ _ _ _ (room-enough _ _ _ (at-if1 .if1 .left) ∙ sym (at-slice-fault .slice-fault .ensures) ∙ at-if2 .if2 .left) (at-if1 .if1 .left) (c .before .before .put-table .ensures)
 
 pub write-limited-spec : {M : Type 1} → statement M
 write-limited-spec =

@@ -33,13 +33,18 @@ slice-write-out : tie.Need-slice-write-out
 slice-write-out c = search needs
 
 same-length : tie.Need-same-length
-same-length c = simp length-set (c .before .before .put-number3 .kept .0 ∙ c .before .before .before .before .before .before .put-number2 .kept .0 ∙ c .before .before .before .before .before .before .before .before .before .before .put-number .kept .0)
+same-length c =
+    let at-put-number2 = c .before .before .before .before .before .before in
+    let at-put-number = at-put-number2 .before .before .before .before in
+    simp length-set (c .before .before .put-number3 .kept .0 ∙ at-put-number2 .put-number2 .kept .0 ∙ at-put-number .put-number .kept .0)
 
 returns : tie.Need-returns
 returns c =
+    let at-put-number2 = c .before .before .before .before .before .before in
+    let at-put-number = at-put-number2 .before .before .before .before in
     let a = c .before .before .before .before .before .before .before .before .before .before .before .before .before .args in
-    sets-then (a .out .now) _ _ (a .at) (a .at + 4) (digits 4 (a .a)) (digits 4 (a .b) ++ (digits 4 (a .c) ++ (10 ∷ []))) (c .before .before .before .before .before .before .before .before .before .before .put-number .ensures) (omega (arith, length-digits 4 (a .a)))
-    (sets-then _ _ _ (a .at + 4) (a .at + 8) (digits 4 (a .b)) (digits 4 (a .c) ++ (10 ∷ [])) (c .before .before .before .before .before .before .put-number2 .ensures) (omega (arith, length-digits 4 (a .b)))
+    sets-then (a .out .now) _ _ (a .at) (a .at + 4) (digits 4 (a .a)) (digits 4 (a .b) ++ (digits 4 (a .c) ++ (10 ∷ []))) (at-put-number .put-number .ensures) (omega (arith, length-digits 4 (a .a)))
+    (sets-then _ _ _ (a .at + 4) (a .at + 8) (digits 4 (a .b)) (digits 4 (a .c) ++ (10 ∷ [])) (at-put-number2 .put-number2 .ensures) (omega (arith, length-digits 4 (a .b)))
     (sets-then _ _ _ (a .at + 8) (a .at + 12) (digits 4 (a .c)) (10 ∷ []) (c .before .before .put-number3 .ensures) (omega (arith, length-digits 4 (a .c))) refl))
 
 pub put-triple-spec : {M : Type 1} → statement M

@@ -65,7 +65,8 @@ loop-less c = search needs
 
 loop-again : tie.Need-loop-again Inv-loop μ-loop
 loop-again c =
-    let l = c .before .before .before .before .before .before .before .before .loop in
+    let at-loop = c .before .before .before .before .before .before .before .before in
+    let l = at-loop .loop in
     let a = c .before .before .before .before .before .before .before .before .before .before .before .before .before .args in
     (search needs, joined-then (λ k. tripleLine (item (a .lows .now) k) (item (a .highs .now) k) (item (a .costs .now) k)) 13 (l .i) (a .out .now) (l .out) _ (needStart (a .probes)) (λ k. length-triple (item (a .lows .now) k) (item (a .highs .now) k) (item (a .costs .now) k)) (l .inv .1) (c .before .before .put-triple .ensures), c .before .before .put-triple .kept .0 ∙ l .inv .2)
 
@@ -74,7 +75,8 @@ same-length c = c .before .loop .inv .2
 
 returns : tie.Need-returns Inv-loop μ-loop
 returns c =
-    let e : c .before .loop .i ≡ c .before .before .before .before .before .before .args .links = omega arith in
+    let at-start = c .before .before .before .before .before .before in
+    let e : c .before .loop .i ≡ at-start .args .links = omega arith in
     rw (← e) (c .before .loop .inv .1)
 
 pub put-links-spec : {M : Type 1} → statement M

@@ -47,7 +47,8 @@ loop-less c = search needs
 
 loop-again : tie.Need-loop-again Inv-loop μ-loop
 loop-again c =
-    let l = c .before .before .before .before .before .before .loop in
+    let at-loop = c .before .before .before .before .before .before in
+    let l = at-loop .loop in
     let a = c .before .before .before .before .before .before .before .before .before .args in
     (search needs, joined-then (λ u. needLine (item (a .needs .now) u)) 5 (l .v) (a .out .now) (l .out) _ (needStart 0) (λ u. length-need (item (a .needs .now) u)) (l .inv .1) (c .before .before .put-need .ensures), c .before .before .put-need .kept .0 ∙ l .inv .2)
 
@@ -56,7 +57,8 @@ same-length c = c .before .loop .inv .2
 
 returns : tie.Need-returns Inv-loop μ-loop
 returns c =
-    let e : c .before .loop .v ≡ c .before .before .before .before .args .probes = omega arith in
+    let at-start = c .before .before .before .before in
+    let e : c .before .loop .v ≡ at-start .args .probes = omega arith in
     rw (← e) (c .before .loop .inv .1)
 
 pub put-needs-spec : {M : Type 1} → statement M

@@ -34,9 +34,12 @@ same-length c = search needs
 
 returns : tie.Need-returns
 returns c =
+    let at-put-links = c .before .before .before .before .before .before in
+    let at-put-needs = at-put-links .before .before .before .before in
+    let at-put-triple = at-put-needs .before .before .before .before in
     let a = c .before .before .before .before .before .before .before .before .before .before .before .before .before .before .before .before .before .before .before .before .before .args in
     let t = ofSlices (a .number) (a .probes) (a .links) (a .needs .now) (a .lows .now) (a .highs .now) (a .costs .now) in
-    text-then t _ _ _ _ _ (c .before .before .before .before .before .before .before .before .before .before .before .before .before .before .put-triple .ensures) (c .before .before .before .before .before .before .before .before .before .before .put-needs .ensures) (c .before .before .before .before .before .before .put-links .ensures) (c .before .before .put-closing .ensures)
+    text-then t _ _ _ _ _ (at-put-triple .put-triple .ensures) (at-put-needs .put-needs .ensures) (at-put-links .put-links .ensures) (c .before .before .put-closing .ensures)
 
 pub put-table-spec : {M : Type 1} → statement M
 put-table-spec =
