@@ -26,21 +26,19 @@ fn answer(plan: &[u8], links: usize, costs: &[u16]) -> Planning
     }
 }
 
-// The plan by S-LSE of a legal table.
+// The plan by S-LSE of every legal table in these slices, whatever its probe count.
 pub fn slse_plan(
     plan: &mut [u8],
-    probes: usize,
     links: usize,
     needs: &[u16],
     lows: &[u16],
     highs: &[u16],
     costs: &[u16],
 )
-    requires { let t = ofSlices 0 probes links (now needs) (now lows) (now highs) (now costs) in
-        ⌜ (tableFault 256 2048 t ≡ 0) × (links ≤ length (now plan))
-        × (roomFault probes links (length (now needs)) (length (now lows)) (length (now highs)) (length (now costs)) ≡ 0) ⌝ }
-    ensures { λ _. let t = ofSlices 0 probes links (now (needs .entry)) (now (lows .entry)) (now (highs .entry)) (now (costs .entry)) in
-        ⌜ now (plan .exit) ≡ stored (λ i. planByte (kept t i)) links (now (plan .entry)) ⌝ }
+    requires { ⌜ ((probes : ℕ) × (tableFault 256 2048 (ofSlices 0 probes links (now needs) (now lows) (now highs) (now costs)) ≡ 0)
+        × (roomFault probes links (length (now needs)) (length (now lows)) (length (now highs)) (length (now costs)) ≡ 0)) × (links ≤ length (now plan)) ⌝ }
+    ensures { λ _. ⌜ ((probes : ℕ) → let t = ofSlices 0 probes links (now (needs .entry)) (now (lows .entry)) (now (highs .entry)) (now (costs .entry)) in
+        tableFault 256 2048 t ≡ 0 → now (plan .exit) ≡ stored (λ i. planByte (kept t i)) links (now (plan .entry))) ⌝ }
 {
     let mut order = [0u16; 2048];
     plan_order::sorting::order_links(&mut order, links, costs);
@@ -72,7 +70,7 @@ pub fn slse_limited(
     if fault != 0 {
         return Planning::Refused(fault);
     }
-    slse_plan(plan, n, m, needs, lows, highs, costs);
+    slse_plan(plan, m, needs, lows, highs, costs);
     answer(plan, m, costs)
 }
 

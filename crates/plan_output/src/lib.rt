@@ -20,19 +20,10 @@ pub fn plan_text(text: &[u8], out: &mut [u8]) -> Output
     match read {
         table_read::Reading::Table {
             number,
-            probes,
+            probes: _,
             links,
             rest: _,
-        } => text::print_plan(
-            out,
-            number,
-            probes as usize,
-            links as usize,
-            &needs,
-            &lows,
-            &highs,
-            &costs,
-        ),
+        } => text::print_plan(out, number, links as usize, &needs, &lows, &highs, &costs),
         table_read::Reading::Refused(fault) => output::refusals::print_refusal(out, fault),
     }
 }

@@ -3,32 +3,31 @@ use output::Output;
 use table::CLOSING_BYTES;
 use table::LINK_BYTES;
 ghost use mathlib.Core.Path.{_≡_};
-ghost use Prim.Native.Nat.{_+_, _*_};
+ghost use Prim.Native.Nat.{ℕ, _+_, _*_};
 ghost use lib.ListN.{length};
 ghost use Rattle.table.specs.Table.{ofSlices};
 ghost use Rattle.table.specs.Legal.{tableFault, roomFault};
 ghost use Rattle.output.specs.Output.{shortFault, Prints};
 ghost use Rattle.plan_output.specs.Output.{planText};
 
-// The plan of a legal table.
+// The plan of every legal table in these slices, whatever its probe count.
 pub fn print_plan(
     out: &mut [u8],
     number: u16,
-    probes: usize,
     links: usize,
     needs: &[u16],
     lows: &[u16],
     highs: &[u16],
     costs: &[u16],
 ) -> Output
-    requires { let t = ofSlices 0 probes links (now needs) (now lows) (now highs) (now costs) in
-        ⌜ (tableFault 256 2048 t ≡ 0)
-        × (roomFault probes links (length (now needs)) (length (now lows)) (length (now highs)) (length (now costs)) ≡ 0) ⌝ }
-    ensures { λ r. let printed = planText (ofSlices number probes links (now (needs .entry)) (now (lows .entry)) (now (highs .entry)) (now (costs .entry))) in
-        ⌜ Prints (shortFault (length (now (out .entry))) printed) printed r (now (out .entry)) (now (out .exit)) ⌝ }
+    requires { ⌜ ((probes : ℕ) × (tableFault 256 2048 (ofSlices 0 probes links (now needs) (now lows) (now highs) (now costs)) ≡ 0)
+        × (roomFault probes links (length (now needs)) (length (now lows)) (length (now highs)) (length (now costs)) ≡ 0)) ⌝ }
+    ensures { λ r. ⌜ ((probes : ℕ) → let t = ofSlices number probes links (now (needs .entry)) (now (lows .entry)) (now (highs .entry)) (now (costs .entry)) in
+        let printed = planText t in
+        tableFault 256 2048 t ≡ 0 → Prints (shortFault (length (now (out .entry))) printed) printed r (now (out .entry)) (now (out .exit))) ⌝ }
 {
     let mut plan = [0u8; 2048];
-    plan_methods::limited::slse_plan(&mut plan, probes, links, needs, lows, highs, costs);
+    plan_methods::limited::slse_plan(&mut plan, links, needs, lows, highs, costs);
     let kept = plan_methods::counts::kept_count(&plan, links);
     let end = 17 + LINK_BYTES * (kept as usize);
     if out.len() < end + CLOSING_BYTES {

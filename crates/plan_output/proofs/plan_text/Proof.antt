@@ -28,9 +28,6 @@ enum-known-read c = search needs
 cast-print-plan : tie.Need-cast-print-plan
 cast-print-plan c = search needs
 
-cast-print-plan-2 : tie.Need-cast-print-plan-2
-cast-print-plan-2 c = search needs
-
 slice-aggregate-print-plan : tie.Need-slice-aggregate-print-plan
 slice-aggregate-print-plan c = search needs
 
@@ -51,7 +48,7 @@ print-plan-requires c κs =
     let k = at-read-table .read-table in
     let b : Lent = record { needs = k .last .1 .0; lows = k .last .1 .1 .0; highs = k .last .1 .1 .1 .0; costs = k .last .1 .1 .1 .1 .0 } in
     let e = at-read .read .given .1 in
-    (read-legal false (a .text .now) _ blank b (k .ensures) _ _ _ _ e, read-held false (a .text .now) _ blank b (k .ensures) _ _ _ _ e)
+    (at-read .read .given .0 .1 .0, read-legal false (a .text .now) _ blank b (k .ensures) _ _ _ _ e, read-held false (a .text .now) _ blank b (k .ensures) _ _ _ _ e)
 
 enum-known-read-2 : tie.Need-enum-known-read-2
 enum-known-read-2 c = search needs
@@ -69,7 +66,8 @@ returns c =
     let a = c .before .before .before .before .before .before .before .before .before .before .before .before .before .before .before .before .before .before .before .before .before .before .args in
     let k = at-read-table .read-table in
     let b : Lent = record { needs = k .last .1 .0; lows = k .last .1 .1 .0; highs = k .last .1 .1 .1 .0; costs = k .last .1 .1 .1 .1 .0 } in
-    plan-printed (a .text .now) _ b (k .ensures) _ _ _ _ (at-read .read .given .1) _ (a .out .now) _ (c .before .before .print-plan .ensures)
+    let e = at-read .read .given .1 in
+    plan-printed (a .text .now) _ b (k .ensures) _ _ _ _ e _ (a .out .now) _ (c .before .before .print-plan .ensures (at-read .read .given .0 .1 .0) (read-legal false (a .text .now) _ blank b (k .ensures) _ _ _ _ e))
 
 same-length-2 : tie.Need-same-length-2
 same-length-2 c = search needs
@@ -94,7 +92,6 @@ plan-text-spec =
     read-table-requires
     enum-known-read
     cast-print-plan
-    cast-print-plan-2
     slice-aggregate-print-plan
     slice-aggregate-print-plan-2
     slice-aggregate-print-plan-3

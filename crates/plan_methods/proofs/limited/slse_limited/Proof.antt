@@ -35,7 +35,7 @@ slse-plan-requires c κs =
     let t = ofSlices 0 (a .probes) (a .links) (a .needs .now) (a .lows .now) (a .highs .now) (a .costs .now) in
     let room = roomFault (a .probes) (a .links) (length (a .needs .now)) (length (a .lows .now)) (length (a .highs .now)) (length (a .costs .now)) in
     let e = sym (c .before .before .slice-fault .ensures) ∙ c .before .if2 .left in
-    (table-wider (a .pmax) (a .lmax) 256 2048 t (s .pre .0) (s .pre .1) (or-right room (tableFault (a .pmax) (a .lmax) t) e), at-if1 .if1 .left, or-left room (tableFault (a .pmax) (a .lmax) t) e)
+    ((a .probes, table-wider (a .pmax) (a .lmax) 256 2048 t (s .pre .0) (s .pre .1) (or-right room (tableFault (a .pmax) (a .lmax) t) e), or-left room (tableFault (a .pmax) (a .lmax) t) e), at-if1 .if1 .left)
 
 answer-requires : tie.Need-answer-requires
 answer-requires c κs =
@@ -63,8 +63,10 @@ returns-3 c number =
     let at-if1 = at-slice-fault .before in
     let s = c .before .before .before .before .before .before .before .before .before .before .before .before .before .before in
     let a = s .args in
+    let t = ofSlices 0 (a .probes) (a .links) (a .needs .now) (a .lows .now) (a .highs .now) (a .costs .now) in
+    let room = roomFault (a .probes) (a .links) (length (a .needs .now)) (length (a .lows .now)) (length (a .highs .now)) (length (a .costs .now)) in
     let e = sym (at-slice-fault .slice-fault .ensures) ∙ at-if2 .if2 .left in
-    let p = numbered number (a .probes) (a .links) (a .needs .now) (a .lows .now) (a .highs .now) (a .costs .now) (a .plan .now) _ (at-slse-plan .slse-plan .ensures) in
+    let p = numbered number (a .probes) (a .links) (a .needs .now) (a .lows .now) (a .highs .now) (a .costs .now) (a .plan .now) _ (at-slse-plan .slse-plan .ensures (a .probes) (table-wider (a .pmax) (a .lmax) 256 2048 t (s .pre .0) (s .pre .1) (or-right room (tableFault (a .pmax) (a .lmax) t) e))) in
     plans-made _ (ofSlices number (a .probes) (a .links) (a .needs .now) (a .lows .now) (a .highs .now) (a .costs .now)) _ (a .plan .now) _ (room-enough (length (a .plan .now)) (a .links) _ (at-if1 .if1 .left) ∙ e) (at-if1 .if1 .left) p (c .answer .ensures)
 
 pub slse-limited-spec : {M : Type 1} → statement M

@@ -23,8 +23,9 @@ order-links-requires : tie.Need-order-links-requires
 order-links-requires c κs =
     let s = c .before .before .before .before .before .before in
     let a = s .args in
-    let z = size (a .probes) (a .links) (a .needs .now) (a .lows .now) (a .highs .now) (a .costs .now) (s .pre .0) in
-    let r = room-good (a .probes) (a .links) (length (a .needs .now)) (length (a .lows .now)) (length (a .highs .now)) (length (a .costs .now)) (s .pre .2) in
+    let probes = s .pre .0 .0 in
+    let z = size probes (a .links) (a .needs .now) (a .lows .now) (a .highs .now) (a .costs .now) (s .pre .0 .1) in
+    let r = room-good probes (a .links) (length (a .needs .now)) (length (a .lows .now)) (length (a .highs .now)) (length (a .costs .now)) (s .pre .0 .2) in
     (z .within, omega arith, omega arith)
 
 slice-aggregate-plan-in-order : tie.Need-slice-aggregate-plan-in-order
@@ -42,22 +43,23 @@ plan-in-order-requires c κs =
     let at-order-links = c .before .before .before in
     let at-start = c .before .before .before .before .before .before .before .before .before .before in
     let a = at-start .args in
+    let probes = at-start .pre .0 .0 in
     let call = at-order-links .order-links in
-    let z = size (a .probes) (a .links) (a .needs .now) (a .lows .now) (a .highs .now) (a .costs .now) (at-start .pre .0) in
-    let r = room-good (a .probes) (a .links) (length (a .needs .now)) (length (a .lows .now)) (length (a .highs .now)) (length (a .costs .now)) (at-start .pre .2) in
+    let z = size probes (a .links) (a .needs .now) (a .lows .now) (a .highs .now) (a .costs .now) (at-start .pre .0 .1) in
+    let r = room-good probes (a .links) (length (a .needs .now)) (length (a .lows .now)) (length (a .highs .now)) (length (a .costs .now)) (at-start .pre .0 .2) in
     let long = call .kept .0 in
-    (order-fits (a .probes) (a .links) (a .needs .now) (a .lows .now) (a .highs .now) (a .costs .now) _ 256 (in-order (a .probes) (a .links) (a .needs .now) (a .lows .now) (a .highs .now) (a .costs .now) _ (at-start .pre .0) (call .ensures)) (omega (arith, z .within)) (r .needed) (r .linked) (omega arith) (omega arith), at-start .pre .1)
+    (order-fits probes (a .links) (a .needs .now) (a .lows .now) (a .highs .now) (a .costs .now) _ 256 (in-order probes (a .links) (a .needs .now) (a .lows .now) (a .highs .now) (a .costs .now) _ (at-start .pre .0 .1) (call .ensures)) (omega (arith, z .within)) (r .needed) (r .linked) (omega arith) (omega arith), at-start .pre .1)
 
 same-length : tie.Need-same-length
 same-length c = search needs
 
 returns : tie.Need-returns
-returns c =
+returns c probes legal =
     let at-order-links = c .before .before .before .before .before .before in
     let at-start = c .before .before .before .before .before .before .before .before .before .before .before .before .before in
     let a = at-start .args in
     let call = at-order-links .order-links in
-    c .before .before .plan-in-order .ensures (a .probes) (a .costs .now) (in-order (a .probes) (a .links) (a .needs .now) (a .lows .now) (a .highs .now) (a .costs .now) _ (at-start .pre .0) (call .ensures))
+    c .before .before .plan-in-order .ensures probes (a .costs .now) (in-order probes (a .links) (a .needs .now) (a .lows .now) (a .highs .now) (a .costs .now) _ legal (call .ensures))
 
 pub slse-plan-spec : {M : Type 1} → statement M
 slse-plan-spec =

@@ -20,8 +20,9 @@ slse-plan-requires : tie.Need-slse-plan-requires
 slse-plan-requires c κs =
     let s = c .before .before .before .before .before .before in
     let a = s .args in
-    let z = size (a .probes) (a .links) (a .needs .now) (a .lows .now) (a .highs .now) (a .costs .now) (s .pre .0) in
-    (s .pre .0, z .within, s .pre .1)
+    let probes = s .pre .0 in
+    let z = size probes (a .links) (a .needs .now) (a .lows .now) (a .highs .now) (a .costs .now) (s .pre .1) in
+    ((probes, s .pre .1, s .pre .2), z .within)
 
 slice-aggregate-kept-count : tie.Need-slice-aggregate-kept-count
 slice-aggregate-kept-count c = search needs
@@ -30,7 +31,8 @@ kept-count-requires : tie.Need-kept-count-requires
 kept-count-requires c κs =
     let s = c .before .before .before .before .before .before .before .before .before in
     let a = s .args in
-    let z = size (a .probes) (a .links) (a .needs .now) (a .lows .now) (a .highs .now) (a .costs .now) (s .pre .0) in
+    let probes = s .pre .0 in
+    let z = size probes (a .links) (a .needs .now) (a .lows .now) (a .highs .now) (a .costs .now) (s .pre .1) in
     let long = c .before .before .slse-plan .kept .0 in
     let within = z .within in
     (omega arith, within)
@@ -48,13 +50,13 @@ add-if1 : tie.Need-add-if1
 add-if1 c = search needs
 
 returns : tie.Need-returns
-returns c =
+returns c probes legal =
     let at-slse-plan = c .before .before .before .before in
     let s = c .before .before .before .before .before .before .before .before .before .before .before in
     let a = s .args in
-    let t = ofSlices (a .number) (a .probes) (a .links) (a .needs .now) (a .lows .now) (a .highs .now) (a .costs .now) in
-    let z = size (a .probes) (a .links) (a .needs .now) (a .lows .now) (a .highs .now) (a .costs .now) (s .pre .0) in
-    let p = numbered (a .number) (a .probes) (a .links) (a .needs .now) (a .lows .now) (a .highs .now) (a .costs .now) (replicate 2048 0) _ (at-slse-plan .slse-plan .ensures) in
+    let t = ofSlices (a .number) probes (a .links) (a .needs .now) (a .lows .now) (a .highs .now) (a .costs .now) in
+    let z = size probes (a .links) (a .needs .now) (a .lows .now) (a .highs .now) (a .costs .now) legal in
+    let p = numbered (a .number) probes (a .links) (a .needs .now) (a .lows .now) (a .highs .now) (a .costs .now) (replicate 2048 0) _ (at-slse-plan .slse-plan .ensures probes legal) in
     let n = count-says t (replicate 2048 0) _ (z .within) p in
     let k = c .before .kept-count .ensures in
     let l = length-plan t in
@@ -68,8 +70,9 @@ kept-cost-requires c κs =
     let at-slse-plan = c .before .before .before .before .before in
     let s = c .before .before .before .before .before .before .before .before .before .before .before .before in
     let a = s .args in
-    let z = size (a .probes) (a .links) (a .needs .now) (a .lows .now) (a .highs .now) (a .costs .now) (s .pre .0) in
-    let r = room-good (a .probes) (a .links) (length (a .needs .now)) (length (a .lows .now)) (length (a .highs .now)) (length (a .costs .now)) (s .pre .1) in
+    let probes = s .pre .0 in
+    let z = size probes (a .links) (a .needs .now) (a .lows .now) (a .highs .now) (a .costs .now) (s .pre .1) in
+    let r = room-good probes (a .links) (length (a .needs .now)) (length (a .lows .now)) (length (a .highs .now)) (length (a .costs .now)) (s .pre .2) in
     let long = at-slse-plan .slse-plan .kept .0 in
     let within = z .within in
     (omega arith, omega (arith, r .linked, r .equal, r .equal₂), within)
@@ -88,8 +91,9 @@ put-kept-requires c κs =
     let at-slse-plan = at-kept-count .before .before .before in
     let s = c .before .before .before .before .before .before .before .before .before .before .before .before .before .before .before .before .before .before .before in
     let a = s .args in
-    let z = size (a .probes) (a .links) (a .needs .now) (a .lows .now) (a .highs .now) (a .costs .now) (s .pre .0) in
-    let r = room-good (a .probes) (a .links) (length (a .needs .now)) (length (a .lows .now)) (length (a .highs .now)) (length (a .costs .now)) (s .pre .1) in
+    let probes = s .pre .0 in
+    let z = size probes (a .links) (a .needs .now) (a .lows .now) (a .highs .now) (a .costs .now) (s .pre .1) in
+    let r = room-good probes (a .links) (length (a .needs .now)) (length (a .lows .now)) (length (a .highs .now)) (length (a .costs .now)) (s .pre .2) in
     let long = at-slse-plan .slse-plan .kept .0 in
     let within = z .within in
     (omega (arith, at-kept-count .kept-count .ensures, at-if1 .if1 .left, at-put-head .put-head .kept .0), omega arith, r .linked, omega (arith, r .linked, r .equal), omega (arith, r .linked, r .equal, r .equal₂))
@@ -97,14 +101,14 @@ put-kept-requires c κs =
 put-closing-requires : tie.Need-put-closing-requires
 put-closing-requires c κs = search needs
 
-add-t18 : tie.Need-add-t18
-add-t18 c = search needs
+add-t17 : tie.Need-add-t17
+add-t17 c = search needs
 
 same-length : tie.Need-same-length
 same-length c = search needs
 
 returns-2 : tie.Need-returns-2
-returns-2 c =
+returns-2 c probes legal =
     let at-put-kept = c .before .before .before .before .before .before in
     let at-put-head = at-put-kept .before .before .before .before .before in
     let at-kept-cost = at-put-head .before .before in
@@ -113,9 +117,9 @@ returns-2 c =
     let at-slse-plan = at-kept-count .before .before .before in
     let s = c .before .before .before .before .before .before .before .before .before .before .before .before .before .before .before .before .before .before .before .before .before .before .before .before .before .before in
     let a = s .args in
-    let t = ofSlices (a .number) (a .probes) (a .links) (a .needs .now) (a .lows .now) (a .highs .now) (a .costs .now) in
-    let z = size (a .probes) (a .links) (a .needs .now) (a .lows .now) (a .highs .now) (a .costs .now) (s .pre .0) in
-    let p = numbered (a .number) (a .probes) (a .links) (a .needs .now) (a .lows .now) (a .highs .now) (a .costs .now) (replicate 2048 0) _ (at-slse-plan .slse-plan .ensures) in
+    let t = ofSlices (a .number) probes (a .links) (a .needs .now) (a .lows .now) (a .highs .now) (a .costs .now) in
+    let z = size probes (a .links) (a .needs .now) (a .lows .now) (a .highs .now) (a .costs .now) legal in
+    let p = numbered (a .number) probes (a .links) (a .needs .now) (a .lows .now) (a .highs .now) (a .costs .now) (replicate 2048 0) _ (at-slse-plan .slse-plan .ensures probes legal) in
     let n = count-says t (replicate 2048 0) _ (z .within) p in
     let k = at-kept-count .kept-count .ensures in
     let l = length-plan t in
@@ -142,6 +146,6 @@ print-plan-spec =
     slice-aggregate-put-kept
     put-kept-requires
     put-closing-requires
-    add-t18
+    add-t17
     same-length
     returns-2)
