@@ -21,14 +21,13 @@ use Rattle.probe_rules.specs.declared.Outcome.the-variants.{Opened, NothingToOp
 use Rattle.probe_rules.specs.Rules.{alter}
 use Rattle.probe_rules.specs.Within.{OwnEvent, OwnOutcome}
 use Rattle.probe_theory.proofs.EndLaws.{end-laws}
-use Rattle.fleet_theory.specs.Fleet.{outAt, inAt, own, fleetFault, eventLineFault, eventFault, eventOf, outcomeOf, alterFleet, alteredBy}
+use Rattle.fleet_theory.specs.Fleet.{outAt, inAt, own, overTwo, fleetFault, eventLineFault, eventFault, eventOf, outcomeOf, alterFleet, alteredBy}
 use Rattle.table.specs.Slices.{Slices, tableOf, slicesFault}
 use Rattle.fleet_theory.proofs.Own.{length-own}
 use Rattle.fleet_theory.proofs.Bytes.{length-altered}
 use Rattle.fleet_theory.proofs.Events.{Says, an-opening, an-offer, a-refusal, says, unsentOf, NotUnsent, line-step}
 use Rattle.fleet_theory.proofs.Run.{slices-legal}
 use Rattle.fleet_theory.proofs.Alone.{own-altered, own-else}
-use Rattle.fleet_state.specs.Faults.{overTwo}
 use Rattle.fleet_state.proofs.CheckLaws.{fleet-good, own-passes}
 
 -- an accepted line has passed the checks before 27, and 27

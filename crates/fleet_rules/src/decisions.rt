@@ -9,7 +9,7 @@ ghost use Prim.Native.Nat.{ℕ, _+_, _*_, _<_, _≤_};
 ghost use lib.Dec.{leb, eqb};
 ghost use lib.ListN.{length};
 ghost use Rattle.table.specs.Table.{item, ofSlices, dearerByPlace};
-ghost use Rattle.table_links.specs.Order.{OrderedLinks};
+ghost use Rattle.table_links.specs.OrderedLinks.{OrderedLinks};
 ghost use Rattle.probe_record.specs.Record.{sideByte, sideBetter};
 ghost use Rattle.probe_rules.specs.Rules.{opening, offer, befalls};
 ghost use Rattle.probe_rules.specs.Within.{EventWithin};

@@ -12,9 +12,8 @@ use Rattle.range.proofs.Bools.{when-none, unless-none, decided}
 use Rattle.range.proofs.Faults.{or-left, or-right, first-all, none-first}
 use Rattle.table.specs.Table.{Table, item, touches}
 use Rattle.probe_record.specs.Record.{outbound, inbound, byteFault, spareFault}
-use Rattle.fleet_theory.specs.Fleet.{outAt, inAt, own, fleetFault}
+use Rattle.fleet_theory.specs.Fleet.{outAt, inAt, own, overTwo, fleetFault}
 use Rattle.fleet_theory.proofs.Own.{out-reads, in-reads}
-use Rattle.fleet_state.specs.Faults.{overTwo}
 
 -- 20 and 21 let the record pass
 pub fleet-good : (t : Table) (r : List ℕ) → fleetFault t r ≡ 0 → (length r ≡ 4 * t .links) × (first (overTwo r) (4 * t .links) ≡ 0)

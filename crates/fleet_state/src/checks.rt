@@ -7,8 +7,8 @@ ghost use Rattle.range.specs.First.{orElse, first};
 ghost use Rattle.table.specs.Slices.{slicesOf, tableOf, slicesFault};
 ghost use Rattle.probe_record.specs.Record.{spareFault};
 ghost use Rattle.table.specs.Table.{item, ofSlices};
-ghost use Rattle.fleet_theory.specs.Fleet.{own, fleetFault};
-ghost use Rattle.fleet_state.specs.Faults.{overTwo, overFault};
+ghost use Rattle.fleet_theory.specs.Fleet.{own, overTwo, fleetFault};
+ghost use Rattle.fleet_state.specs.Faults.{overFault};
 ghost use Rattle.fleet_state.specs.Within.{LegalWithoutCosts};
 
 // 21.

@@ -133,11 +133,11 @@ module _ (t : Table) (legal : Legal t) (r : List ℕ) where
       f = frameOf l
 
       go : Says t f → (f .kind ≡ 0) ⊎ MaySend t r f → alteredBy t r f ≡ r
-      go (an-opening k b v) u = shut (decided (wouldOpen t r (f .to)))
+      go (an-opening k b v) u = either (decided (wouldOpen t r (f .to)))
         where
-          shut : (wouldOpen t r (f .to) ≡ true) ⊎ (wouldOpen t r (f .to) ≡ false) → alteredBy t r f ≡ r
-          shut (inl a) = absurd (quiet-opens quiet (f .to) a)
-          shut (inr a) = rw (v, a)
+          either : (wouldOpen t r (f .to) ≡ true) ⊎ (wouldOpen t r (f .to) ≡ false) → alteredBy t r f ≡ r
+          either (inl a) = absurd (quiet-opens quiet (f .to) a)
+          either (inr a) = rw (v, a)
       go (an-offer i k b x v is) (inl z) = absurd (omega arith)
       go (an-offer i k b x v is) (inr m) =
           rw (v, ne-eqb (inOf t r (f .to) i) 0 (quiet .heard i (f .from) (f .to) b x (may-offer t f i is r .0 m)))

@@ -34,11 +34,15 @@ ownPair t p r i = cond (touches t p i) (item r (outAt t p i) ∷ item r (inAt t 
 unfoldable pub own : Table → ℕ → List ℕ → List ℕ
 own t p r = joined (ownPair t p r) (t .links)
 
+-- 21, of one byte of a fleet's record: "A byte over 2"
+abbrev pub overTwo : List ℕ → ℕ → ℕ
+overTwo r j = cond (ltb 2 (item r j)) 21 0
+
 -- 20, 21 and 22, of a fleet's record
 abbrev pub fleetFault : Table → List ℕ → ℕ
 fleetFault t r =
     orElse (cond (eqb (length r) (4 * t .links)) 0 20)
-    (orElse (first (λ j. cond (ltb 2 (item r j)) 21 0) (4 * t .links)) (first (λ p. spareFault t p (own t p r)) (t .probes)))
+    (orElse (first (overTwo r) (4 * t .links)) (first (λ p. spareFault t p (own t p r)) (t .probes)))
 
 -- 9: "a script line may also be 00, an opening"
 abbrev pub eventKindFault : Frame → ℕ

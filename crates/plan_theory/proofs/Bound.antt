@@ -11,7 +11,7 @@ use Rattle.range.specs.Sum.{sum, weigh, count}
 use Rattle.range.proofs.Bools.{and-left, and-right, and-intro, and-skip}
 use Rattle.range.proofs.Sums.{sum-le, sum-add, sum-swap, sum-one, sum-at, weigh-le, weigh-same, weigh-split, weigh-dominated, count-none}
 use Rattle.table.specs.Table.{Table, touches, spare, dearer}
-use Rattle.plan_theory.specs.Plan.{linksAt, rested, kept, costOf, Meets}
+use Rattle.plan_theory.specs.Plan.{linksAt, rested, kept, costOf, without, Meets}
 use Rattle.plan_theory.proofs.Places.{Order, reversed, Last, last, all-before}
 use Rattle.plan_theory.proofs.Order.{dearer-order, Dear, dear, on-dear}
 use Rattle.table.specs.Legal.{LegalTable}
@@ -21,10 +21,6 @@ use Rattle.plan_theory.specs.Criterion.{dearerAt, UnderSpare}
 -- outside the choice, no probe has more links than its spare
 abbrev pub WithinSpare : Table → (ℕ → Bool) → Type 0
 WithinSpare t choice = (v : ℕ) → v < t .probes → linksAt t (λ g. not (choice g)) v ≤ spare t v
-
--- the links of one set that are not in another
-abbrev pub without : (ℕ → Bool) → (ℕ → Bool) → ℕ → Bool
-without p q i = p i && not (q i)
 
 -- one link at a probe, by tests: at it, blocked by it, rested or kept, chosen or not
 flip : (a b c : Bool) → ((a && b) && c) ≡ ((a && c) && b)

@@ -62,3 +62,7 @@ slse t i = added t i && not (removed t i)
 -- "Choice: any set of the table's links. It meets the needs when each probe is an end of at least its need of them"
 abbrev pub Meets : Table → (ℕ → Bool) → Type 0
 Meets t s = (v : ℕ) → v < t .probes → t .need v ≤ linksAt t s v
+
+-- the links of one set that are not in another
+abbrev pub without : (ℕ → Bool) → (ℕ → Bool) → ℕ → Bool
+without p q i = p i && not (q i)

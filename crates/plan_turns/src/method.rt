@@ -9,7 +9,7 @@ ghost use Rattle.range.specs.First.{first};
 ghost use Rattle.range.specs.Lists.{stored};
 ghost use Rattle.table.specs.Table.{item, ofSlices, spare};
 ghost use Rattle.table.specs.Legal.{linkFault, tableFault};
-ghost use Rattle.plan_theory.specs.Plan.{kept};
+ghost use Rattle.plan_theory.specs.Plan.{kept, planByte};
 ghost use Rattle.plan_turns_search.specs.Record.{keptByte};
 
 // Takes the probes' needs off their counted links.
@@ -94,7 +94,7 @@ pub fn by_turns(
         × (probes ≤ length (now needs)) × (links ≤ length (now lows)) × (links ≤ length (now highs)) × (links ≤ length (now costs))
         × (links ≤ length (now plan)) × (4 * links ≤ length (now work)) ⌝ }
     ensures { λ _. let t = ofSlices 0 probes links (now (needs .entry)) (now (lows .entry)) (now (highs .entry)) (now (costs .entry)) in
-        ⌜ now (plan .exit) ≡ stored (λ i. cond (kept t i) 1 0) links (now (plan .entry)) ⌝ }
+        ⌜ now (plan .exit) ≡ stored (λ i. planByte (kept t i)) links (now (plan .entry)) ⌝ }
     ensures { λ _. ⌜ now (work .exit) ≡ replicate (length (now (work .entry))) 0 ⌝ }
 {
     clear(work);

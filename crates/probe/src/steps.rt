@@ -3,7 +3,7 @@ ghost use mathlib.Core.Path.{_≡_};
 ghost use Prim.Native.Nat.{_+_, _*_, _<_};
 ghost use lib.ListN.{length};
 ghost use Rattle.table.specs.Table.{ofSlices};
-ghost use Rattle.table_links.specs.Order.{OrderedLinks};
+ghost use Rattle.table_links.specs.OrderedLinks.{OrderedLinks};
 ghost use Rattle.probe_rules.specs.Rules.{befalls, alter, entryOf, sendable, rests};
 ghost use Rattle.probe_rules.specs.Within.{EventWithin, EndReady};
 ghost use Rattle.probe.specs.Answers.{kindOf, askedEvent};

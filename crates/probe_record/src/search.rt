@@ -5,7 +5,7 @@ ghost use mathlib.Core.List.{[]};
 ghost use Prim.Native.Nat.{_*_, _≤_};
 ghost use lib.ListN.{length};
 ghost use Rattle.table.specs.Table.{ofSlices};
-ghost use Rattle.table_links.specs.Order.{OrderedLinks};
+ghost use Rattle.table_links.specs.OrderedLinks.{OrderedLinks};
 ghost use Rattle.probe_record.specs.Record.{bestOwn};
 
 // The end's dearest untried link with value 0, its cheapest offer held with value 1, or `links`.

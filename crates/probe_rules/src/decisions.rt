@@ -3,7 +3,7 @@ use table_links::order::dearer;
 ghost use mathlib.Core.Path.{_≡_};
 ghost use Prim.Native.Nat.{_<_};
 ghost use Rattle.table.specs.Table.{ofSlices};
-ghost use Rattle.table_links.specs.Order.{OrderedLinks};
+ghost use Rattle.table_links.specs.OrderedLinks.{OrderedLinks};
 ghost use Rattle.probe_rules.specs.Rules.{opening, offer, befalls};
 ghost use Rattle.probe_rules.specs.Within.{EventWithin, EndReady};
 use super::Event;

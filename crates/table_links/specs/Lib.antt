@@ -1,2 +1,2 @@
 pub mod RisingSlices
-pub mod Order
+pub mod OrderedLinks

@@ -106,7 +106,7 @@ fn edits() {
     let mut named = BTreeSet::new();
     for row in rows(
         &claims,
-        "\n## Public promises, and wrong answers that they rule out\n",
+        "\n## Promises, and wrong answers that they rule out\n",
     ) {
         for answers in row[1]
             .split("; ")
@@ -126,4 +126,24 @@ fn edits() {
         .map(|path| path.to_string_lossy().into_owned())
         .collect();
     assert_eq!(named, stand);
+}
+
+/// Each name in the prose of the claims stands in some file of a crate.
+#[test]
+fn names_in_prose() {
+    let claims = document("docs/CLAIMS.md");
+    let sources = files(&top().join("crates"), &[".rt", ".antt"]);
+    let ends = |c: char| c.is_whitespace() || "(){}[],;.:<".contains(c);
+    let all: Vec<String> = sources.iter().map(|path| text(path)).collect();
+    let tokens: BTreeSet<&str> = all.iter().flat_map(|one| one.split(ends)).collect();
+    let mut names = 0;
+    for line in claims.lines().filter(|line| !line.starts_with('|')) {
+        let plain = |name: &&str| !name.contains(['/', ' ', '.']);
+        for name in quoted(line).filter(plain) {
+            let name = name.rsplit("::").next().expect("a last part");
+            assert!(tokens.contains(name), "{name}");
+            names += 1;
+        }
+    }
+    assert!(names > 20, "{names}");
 }

@@ -263,7 +263,7 @@ fn figures() -> BTreeMap<String, usize> {
     figures
 }
 
-/// Measures each call on each site, then makes it in a thread that has no more than its figure.
+/// Measures each call on each site, then makes it in a thread that has its figure and what a thread needs itself.
 #[test]
 fn depth_of_each_call() {
     let figures = figures();

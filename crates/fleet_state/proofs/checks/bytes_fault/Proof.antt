@@ -9,7 +9,7 @@ use native.Mathlib.Omega.{arith}
 use borrow.Author.Tests.{lt-ltb, le-ltb}
 use Rattle.range.specs.First.{first}
 use Rattle.range.proofs.Faults.{first-none, first-some}
-use Rattle.fleet_state.specs.Faults.{overTwo}
+use Rattle.fleet_theory.specs.Fleet.{overTwo}
 
 abbrev Inv-loop : tie.InvT-loop
 Inv-loop rec n j₀ j = (j ≤ n) × (first (overTwo rec) j ≡ 0)
