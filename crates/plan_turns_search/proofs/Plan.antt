@@ -26,7 +26,7 @@ use Rattle.plan_theory.proofs.Settled.{settled-is-plan}
 use Rattle.plan_turns_search.specs.Record.{atSource, atTarget, endOf, keyOf, siteOf, keptByte, SiteInSlices, Over}
 use Rattle.plan_turns_search.specs.Offers.{Site, on, WouldRefuse}
 use Rattle.plan_turns_search.proofs.Offers.{explained}
-use Rattle.plan_turns_search.proofs.Record.{end-from, end-back}
+use Rattle.plan_turns_search.proofs.Record.{end-from, end-back, distinct}
 use Rattle.plan_turns_search.specs.Record.{siteSlicesOf}
 
 -- a count over directions, link by link
@@ -161,7 +161,7 @@ module _ (probes links : ℕ) (needs lows highs costs : List ℕ) (legal : Legal
     -- an offer that does not stand, by its direction d from u to w on the link i
     why : (i u w d : ℕ) → i < links → d / 2 ≡ i → d < 2 * links → endOf lows highs d ≡ u → endOf highs lows d ≡ w → u < probes → (atSource r d ≡ 1 → ⊥)
         → (spare table u ≤ dearerAt table (stand u) i u) ⊎ (spare table w ≤ dearerAt table (held w) i w)
-    why i u w d l e ld eu ew lu n = go (explained site (atSource r) (over .ready .inv) d ld (over .done (endOf lows highs d) (rw eu lu)) n)
+    why i u w d l e ld eu ew lu n = go (explained site (distinct links lows highs costs spares (over .ready .fits)) (atSource r) (over .ready .inv) d ld (over .done (endOf lows highs d) (rw eu lu)) n)
       where
         go : (item spares (endOf lows highs d) ≤ on site (atSource r) (λ f. eqb (endOf lows highs f) (endOf lows highs d) && ltb (keyOf costs d) (keyOf costs f)))
             ⊎ WouldRefuse site (atSource r) d → (spare table u ≤ dearerAt table (stand u) i u) ⊎ (spare table w ≤ dearerAt table (held w) i w)
