@@ -14,7 +14,7 @@ use Rattle.table.specs.Table.{item}
 use Rattle.plan_turns_search.specs.Offers.{Site, holds, dearerHeld, WouldTake, WouldRefuse, OffersInv, Grows, Sought, Cheapest, OfferSearch, HeldSearch}
 use Rattle.plan_turns_search.specs.Record.{endOf, keyOf, siteOf, SiteInSlices, siteSlicesOf}
 use Rattle.plan_turns_search.specs.Chain.{opposite, Below, Follows, DownChains, UpChains, turnedKey}
-use Rattle.plan_turns_search.proofs.Taking.{Distinct, not-taken, refused}
+use Rattle.plan_turns_search.proofs.Taking.{Distinct, not-taken, not-taken-count}
 use Rattle.plan_turns_search.proofs.Record.{end-even, end-odd, distinct}
 
 opposite-even : (d : ℕ) → d % 2 ≡ 0 → opposite d ≡ d + 1
@@ -81,8 +81,8 @@ pub walk-sought : (s : Site) → Distinct s → (o : ℕ → ℕ) → OffersInv 
 walk-sought s laws o i u r h =
     record {
       own = λ l. h .some l .own;
-      top = λ l g lg own z m. refused s o (i .holding) g laws lg z (λ take. let a = h .some l .dearest g lg own z take in omega arith);
-      end = λ l g lg own z. refused s o (i .holding) g laws lg z (h .none l g lg own z);
+      top = λ l g lg own z m. not-taken-count s o (i .holding) g laws lg z (λ take. let a = h .some l .dearest g lg own z take in omega arith);
+      end = λ l g lg own z. not-taken-count s o (i .holding) g laws lg z (h .none l g lg own z);
     }
 
 module _ (links : ℕ) (lows highs costs spares : List ℕ) (fits : SiteInSlices (siteSlicesOf links lows highs costs spares)) where

@@ -10,7 +10,7 @@ use borrow.Author.Tests.{ltb-true, lt-ltb, eqb-true, eq-eqb, ne-eqb}
 use Rattle.range.proofs.Bools.{and-left, and-right, and-intro}
 use Rattle.range.proofs.Sums.{sum-same, sum-add, sum-one, weigh-le}
 use Rattle.plan_turns_search.specs.Offers.{Site, on, stands, holds, dearerAtTarget, dearerHeld, WouldTake, WouldRefuse, NoneLeft, Satisfied, OffersInv, Grows, Made, NextOffer, Cheapest}
-use Rattle.plan_turns_search.proofs.Taking.{Distinct, not-taken, refused}
+use Rattle.plan_turns_search.proofs.Taking.{Distinct, not-taken, not-taken-count}
 
 -- the bit of a direction of q by its byte, where the byte becomes 1, and where it is 1 no more
 one-more : (b : Bool) → cond (b && eqb 1 1) 1 0 ≡ cond (b && eqb 0 1) 1 0 + cond b 1 0
@@ -28,7 +28,7 @@ bit-le false b h = omega arith
 none-grows : (s : Site) → Distinct s → (o o′ : ℕ → ℕ) → OffersInv s o → OffersInv s o′ → (u : ℕ) → Grows s o o′ → NoneLeft s o u → NoneLeft s o′ u
 none-grows s laws o o′ i i′ u g h d l e z =
     let was = g .tried d z in
-    not-taken s o′ (i′ .holding) d (g .refuses d l (refused s o (i .holding) d laws l was (h d l e was)))
+    not-taken s o′ (i′ .holding) d (g .refuses d l (not-taken-count s o (i .holding) d laws l was (h d l e was)))
 
 pub satisfied-made : (s : Site) → Distinct s → (o o′ : ℕ → ℕ) → OffersInv s o → (u : ℕ) → Made s o o′ u → (w : ℕ) → Satisfied s o w → Satisfied s o′ w
 satisfied-made s laws o o′ i u m w (inr h) = inr (none-grows s laws o o′ i (m .inv) w (m .grows) h)
@@ -70,7 +70,7 @@ module _ (s : Site) (laws : Distinct s) (o : ℕ → ℕ) (i : OffersInv s o) (u
           own : f ≡ d → Dec (s .key g < s .key d) → Dec (s .key d < s .key g) → (s .key g < s .key f) ⊎ WouldRefuse s o′ g
           own q (yes a) b = inl (rw q a)
           own q (no a) (yes b) =
-              inr (t .refuses g lg (refused s o (i .holding) g laws lg g-was (λ take. let k = next .dearest g lg (sym e ∙ ap (s .source) q ∙ next .own) g-was take in omega arith)))
+              inr (t .refuses g lg (not-taken-count s o (i .holding) g laws lg g-was (λ take. let k = next .dearest g lg (sym e ∙ ap (s .source) q ∙ next .own) g-was take in omega arith)))
           own q (no a) (no b) =
               absurd (t .tried g g0 .1 (sym (laws .sources d g (next .below) lg (ap (s .source) (sym q) ∙ e) (omega arith))))
 
@@ -314,7 +314,7 @@ explained s laws o i d l end n1 = go end (ℕ-discrete (o d) 0) (decLe (s .spare
         → (s .spare (s .source d) ≤ on s o (λ f. eqb (s .source f) (s .source d) && ltb (s .key d) (s .key f))) ⊎ WouldRefuse s o d
     go e z (yes h) = inr h
     go e (no n) (no h) = inr (i .refused d l n n1)
-    go (inr e) (yes z) (no h) = inr (refused s o (i .holding) d laws l z (e d l refl z))
+    go (inr e) (yes z) (no h) = inr (not-taken-count s o (i .holding) d laws l z (e d l refl z))
     go (inl e) (yes z) (no h) =
         let q : ℕ → Bool = λ f. eqb (s .source f) (s .source d) in
         let k = weigh-le (s .dirs) (λ f. q f && eqb (o f) 1) (λ f. (q f && ltb (s .key d) (s .key f)) && eqb (o f) 1) (λ f. 1)

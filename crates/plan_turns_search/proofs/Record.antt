@@ -15,7 +15,7 @@ use Rattle.range.proofs.Sums.{weigh-le, count-less}
 use Rattle.table.specs.Table.{item, dearerByPlace}
 use Rattle.plan_turns_search.specs.Record.{atSource, atTarget, endOf, keyOf, siteOf, put, untriedCount, SiteInSlices, Paired, SiteSlices, OffersReady, siteSlicesOf}
 use Rattle.plan_turns_search.specs.Offers.{WouldTake, WouldRefuse}
-use Rattle.plan_turns_search.proofs.Taking.{Distinct, not-taken, refused}
+use Rattle.plan_turns_search.proofs.Taking.{Distinct, not-taken, not-taken-count}
 
 pub end-even : (a b : List ℕ) (d : ℕ) → d % 2 ≡ 0 → endOf a b d ≡ item a (d / 2)
 unfolding endOf
@@ -150,5 +150,5 @@ pub would-refuse : (x : SiteSlices) (r : List ℕ) → OffersReady x r → (d : 
     → WouldRefuse (siteOf x) (atSource r) d ↔ (WouldTake (siteOf x) (atSource r) d → ⊥)
 would-refuse x r ready d l z = (
   not-taken (siteOf x) (atSource r) (ready .inv .holding) d,
-  refused (siteOf x) (atSource r) (ready .inv .holding) d (distinct (x .links) (x .lows) (x .highs) (x .costs) (x .spares) (ready .fits)) l z,
+  not-taken-count (siteOf x) (atSource r) (ready .inv .holding) d (distinct (x .links) (x .lows) (x .highs) (x .costs) (x .spares) (ready .fits)) l z,
 )

@@ -50,9 +50,9 @@ module _ (s : Site) (o : ℕ → ℕ) (holding : (v : ℕ) → holds s o v ≤ s
     cheaperOne f g = ltb (s .key f) (s .key g)
 
     -- f is held there and not dearer: then the cheapest held is cheaper than d
-    some-cheaper : (f : ℕ) → f < s .dirs → heldThere f ≡ true → dearerThere f ≡ false → (c : ℕ) → Best cheaperOne heldThere (s .dirs) (s .dirs) c → WouldTake s o d
-    some-cheaper f lf h n c (nobody e none) = absurd (true≢false (sym h ∙ none f lf))
-    some-cheaper f lf h n c (chosen lc hc least) =
+    dearer-taken : (f : ℕ) → f < s .dirs → heldThere f ≡ true → dearerThere f ≡ false → (c : ℕ) → Best cheaperOne heldThere (s .dirs) (s .dirs) c → WouldTake s o d
+    dearer-taken f lf h n c (nobody e none) = absurd (true≢false (sym h ∙ none f lf))
+    dearer-taken f lf h n c (chosen lc hc least) =
         inr (c, record { below = lc; own = at c hc; held = byte c hc; least = λ g lg own e. ltb-false (s .key g) (s .key c) (least g lg (and-intro (eq-eqb (s .target g) (s .target d) own) (eq-eqb (o g) 1 e))) }, cheaper)
       where
         at : (g : ℕ) → heldThere g ≡ true → s .target g ≡ s .target d
@@ -87,14 +87,14 @@ module _ (s : Site) (o : ℕ → ℕ) (holding : (v : ℕ) → holds s o v ≤ s
         go (yes free) = inl free
         go (no full) =
             let m = member-outside (s .dirs) dearerThere heldThere (omega arith) in
-            some-cheaper (m .0) (m .1) (m .2) (m .3) (best cheaperOne heldThere (s .dirs) (s .dirs))
+            dearer-taken (m .0) (m .1) (m .2) (m .3) (best cheaperOne heldThere (s .dirs) (s .dirs))
             (best-is cheaperOne heldThere (s .dirs)
             (λ i k. le-ltb (s .key i) (s .key i) (omega arith))
             (λ i j k li lj lk a b. let x = ltb-true (s .key i) (s .key j) a in let y = ltb-true (s .key j) (s .key k) b in lt-ltb (s .key i) (s .key k) (omega arith))
             (s .dirs) (omega arith))
 
-    pub refused : (WouldTake s o d → ⊥) → WouldRefuse s o d
-    refused n = go (decLe (s .spare (s .target d)) (dearerHeld s o d))
+    pub not-taken-count : (WouldTake s o d → ⊥) → WouldRefuse s o d
+    not-taken-count n = go (decLe (s .spare (s .target d)) (dearerHeld s o d))
       where
         go : Dec (WouldRefuse s o d) → WouldRefuse s o d
         go (yes many) = many
