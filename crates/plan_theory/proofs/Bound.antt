@@ -1,4 +1,4 @@
--- The cost bound: the plan against any choice that meets the needs.
+-- The cost bound: the plan against any choice that meets the needs. With it what demand 3 says of the plan.
 use Prim.Native.Nat.{ℕ, _+_, _*_, _≤_, _<_}
 use mathlib.Core.Path.{_≡_, refl, sym, _∙_}
 use mathlib.Core.Logic.{inl, inr}
@@ -14,9 +14,11 @@ use Rattle.table.specs.Table.{Table, touches, spare, dearer}
 use Rattle.plan_theory.specs.Plan.{linksAt, rested, kept, costOf, without, Meets}
 use Rattle.plan_theory.proofs.Places.{Order, reversed, Last, last, all-before}
 use Rattle.plan_theory.proofs.Order.{dearer-order, Dear, dear, on-dear}
-use Rattle.table.specs.Legal.{LegalTable}
-use Rattle.plan_theory.proofs.Plan.{at-split, at-both, touches-low, touches-high, plan-criterion, rested-fits}
+use Rattle.table.specs.Legal.{Legal, LegalTable}
+use Rattle.table.proofs.LegalLaws.{legal-table}
+use Rattle.plan_theory.proofs.Plan.{at-split, at-both, touches-low, touches-high, plan-criterion, rested-fits, plan-meets}
 use Rattle.plan_theory.specs.Criterion.{dearerAt, UnderSpare}
+use Rattle.plan_theory.specs.Bounds.{PlanBounds}
 
 -- outside the choice, no probe has more links than its spare
 abbrev pub WithinSpare : Table → (ℕ → Bool) → Type 0
@@ -190,3 +192,6 @@ module _ (t : Table) (s : LegalTable 256 2048 t) (choice : ℕ → Bool) (meets 
       let other = weigh-split (t .links) choice (kept t) (t .cost) in
       let both = weigh-same (t .links) (λ i. kept t i && choice i) (λ i. choice i && kept t i) (t .cost) (λ i l. and-comm (kept t i) (choice i)) in
       omega arith
+
+pub plan-bounds : (t : Table) → Legal t → PlanBounds t
+plan-bounds t legal = record { needs-met = plan-meets t legal; cost-twice = bound t (legal-table 256 2048 t legal) }

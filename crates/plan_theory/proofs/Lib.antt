@@ -6,4 +6,3 @@ pub mod Slse
 pub mod Bound
 pub mod Settled
 pub mod Sites
-pub mod Demand2

@@ -1,4 +1,4 @@
--- The plan: its criterion, that nothing else meets the criterion, and that it meets the needs.
+-- The plan: its rule and its criterion, that nothing else meets either, and that it meets the needs.
 use Prim.Native.Nat.{ℕ, _+_, _-_, _≤_, _<_}
 use mathlib.Core.Path.{_≡_, refl, sym, _∙_}
 use mathlib.Core.Logic.{_↔_, _⊎_, inl, inr}
@@ -13,10 +13,10 @@ use Rattle.table.specs.Table.{Table, touches, degree, spare, dearer}
 use Rattle.table.specs.Legal.{Legal, RisingLinks}
 use Rattle.plan_theory.specs.Plan.{linksAt, hasMore, rested, kept, Meets}
 use Rattle.plan_theory.proofs.Places.{bounded}
-use Rattle.plan_theory.proofs.Pass.{OnlyBelow, Solves, criterion, only-pass}
+use Rattle.plan_theory.proofs.Pass.{OnlyBelow, criterion, only-pass}
 use Rattle.plan_theory.proofs.Order.{dearer-order}
 use Rattle.table.proofs.LegalLaws.{legal-table}
-use Rattle.plan_theory.specs.Criterion.{UnderSpare, Criterion}
+use Rattle.plan_theory.specs.Criterion.{dearerIn, PlanRule, UnderSpare, Criterion}
 
 module _ (t : Table) where
   -- sets with the same links have as many at v
@@ -69,23 +69,31 @@ module _ (t : Table) where
         λ f. and-intro (under-more s (t .low i) (f .0)) (under-more s (t .high i) (f .1)),
       )
 
-  pub by-test : (r : ℕ → Bool) → Solves (t .links) (dearer t) bothMore r → Criterion t r
-  by-test r h i l =
-      let both = test-under (λ g. dearer t g i && r g) i in
+  -- the rule and the criterion say the same of every set
+  rule-criterion : (r : ℕ → Bool) → PlanRule t r → Criterion t r
+  rule-criterion r h i l =
+      let both = test-under (dearerIn t r i) i in
       (λ e. both .0 (sym (h i l) ∙ e), λ f. h i l ∙ both .1 f)
 
+  criterion-rule : (r : ℕ → Bool) → Criterion t r → PlanRule t r
+  criterion-rule r c i l =
+      let both = test-under (dearerIn t r i) i in
+      same-bool (r i) (bothMore (dearerIn t r i) i) (λ e. both .1 (c i l .0 e)) (λ e. c i l .1 (both .0 e))
+
 module _ (t : Table) (rises : RisingLinks t) where
-  pub plan-criterion : Criterion t (rested t)
+  pub plan-rule : PlanRule t (rested t)
   unfolding rested
-  plan-criterion = by-test t (rested t) (criterion (t .links) (dearer t) (dearer-order t rises) (bothMore t) (more-below t))
+  plan-rule = criterion (t .links) (dearer t) (dearer-order t rises) (bothMore t) (more-below t)
+
+  pub only-by-rule : (r : ℕ → Bool) → PlanRule t r → (i : ℕ) → i < t .links → r i ≡ rested t i
+  unfolding rested
+  only-by-rule r h = only-pass (t .links) (dearer t) (dearer-order t rises) (bothMore t) (more-below t) r h
+
+  pub plan-criterion : Criterion t (rested t)
+  plan-criterion = rule-criterion t (rested t) plan-rule
 
   pub plan-unique : (r : ℕ → Bool) → Criterion t r → (i : ℕ) → i < t .links → r i ≡ rested t i
-  unfolding rested
-  plan-unique r c =
-      only-pass (t .links) (dearer t) (dearer-order t rises) (bothMore t) (more-below t) r
-      (λ i l.
-      let both = test-under t (λ g. dearer t g i && r g) i in
-      same-bool (r i) (bothMore t (λ g. dearer t g i && r g) i) (λ e. both .1 (c i l .0 e)) (λ e. c i l .1 (both .0 e)))
+  plan-unique r c = only-by-rule r (criterion-rule t r c)
 
   -- a rested link has fewer dearer ones at each end than the spare
   pub rested-at : (i v : ℕ) → i < t .links → rested t i ≡ true → touches t v i ≡ true → UnderSpare t (rested t) i v

@@ -15,7 +15,7 @@ use Rattle.plan_theory.proofs.Places.{Order, reversed, Side, here, earl
 use Rattle.plan_theory.proofs.Pass.{Solves, criterion}
 use Rattle.plan_theory.proofs.Order.{dearer-order}
 use Rattle.table.specs.Legal.{RisingLinks}
-use Rattle.plan_theory.proofs.Plan.{at-same, at-end, touches-low, touches-high, bothMore, by-test, plan-unique}
+use Rattle.plan_theory.proofs.Plan.{at-same, at-end, touches-low, touches-high, bothMore, only-by-rule}
 
 -- One link in five sets: at the probe, added, removed, dearer, cheaper.
 point : (at a r d u : Bool) → (r ≡ true → a ≡ true) → (a ≡ false → u ≡ not d)
@@ -177,4 +177,4 @@ module _ (t : Table) (rises : RisingLinks t) where
 
   pub slse-is-plan : (i : ℕ) → i < t .links → slse t i ≡ kept t i
   unfolding dropped
-  slse-is-plan i l = sym (Bool·not-not (slse t i)) ∙ ap not (plan-unique t rises dropped (by-test t dropped dropped-by) i l)
+  slse-is-plan i l = sym (Bool·not-not (slse t i)) ∙ ap not (only-by-rule t rises dropped dropped-by i l)

@@ -1,14 +1,23 @@
--- What the rested links are, without going through them: by the spares of both ends, and by settled offers.
+-- What the rested links are, without going through them: by those that are dearer, by the spares of both ends, and by settled offers.
 use Prim.Native.Nat.{ℕ, _≤_, _<_}
 use mathlib.Core.Path.{_≡_}
 use mathlib.Core.Logic.{_↔_, _⊎_}
 use mathlib.Core.Bool.{Bool, true, false, _&&_}
 use Rattle.table.specs.Table.{Table, spare, dearer}
-use Rattle.plan_theory.specs.Plan.{linksAt}
+use Rattle.plan_theory.specs.Plan.{linksAt, hasMore}
+
+-- the links of r that are dearer than i
+abbrev pub dearerIn : Table → (ℕ → Bool) → ℕ → ℕ → Bool
+dearerIn t r i g = dearer t g i && r g
+
+-- "gone through from dearest to cheapest .. a link is rested exactly when both ends still have more links than they need": with r the rested links, and those of r that are dearer rested before.
+-- The plan's rested links do so (`plan-rule`), and no other set does
+abbrev pub PlanRule : Table → (ℕ → Bool) → Type 0
+PlanRule t r = (i : ℕ) → i < t .links → r i ≡ (hasMore t (dearerIn t r i) (t .low i) && hasMore t (dearerIn t r i) (t .high i))
 
 -- how many links of r at v are dearer than i
 abbrev pub dearerAt : Table → (ℕ → Bool) → ℕ → ℕ → ℕ
-dearerAt t r i v = linksAt t (λ g. dearer t g i && r g) v
+dearerAt t r i v = linksAt t (dearerIn t r i) v
 
 -- fewer than the spare of v
 abbrev pub UnderSpare : Table → (ℕ → Bool) → ℕ → ℕ → Type 0

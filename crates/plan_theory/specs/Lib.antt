@@ -2,4 +2,4 @@ pub mod Pass
 pub mod Plan
 pub mod Criterion
 pub mod Sites
-pub mod Demand2
+pub mod Bounds

@@ -1,6 +1,7 @@
 -- Searches along a probe's chains: down its links, and up its held offers.
 use Prim.Native.Nat.{ℕ, _+_, _-_, _*_, _/_, _%_, _≤_, _<_}
 use mathlib.Core.Path.{_≡_, sym, _∙_, ap}
+use mathlib.Core.Logic.{inl, inr}
 use mathlib.Core.Bool.{Bool, true, cond, _&&_}
 use mathlib.Core.List.{List, []}
 use native.Mathlib.Omega.{arith}
@@ -10,9 +11,10 @@ use borrow.Author.Tests.{lt-ltb, le-ltb, eqb-true, eq-eqb, ne-eqb}
 use Rattle.range.proofs.Bools.{and-left, and-right, and-intro}
 use Rattle.range.proofs.Sums.{weigh-le, count-less, member}
 use Rattle.table.specs.Table.{item}
-use Rattle.plan_turns_search.specs.Offers.{Site, holds, dearerHeld, WouldRefuse, OffersInv, Grows, Sought, Cheapest, OfferSearch, HeldSearch}
+use Rattle.plan_turns_search.specs.Offers.{Site, holds, dearerHeld, WouldTake, WouldRefuse, OffersInv, Grows, Sought, Cheapest, OfferSearch, HeldSearch}
 use Rattle.plan_turns_search.specs.Record.{endOf, keyOf, siteOf, SiteInSlices, siteSlicesOf}
 use Rattle.plan_turns_search.specs.Chain.{opposite, Below, Follows, DownChains, UpChains, turnedKey}
+use Rattle.plan_turns_search.proofs.Taking.{Distinct, not-taken, not-taken-count}
 use Rattle.plan_turns_search.proofs.Record.{end-even, end-odd, distinct}
 
 opposite-even : (d : ℕ) → d % 2 ≡ 0 → opposite d ≡ d + 1
@@ -75,8 +77,13 @@ pub held-grows : (s : Site) (o o′ : ℕ → ℕ) → Grows s o o′ → (v f :
 held-grows s o o′ grows v f h =
     record { below = h .below; own = h .own; low = λ g lg at m. grows .refuses g lg (h .low g lg at m) }
 
-pub walk-sought : (s : Site) (o : ℕ → ℕ) (u r : ℕ) → Sought s o u r → OfferSearch s o u r
-walk-sought s o u r h = record { own = λ l. h .some l .own; top = λ l. h .some l .dearest; end = h .none }
+pub walk-sought : (s : Site) → Distinct s → (o : ℕ → ℕ) → OffersInv s o → (u r : ℕ) → Sought s o u r → OfferSearch s o u r
+walk-sought s laws o i u r h =
+    record {
+      own = λ l. h .some l .own;
+      top = λ l g lg own z m. not-taken-count s o (i .holding) g laws lg z (λ take. let a = h .some l .dearest g lg own z take in omega arith);
+      end = λ l g lg own z. not-taken-count s o (i .holding) g laws lg z (h .none l g lg own z);
+    }
 
 module _ (links : ℕ) (lows highs costs spares : List ℕ) (fits : SiteInSlices (siteSlicesOf links lows highs costs spares)) where
   abbrev site : Site
@@ -127,15 +134,20 @@ module _ (links : ℕ) (lows highs costs spares : List ℕ) (fits : SiteInSlices
             let e : g ≡ d = distinct links lows highs costs spares fits .sources g d lg l (own ∙ sym (w .own l)) (omega arith) in
             rw e (past (sym (ap o e) ∙ z))
 
-    pub walk-found : (d : ℕ) → d < 2 * links → OfferSearch site o u d → o d ≡ 0 → dearerHeld site o d < item spares (endOf highs lows d) → Sought site o u d
-    walk-found d l w z free =
+    pub walk-found : OffersInv site o → (d : ℕ) → d < 2 * links → OfferSearch site o u d → o d ≡ 0 → WouldTake site o d → Sought site o u d
+    walk-found inv d l w z take =
         record {
-          some = λ k. record { below = l; own = w .own l; untried = z; wanted = free; dearest = w .top l };
+          some = λ k. record { below = l; own = w .own l; untried = z; wanted = take; dearest = λ g lg own y t. most g lg own y t (decLt (keyOf costs d) (keyOf costs g)) };
           none = λ k. absurd (omega arith);
         }
+      where
+        most : (g : ℕ) → g < 2 * links → endOf lows highs g ≡ u → o g ≡ 0 → WouldTake site o g → Dec (keyOf costs d < keyOf costs g) → keyOf costs g ≤ keyOf costs d
+        most g lg own y t (yes m) = absurd (not-taken site o (inv .holding) g (w .top l g lg own y m) t)
+        most g lg own y t (no m) = omega arith
 
-    pub walk-end : (e : ℕ) → 2 * links ≤ e → OfferSearch site o u e → Sought site o u (2 * links)
-    walk-end e l w = record { some = λ k. absurd (omega arith); none = λ k. w .end l }
+    pub walk-end : OffersInv site o → (e : ℕ) → 2 * links ≤ e → OfferSearch site o u e → Sought site o u (2 * links)
+    walk-end inv e l w =
+        record { some = λ k. absurd (omega arith); none = λ k g lg own z. not-taken site o (inv .holding) g (w .end l g lg own z) }
 
   -- the offers that v holds, of which f's opposite may be the cheapest
   module _ (o : ℕ → ℕ) (inv : OffersInv site o) (v : ℕ) where
@@ -169,11 +181,8 @@ module _ (links : ℕ) (lows highs costs spares : List ℕ) (fits : SiteInSlices
         let b = inv .holding v in
         omega arith
 
-    pub taken-free : (d n : ℕ) → endOf highs lows d ≡ v → n ≡ holds site o v → n < item spares v → dearerHeld site o d < item spares (endOf highs lows d)
-    taken-free d n at e m =
-        let a = weigh-le (2 * links) (dearer-one d) holder (λ g. 1) (λ j l h. dearer-held d at j h) in
-        let b = ap (item spares) at in
-        omega arith
+    pub taken-free : (d n : ℕ) → endOf highs lows d ≡ v → n ≡ holds site o v → n < item spares v → WouldTake site o d
+    taken-free d n at e m = inl (rw at (omega arith))
 
     pub held-at : 0 < holds site o v → (f : ℕ) → ((d : ℕ) → d < 2 * links → endOf highs lows d ≡ v → HeldSearch site o v f) → HeldSearch site o v f
     held-at some f h = let m = member (2 * links) holder some in h (m .0) (m .1) (holder-at (m .0) (m .2))
@@ -209,11 +218,8 @@ module _ (links : ℕ) (lows highs costs spares : List ℕ) (fits : SiteInSlices
           least g lg own h (yes m) = absurd (not-below g lg own h m)
           least g lg own h (no m) = let a = back-key in omega arith
 
-      pub held-wanted : (d : ℕ) → endOf highs lows d ≡ v → keyOf costs f < keyOf costs d → o (opposite f) ≡ 1 → dearerHeld site o d < item spares (endOf highs lows d)
-      held-wanted d at m e =
-          let a = some-cheaper d at (opposite f) back-below back-at e (let k = back-key in omega arith) in
-          let b = ap (item spares) at in
-          omega arith
+      pub held-wanted : (d : ℕ) → endOf highs lows d ≡ v → keyOf costs f < keyOf costs d → o (opposite f) ≡ 1 → WouldTake site o d
+      held-wanted d at m e = inr (opposite f, rw at (held-cheapest e), let k = back-key in omega arith)
 
       module _ (full : item spares v ≤ holds site o v) where
         -- v holds nothing as cheap as d

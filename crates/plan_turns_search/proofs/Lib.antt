@@ -1,3 +1,4 @@
+pub mod Taking
 pub mod Offers
 pub mod Record
 pub mod MarkLaws

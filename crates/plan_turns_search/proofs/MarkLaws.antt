@@ -7,8 +7,9 @@ use native.Mathlib.Decide.{ℕ-discrete}
 use lib.ListN.{length, set, length-set}
 use lib.Seq.{getD-set-same, getD-set-other}
 use Rattle.table.specs.Table.{item}
-use Rattle.plan_turns_search.specs.Record.{atSource, endOf, siteOf, mark, FirstMarks, MarksAgree}
+use Rattle.plan_turns_search.specs.Record.{atSource, endOf, siteOf, OffersReady, mark, FirstMarks, MarksAgree}
 use Rattle.plan_turns_search.specs.Offers.{Site, Sought, HeldSearch, OfferSearch}
+use Rattle.plan_turns_search.proofs.Record.{distinct}
 use Rattle.plan_turns_search.proofs.Chain.{walk-sought}
 use Rattle.plan_turns_search.specs.Record.{siteSlicesOf}
 
@@ -62,13 +63,13 @@ module _ (links : ℕ) (lows highs costs spares r marks : List ℕ) (k : MarksAg
   abbrev site : Site
   site = siteOf (siteSlicesOf links lows highs costs spares)
 
-  pub cursor-moved : (u d : ℕ) → u < length spares → Sought site (atSource r) u d → (marks′ : List ℕ) → marks′ ≡ set marks (4 * u + 2) d → MarksAgree (siteSlicesOf links lows highs costs spares) r marks′
-  cursor-moved u d l s marks′ e =
+  pub cursor-moved : OffersReady (siteSlicesOf links lows highs costs spares) r → (u d : ℕ) → u < length spares → Sought site (atSource r) u d → (marks′ : List ℕ) → marks′ ≡ set marks (4 * u + 2) d → MarksAgree (siteSlicesOf links lows highs costs spares) r marks′
+  cursor-moved ready u d l s marks′ e =
       record {
         room = room-kept marks marks′ (4 * length spares) (4 * u + 2) d e (k .room);
         standing = λ w m. rw (mark-other marks marks′ u 2 d w 0 e (omega arith) (omega arith) (λ z. omega arith)) (k .standing w m);
         held = λ w m. rw (mark-other marks marks′ u 2 d w 1 e (omega arith) (omega arith) (λ z. omega arith)) (k .held w m);
-        cursors = mark-column (OfferSearch site (atSource r)) (OfferSearch site (atSource r)) (length spares) 2 marks marks′ u d e (omega arith) (k .room) l (walk-sought site (atSource r) u d s) (λ w m z a. a) (k .cursors);
+        cursors = mark-column (OfferSearch site (atSource r)) (OfferSearch site (atSource r)) (length spares) 2 marks marks′ u d e (omega arith) (k .room) l (walk-sought site (distinct links lows highs costs spares (ready .fits)) (atSource r) (ready .inv) u d s) (λ w m z a. a) (k .cursors);
         lasts = λ w m. rw (mark-other marks marks′ u 2 d w 3 e (omega arith) (omega arith) (λ z. omega arith)) (k .lasts w m);
       }
 

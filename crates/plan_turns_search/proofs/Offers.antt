@@ -2,15 +2,15 @@
 use Prim.Native.Nat.{ℕ, _+_, _≤_, _<_}
 use mathlib.Core.Path.{_≡_, refl, sym, _∙_, ap}
 use mathlib.Core.Logic.{_⊎_, inl, inr}
-use mathlib.Core.Bool.{Bool, true, false, cond, _&&_, true≢false}
+use mathlib.Core.Bool.{Bool, true, false, cond, _&&_}
 use native.Mathlib.Omega.{arith}
 use native.Mathlib.Decide.{decLe, decLt, ℕ-discrete}
 use lib.Dec.{ltb, eqb}
-use borrow.Author.Tests.{ltb-true, ltb-false, lt-ltb, eqb-true, eq-eqb, ne-eqb}
-use Rattle.range.proofs.Bools.{and-left, and-right, and-intro, decided}
-use Rattle.range.proofs.Counts.{member-outside}
+use borrow.Author.Tests.{ltb-true, lt-ltb, eqb-true, eq-eqb, ne-eqb}
+use Rattle.range.proofs.Bools.{and-left, and-right, and-intro}
 use Rattle.range.proofs.Sums.{sum-same, sum-add, sum-one, weigh-le}
-use Rattle.plan_turns_search.specs.Offers.{Site, on, stands, holds, dearerAtTarget, dearerHeld, WouldRefuse, NoneLeft, Satisfied, OffersInv, Grows, Made, NextOffer, Cheapest}
+use Rattle.plan_turns_search.specs.Offers.{Site, on, stands, holds, dearerAtTarget, dearerHeld, WouldTake, WouldRefuse, NoneLeft, Satisfied, OffersInv, Grows, Made, NextOffer, Cheapest}
+use Rattle.plan_turns_search.proofs.Taking.{Distinct, not-taken, not-taken-count}
 
 -- the bit of a direction of q by its byte, where the byte becomes 1, and where it is 1 no more
 one-more : (b : Bool) → cond (b && eqb 1 1) 1 0 ≡ cond (b && eqb 0 1) 1 0 + cond b 1 0
@@ -25,17 +25,14 @@ bit-le : (a b : Bool) → (a ≡ true → b ≡ true) → cond a 1 0 ≤ cond b 
 bit-le true b h = rw (h refl) (omega arith)
 bit-le false b h = omega arith
 
--- equal source, or target, and equal key: one direction
-pub record Distinct (s : Site) : Type 0 where
-  pub sources : (f g : ℕ) → f < s .dirs → g < s .dirs → s .source f ≡ s .source g → s .key f ≡ s .key g → f ≡ g
-  pub targets : (f g : ℕ) → f < s .dirs → g < s .dirs → s .target f ≡ s .target g → s .key f ≡ s .key g → f ≡ g
+none-grows : (s : Site) → Distinct s → (o o′ : ℕ → ℕ) → OffersInv s o → OffersInv s o′ → (u : ℕ) → Grows s o o′ → NoneLeft s o u → NoneLeft s o′ u
+none-grows s laws o o′ i i′ u g h d l e z =
+    let was = g .tried d z in
+    not-taken s o′ (i′ .holding) d (g .refuses d l (not-taken-count s o (i .holding) d laws l was (h d l e was)))
 
-none-grows : (s : Site) (o o′ : ℕ → ℕ) (u : ℕ) → Grows s o o′ → NoneLeft s o u → NoneLeft s o′ u
-none-grows s o o′ u g h d l e z = g .refuses d l (h d l e (g .tried d z))
-
-pub satisfied-made : (s : Site) (o o′ : ℕ → ℕ) (u : ℕ) → Made s o o′ u → (w : ℕ) → Satisfied s o w → Satisfied s o′ w
-satisfied-made s o o′ u m w (inr h) = inr (none-grows s o o′ w (m .grows) h)
-satisfied-made s o o′ u m w (inl h) = go (m .more w)
+pub satisfied-made : (s : Site) → Distinct s → (o o′ : ℕ → ℕ) → OffersInv s o → (u : ℕ) → Made s o o′ u → (w : ℕ) → Satisfied s o w → Satisfied s o′ w
+satisfied-made s laws o o′ i u m w (inr h) = inr (none-grows s laws o o′ i (m .inv) w (m .grows) h)
+satisfied-made s laws o o′ i u m w (inl h) = go (m .more w)
   where
     go : (stands s o w + cond (eqb u w) 1 0 ≤ stands s o′ w) ⊎ NoneLeft s o′ w → Satisfied s o′ w
     go (inl a) = inl (omega arith)
@@ -72,7 +69,8 @@ module _ (s : Site) (laws : Distinct s) (o : ℕ → ℕ) (i : OffersInv s o) (u
 
           own : f ≡ d → Dec (s .key g < s .key d) → Dec (s .key d < s .key g) → (s .key g < s .key f) ⊎ WouldRefuse s o′ g
           own q (yes a) b = inl (rw q a)
-          own q (no a) (yes b) = inr (t .refuses g lg (next .dearest g lg (sym e ∙ ap (s .source) q ∙ next .own) g-was b))
+          own q (no a) (yes b) =
+              inr (t .refuses g lg (not-taken-count s o (i .holding) g laws lg g-was (λ take. let k = next .dearest g lg (sym e ∙ ap (s .source) q ∙ next .own) g-was take in omega arith)))
           own q (no a) (no b) =
               absurd (t .tried g g0 .1 (sym (laws .sources d g (next .below) lg (ap (s .source) (sym q) ∙ e) (omega arith))))
 
@@ -178,27 +176,13 @@ module _ (s : Site) (laws : Distinct s) (o : ℕ → ℕ) (i : OffersInv s o) (u
         part f (no n) (no g) = rw (ne-eqb f d n, ne-eqb f c g, rest f n g)
 
     cheaper : s .key c < s .key d
-    cheaper = go (member-outside (s .dirs) (λ f. dearerAtTarget s d f && eqb (o f) 1) (λ f. eqb (s .target f) (s .target d) && eqb (o f) 1) (let a = next .wanted in omega arith))
+    cheaper = go (next .wanted)
       where
-        go : (f : ℕ) × (f < s .dirs) × ((eqb (s .target f) (s .target d) && eqb (o f) 1) ≡ true) × ((dearerAtTarget s d f && eqb (o f) 1) ≡ false) → s .key c < s .key d
-        go (f, l, h, n) = last (decided (ltb (s .key d) (s .key f)))
-          where
-            at : eqb (s .target f) (s .target d) ≡ true
-            at = and-left (eqb (s .target f) (s .target d)) (eqb (o f) 1) h
-
-            byte : eqb (o f) 1 ≡ true
-            byte = and-right (eqb (s .target f) (s .target d)) (eqb (o f) 1) h
-
-            last : (ltb (s .key d) (s .key f) ≡ true) ⊎ (ltb (s .key d) (s .key f) ≡ false) → s .key c < s .key d
-            last (inl a) = absurd (true≢false (sym (and-intro (and-intro at a) byte) ∙ n))
-            last (inr a) =
-                let b = ltb-false (s .key d) (s .key f) a in
-                let m = low .least f l (eqb-true (s .target f) (s .target d) at) (eqb-true (o f) 1 byte) in
-                less (decLt (s .key c) (s .key d)) (omega arith)
-              where
-                less : Dec (s .key c < s .key d) → s .key c ≤ s .key d → s .key c < s .key d
-                less (yes a) b = a
-                less (no a) b = absurd (apart (laws .targets d c (next .below) (low .below) (sym (low .own)) (omega arith)))
+        go : WouldTake s o d → s .key c < s .key d
+        go (inl free) = absurd (omega arith)
+        go (inr (f, least, less)) =
+            let m = low .least f (least .below) (least .own) (least .held) in
+            omega arith
 
     refuses-kept : (e : ℕ) → e < s .dirs → WouldRefuse s o e → WouldRefuse s o′ e
     refuses-kept e l h =
@@ -322,15 +306,15 @@ module _ (s : Site) (laws : Distinct s) (o : ℕ → ℕ) (i : OffersInv s o) (u
         more w (inr a) = inr a
 
 -- at the end each offer that does not stand is explained
-pub explained : (s : Site) (o : ℕ → ℕ) → OffersInv s o → (d : ℕ) → d < s .dirs → Satisfied s o (s .source d) → (o d ≡ 1 → ⊥)
+pub explained : (s : Site) → Distinct s → (o : ℕ → ℕ) → OffersInv s o → (d : ℕ) → d < s .dirs → Satisfied s o (s .source d) → (o d ≡ 1 → ⊥)
     → (s .spare (s .source d) ≤ on s o (λ f. eqb (s .source f) (s .source d) && ltb (s .key d) (s .key f))) ⊎ WouldRefuse s o d
-explained s o i d l end n1 = go end (ℕ-discrete (o d) 0) (decLe (s .spare (s .target d)) (dearerHeld s o d))
+explained s laws o i d l end n1 = go end (ℕ-discrete (o d) 0) (decLe (s .spare (s .target d)) (dearerHeld s o d))
   where
     go : Satisfied s o (s .source d) → Dec (o d ≡ 0) → Dec (WouldRefuse s o d)
         → (s .spare (s .source d) ≤ on s o (λ f. eqb (s .source f) (s .source d) && ltb (s .key d) (s .key f))) ⊎ WouldRefuse s o d
     go e z (yes h) = inr h
     go e (no n) (no h) = inr (i .refused d l n n1)
-    go (inr e) (yes z) (no h) = inr (e d l refl z)
+    go (inr e) (yes z) (no h) = inr (not-taken-count s o (i .holding) d laws l z (e d l refl z))
     go (inl e) (yes z) (no h) =
         let q : ℕ → Bool = λ f. eqb (s .source f) (s .source d) in
         let k = weigh-le (s .dirs) (λ f. q f && eqb (o f) 1) (λ f. (q f && ltb (s .key d) (s .key f)) && eqb (o f) 1) (λ f. 1)

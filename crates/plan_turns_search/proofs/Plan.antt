@@ -23,10 +23,10 @@ use Rattle.plan_theory.proofs.Order.{dear, on-dear, Dear}
 use Rattle.table.proofs.LegalLaws.{legal-table}
 use Rattle.plan_theory.specs.Criterion.{dearerAt, Across, up, down, Settled}
 use Rattle.plan_theory.proofs.Settled.{settled-is-plan}
-use Rattle.plan_turns_search.specs.Record.{atSource, atTarget, endOf, keyOf, siteOf, keptByte, SiteInSlices, Over}
+use Rattle.plan_turns_search.specs.Record.{atSource, atTarget, endOf, keyOf, siteOf, SiteOfTable, keptByte, SiteInSlices, Over}
 use Rattle.plan_turns_search.specs.Offers.{Site, on, WouldRefuse}
 use Rattle.plan_turns_search.proofs.Offers.{explained}
-use Rattle.plan_turns_search.proofs.Record.{end-from, end-back}
+use Rattle.plan_turns_search.proofs.Record.{end-from, end-back, distinct}
 use Rattle.plan_turns_search.specs.Record.{siteSlicesOf}
 
 -- a count over directions, link by link
@@ -94,6 +94,35 @@ module _ (probes links : ℕ) (needs lows highs costs : List ℕ) (legal : Legal
   pub ends : (i : ℕ) → i < links → Ends probes (item lows i) (item highs i)
   ends = good .ends
 
+  -- the keys' order is the table's
+  key-dearer : (d f : ℕ) → d < 2 * links → f < 2 * links → ltb (keyOf costs d) (keyOf costs f) ≡ dearer table (f / 2) (d / 2)
+  unfolding keyOf
+  key-dearer d f ld lf =
+      same-bool (ltb (item costs (d / 2) * 65536 + d / 2) (item costs (f / 2) * 65536 + f / 2)) (dearer table (f / 2) (d / 2))
+      (λ e. on-dear table (good .order) (f / 2) (d / 2) (omega arith) (omega arith) (more (ltb-true _ _ e) (decLt (item costs (d / 2)) (item costs (f / 2)))))
+      (λ e. lt-ltb _ _ (less (dear table (good .order) (f / 2) (d / 2) (omega arith) (omega arith) e)))
+    where
+      few : links ≤ 2048
+      few = small .1
+
+      more : item costs (d / 2) * 65536 + d / 2 < item costs (f / 2) * 65536 + f / 2 → Dec (item costs (d / 2) < item costs (f / 2)) → Dear table (f / 2) (d / 2)
+      more l (yes a) = inl a
+      more l (no a) = let k = few in inr (omega arith)
+
+      less : Dear table (f / 2) (d / 2) → item costs (d / 2) * 65536 + d / 2 < item costs (f / 2) * 65536 + f / 2
+      less (inl a) = let k = few in omega arith
+      less (inr a) = omega arith
+
+  pub site-of-table : (spares : List ℕ) → ((v : ℕ) → item spares v ≡ spare table v) → SiteOfTable table (siteOf (siteSlicesOf links lows highs costs spares))
+  site-of-table spares right =
+      record {
+        both = refl;
+        up = λ i l. (end-from lows highs i, end-from highs lows i);
+        down = λ i l. (end-back lows highs i, end-back highs lows i);
+        order = key-dearer;
+        spares = right;
+      }
+
   pub fits : (spares : List ℕ) → length spares ≡ 256 → links ≤ length lows → links ≤ length highs → links ≤ length costs → ((i : ℕ) → item costs i < 65536) → SiteInSlices (siteSlicesOf links lows highs costs spares)
   fits spares e a b d cheap =
       record {
@@ -133,25 +162,6 @@ module _ (probes links : ℕ) (needs lows highs costs : List ℕ) (legal : Legal
     all-of : (e : ℕ → ℕ) (v : ℕ) → on site (atSource r) (λ f. eqb (e f) v) ≡ count (2 * links) (λ f. (eqb (e f) v && true) && eqb (atSource r f) 1)
     all-of e v = weigh-same (2 * links) (λ f. eqb (e f) v && eqb (atSource r f) 1) (λ f. (eqb (e f) v && true) && eqb (atSource r f) 1) (λ f. 1) (λ f l. rw (and-true (eqb (e f) v)))
 
-    -- the keys' order is the table's
-    key-dearer : (d f : ℕ) → d < 2 * links → f < 2 * links → ltb (keyOf costs d) (keyOf costs f) ≡ dearer table (f / 2) (d / 2)
-    unfolding keyOf
-    key-dearer d f ld lf =
-        same-bool (ltb (item costs (d / 2) * 65536 + d / 2) (item costs (f / 2) * 65536 + f / 2)) (dearer table (f / 2) (d / 2))
-        (λ e. on-dear table (good .order) (f / 2) (d / 2) (omega arith) (omega arith) (more (ltb-true _ _ e) (decLt (item costs (d / 2)) (item costs (f / 2)))))
-        (λ e. lt-ltb _ _ (less (dear table (good .order) (f / 2) (d / 2) (omega arith) (omega arith) e)))
-      where
-        few : links ≤ 2048
-        few = small .1
-
-        more : item costs (d / 2) * 65536 + d / 2 < item costs (f / 2) * 65536 + f / 2 → Dec (item costs (d / 2) < item costs (f / 2)) → Dear table (f / 2) (d / 2)
-        more l (yes a) = inl a
-        more l (no a) = let k = few in inr (omega arith)
-
-        less : Dear table (f / 2) (d / 2) → item costs (d / 2) * 65536 + d / 2 < item costs (f / 2) * 65536 + f / 2
-        less (inl a) = let k = few in omega arith
-        less (inr a) = omega arith
-
     dearer-of : (e : ℕ → ℕ) (v d : ℕ) → d < 2 * links
         → on site (atSource r) (λ f. eqb (e f) v && ltb (keyOf costs d) (keyOf costs f)) ≡ count (2 * links) (λ f. (eqb (e f) v && dearer table (f / 2) (d / 2)) && eqb (atSource r f) 1)
     dearer-of e v d l =
@@ -161,7 +171,7 @@ module _ (probes links : ℕ) (needs lows highs costs : List ℕ) (legal : Legal
     -- an offer that does not stand, by its direction d from u to w on the link i
     why : (i u w d : ℕ) → i < links → d / 2 ≡ i → d < 2 * links → endOf lows highs d ≡ u → endOf highs lows d ≡ w → u < probes → (atSource r d ≡ 1 → ⊥)
         → (spare table u ≤ dearerAt table (stand u) i u) ⊎ (spare table w ≤ dearerAt table (held w) i w)
-    why i u w d l e ld eu ew lu n = go (explained site (atSource r) (over .ready .inv) d ld (over .done (endOf lows highs d) (rw eu lu)) n)
+    why i u w d l e ld eu ew lu n = go (explained site (distinct links lows highs costs spares (over .ready .fits)) (atSource r) (over .ready .inv) d ld (over .done (endOf lows highs d) (rw eu lu)) n)
       where
         go : (item spares (endOf lows highs d) ≤ on site (atSource r) (λ f. eqb (endOf lows highs f) (endOf lows highs d) && ltb (keyOf costs d) (keyOf costs f)))
             ⊎ WouldRefuse site (atSource r) d → (spare table u ≤ dearerAt table (stand u) i u) ⊎ (spare table w ≤ dearerAt table (held w) i w)

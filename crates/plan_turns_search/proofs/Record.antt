@@ -1,6 +1,7 @@
 -- Laws of the working bytes and of the site that the slices give.
 use Prim.Native.Nat.{ℕ, _+_, _*_, _/_, _%_, _≤_, _<_}
 use mathlib.Core.Path.{_≡_, sym, _∙_, ap}
+use mathlib.Core.Logic.{_↔_}
 use mathlib.Core.Bool.{true, or-false}
 use mathlib.Core.List.{List}
 use native.Mathlib.Omega.{arith}
@@ -12,8 +13,9 @@ use borrow.Author.Tests.{ltb-true, lt-ltb, eqb-true, eq-eqb, ne-eqb, le-ltb}
 use Rattle.range.proofs.Bools.{same-bool}
 use Rattle.range.proofs.Sums.{weigh-le, count-less}
 use Rattle.table.specs.Table.{item, dearerByPlace}
-use Rattle.plan_turns_search.specs.Record.{atSource, atTarget, endOf, keyOf, siteOf, put, untriedCount, SiteInSlices, Paired, siteSlicesOf}
-use Rattle.plan_turns_search.proofs.Offers.{Distinct}
+use Rattle.plan_turns_search.specs.Record.{atSource, atTarget, endOf, keyOf, siteOf, put, untriedCount, SiteInSlices, Paired, SiteSlices, OffersReady, siteSlicesOf}
+use Rattle.plan_turns_search.specs.Offers.{WouldTake, WouldRefuse}
+use Rattle.plan_turns_search.proofs.Taking.{Distinct, not-taken, not-taken-count}
 
 pub end-even : (a b : List ℕ) (d : ℕ) → d % 2 ≡ 0 → endOf a b d ≡ item a (d / 2)
 unfolding endOf
@@ -142,3 +144,11 @@ module _ (links : ℕ) (lows highs costs spares : List ℕ) (fits : SiteInSlices
           let a = fits .rises (d / 2) (omega arith) in
           let b = fits .ends (d / 2) (omega arith) in
           rw (end-odd highs lows d n) (omega arith)
+
+-- an untried offer would not be taken exactly when its target holds its spare of dearer ones
+pub would-refuse : (x : SiteSlices) (r : List ℕ) → OffersReady x r → (d : ℕ) → d < 2 * x .links → atSource r d ≡ 0
+    → WouldRefuse (siteOf x) (atSource r) d ↔ (WouldTake (siteOf x) (atSource r) d → ⊥)
+would-refuse x r ready d l z = (
+  not-taken (siteOf x) (atSource r) (ready .inv .holding) d,
+  not-taken-count (siteOf x) (atSource r) (ready .inv .holding) d (distinct (x .links) (x .lows) (x .highs) (x .costs) (x .spares) (ready .fits)) l z,
+)

@@ -13,6 +13,7 @@ use Rattle.table.specs.Table.{item}
 use Rattle.plan_turns_search.specs.Record.{atSource, endOf, siteOf, put, untriedCount, OffersReady, mark, MarksAgree, Offered, Displaces}
 use Rattle.plan_turns_search.specs.Offers.{Site, on, stands, holds, Grows, Sought, Cheapest}
 use Rattle.plan_turns_search.proofs.Offers.{on-take, made-none, take-made, on-swap, swap-inv, swap-room, swap-grows, swap-made}
+use Rattle.plan_turns_search.proofs.Taking.{taken-few}
 use Rattle.plan_turns_search.proofs.Record.{length-put, put-here, put-other, put-paired, untried-most, untried-less, distinct, source-below, target-below}
 use Rattle.plan_turns_search.proofs.Chain.{walk-grows, held-grows}
 use Rattle.plan_turns_search.proofs.MarkLaws.{mark-other, mark-column, room-kept}
@@ -115,7 +116,7 @@ module _ (links : ℕ) (lows highs costs spares r : List ℕ) where
   -- d is taken in place of c, whose byte is stored, and r becomes r₂
   module _ (d v : ℕ) (at : Displaces (siteSlicesOf links lows highs costs spares) r d) (ev : v ≡ endOf highs lows d) where
     pub some-held : 0 < holds site (atSource r) v
-    some-held = rw ev (let a = at .full in let b = at .next .wanted in omega arith)
+    some-held = rw ev (let a = at .full in let b = taken-few site (atSource r) (at .ready .inv .holding) d (at .next .wanted) in omega arith)
 
     module _ (c : ℕ) (low : Cheapest site (atSource r) v c) (byte : ℕ) (tried : byte ≡ 0 → ⊥) (down : byte ≡ 1 → ⊥) (r₂ : List ℕ) (e : r₂ ≡ put (put r c byte) d 1) where
       low-d : Cheapest site (atSource r) (endOf highs lows d) c

@@ -17,6 +17,7 @@ use Rattle.plan_turns_search.specs.Record.{atSource, endOf, siteOf, Site
 use Rattle.plan_turns_search.specs.Offers.{stands, Satisfied}
 use Rattle.plan_turns_search.specs.Chain.{Started}
 use Rattle.plan_turns_search.proofs.Offers.{satisfied-made}
+use Rattle.plan_turns_search.proofs.Record.{distinct}
 use Rattle.plan_turns_search.proofs.Chain.{walk-start, held-start}
 use Rattle.plan_turns_search.specs.Record.{siteSlicesOf}
 
@@ -62,14 +63,14 @@ module _ (links : ℕ) (lows highs costs spares r₀ : List ℕ) where
     turn-next o =
         record {
           ready = record { fits = t .ready .fits; paired = o .paired; inv = o .made .inv };
-          keeps = λ w e. satisfied-made (siteOf (siteSlicesOf links lows highs costs spares)) (atSource r) (atSource r′) p (o .made) w (t .keeps w e);
+          keeps = λ w e. satisfied-made (siteOf (siteSlicesOf links lows highs costs spares)) (distinct links lows highs costs spares (t .ready .fits)) (atSource r) (atSource r′) (t .ready .inv) p (o .made) w (t .keeps w e);
         }
 
     pub turned-none : Offered (siteSlicesOf links lows highs costs spares) r r′ p false → Turned (siteSlicesOf links lows highs costs spares) r₀ r′ p
     turned-none o =
         record {
           ready = record { fits = t .ready .fits; paired = o .paired; inv = o .made .inv };
-          keeps = λ w e. satisfied-made (siteOf (siteSlicesOf links lows highs costs spares)) (atSource r) (atSource r′) p (o .made) w (t .keeps w e);
+          keeps = λ w e. satisfied-made (siteOf (siteSlicesOf links lows highs costs spares)) (distinct links lows highs costs spares (t .ready .fits)) (atSource r) (atSource r′) (t .ready .inv) p (o .made) w (t .keeps w e);
           done = inr (o .none refl);
         }
 

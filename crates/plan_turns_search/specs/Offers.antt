@@ -26,6 +26,18 @@ stands s o u = on s o (λ f. eqb (s .source f) u)
 abbrev pub holds : Site → (ℕ → ℕ) → ℕ → ℕ
 holds s o v = on s o (λ f. eqb (s .target f) v)
 
+-- "its cheapest held"
+pub record Cheapest (s : Site) (o : ℕ → ℕ) (v c : ℕ) : Type 0 where
+  pub below : c < s .dirs
+  pub own : s .target c ≡ v
+  pub held : o c ≡ 1
+  pub least : (f : ℕ) → f < s .dirs → s .target f ≡ v → o f ≡ 1 → s .key c ≤ s .key f
+
+-- the target of d would take it: "An end takes an offer if it holds fewer than its spare, or if the offer is dearer than its cheapest held"
+abbrev pub WouldTake : Site → (ℕ → ℕ) → ℕ → Type 0
+WouldTake s o d =
+    (holds s o (s .target d) < s .spare (s .target d)) ⊎ ((c : ℕ) × Cheapest s o (s .target d) c × (s .key c < s .key d))
+
 -- f ends at the target of d and is dearer
 abbrev pub dearerAtTarget : Site → ℕ → ℕ → Bool
 dearerAtTarget s d f = eqb (s .target f) (s .target d) && ltb (s .key d) (s .key f)
@@ -34,13 +46,13 @@ dearerAtTarget s d f = eqb (s .target f) (s .target d) && ltb (s .key d) (s .key
 abbrev pub dearerHeld : Site → (ℕ → ℕ) → ℕ → ℕ
 dearerHeld s o d = on s o (dearerAtTarget s d)
 
--- the target of d would not take it: "An end takes an offer if it holds fewer than its spare, or if the offer is dearer than its cheapest held"
+-- the same by a count: the target of an untried d would not take it exactly when it holds its spare of dearer ones (`would-refuse`)
 abbrev pub WouldRefuse : Site → (ℕ → ℕ) → ℕ → Type 0
 WouldRefuse s o d = s .spare (s .target d) ≤ dearerHeld s o d
 
 -- "none is left to make"
 abbrev pub NoneLeft : Site → (ℕ → ℕ) → ℕ → Type 0
-NoneLeft s o u = (d : ℕ) → d < s .dirs → s .source d ≡ u → o d ≡ 0 → WouldRefuse s o d
+NoneLeft s o u = (d : ℕ) → d < s .dirs → s .source d ≡ u → o d ≡ 0 → WouldTake s o d → ⊥
 
 -- "until its offers standing equal its spare or none is left to make"
 abbrev pub Satisfied : Site → (ℕ → ℕ) → ℕ → Type 0
@@ -69,26 +81,19 @@ pub record NextOffer (s : Site) (o : ℕ → ℕ) (u d : ℕ) : Type 0 where
   pub below : d < s .dirs
   pub own : s .source d ≡ u
   pub untried : o d ≡ 0
-  pub wanted : dearerHeld s o d < s .spare (s .target d)
-  pub dearest : (g : ℕ) → g < s .dirs → s .source g ≡ u → o g ≡ 0 → s .key d < s .key g → WouldRefuse s o g
+  pub wanted : WouldTake s o d
+  pub dearest : (g : ℕ) → g < s .dirs → s .source g ≡ u → o g ≡ 0 → WouldTake s o g → s .key g ≤ s .key d
 
 -- what the search answers: the next offer of u, or a number past all directions
 pub record Sought (s : Site) (o : ℕ → ℕ) (u r : ℕ) : Type 0 where
   pub some : r < s .dirs → NextOffer s o u r
   pub none : s .dirs ≤ r → NoneLeft s o u
 
--- "its cheapest held"
-pub record Cheapest (s : Site) (o : ℕ → ℕ) (v c : ℕ) : Type 0 where
-  pub below : c < s .dirs
-  pub own : s .target c ≡ v
-  pub held : o c ≡ 1
-  pub least : (f : ℕ) → f < s .dirs → s .target f ≡ v → o f ≡ 1 → s .key c ≤ s .key f
-
 -- the search along u's links stands at e: what is dearer is tried or would not be taken
 pub record OfferSearch (s : Site) (o : ℕ → ℕ) (u e : ℕ) : Type 0 where
   pub own : e < s .dirs → s .source e ≡ u
   pub top : e < s .dirs → (g : ℕ) → g < s .dirs → s .source g ≡ u → o g ≡ 0 → s .key e < s .key g → WouldRefuse s o g
-  pub end : s .dirs ≤ e → NoneLeft s o u
+  pub end : s .dirs ≤ e → (g : ℕ) → g < s .dirs → s .source g ≡ u → o g ≡ 0 → WouldRefuse s o g
 
 -- the search along the offers held by v stands at v's link f: what is cheaper would not be taken
 pub record HeldSearch (s : Site) (o : ℕ → ℕ) (v f : ℕ) : Type 0 where

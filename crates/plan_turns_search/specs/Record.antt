@@ -3,10 +3,10 @@ use Prim.Native.Nat.{ℕ, _+_, _*_, _/_, _%_, _≤_, _<_}
 use mathlib.Core.Path.{_≡_}
 use mathlib.Core.Bool.{Bool, true, false, cond, _&&_}
 use mathlib.Core.List.{List}
-use lib.Dec.{eqb}
+use lib.Dec.{ltb, eqb}
 use lib.ListN.{length, set}
 use Rattle.range.specs.Sum.{count}
-use Rattle.table.specs.Table.{item}
+use Rattle.table.specs.Table.{Table, item, spare, dearer}
 use Rattle.plan_turns_search.specs.Offers.{Site, stands, holds, NoneLeft, Satisfied, OffersInv, Made, NextOffer, OfferSearch, HeldSearch}
 
 -- two bytes for each direction: its offer at its source, and at its target
@@ -45,6 +45,14 @@ siteOf x =
       key = keyOf (x .costs);
       spare = item (x .spares);
     }
+
+-- s is the table's site (`site-of-table`): each link from both its ends, the larger key by 01's order, and the probes' spares
+pub record SiteOfTable (t : Table) (s : Site) : Type 0 where
+  pub both : s .dirs ≡ 2 * t .links
+  pub up : (i : ℕ) → i < t .links → (s .source (2 * i) ≡ t .low i) × (s .target (2 * i) ≡ t .high i)
+  pub down : (i : ℕ) → i < t .links → (s .source (2 * i + 1) ≡ t .high i) × (s .target (2 * i + 1) ≡ t .low i)
+  pub order : (d f : ℕ) → d < s .dirs → f < s .dirs → ltb (s .key d) (s .key f) ≡ dearer t (f / 2) (d / 2)
+  pub spares : (v : ℕ) → s .spare v ≡ spare t v
 
 -- the bytes of a direction at its source and at its target, both stored
 unfoldable pub put : List ℕ → ℕ → ℕ → List ℕ

@@ -371,7 +371,7 @@ make-offer-kept t c =
     let a = make-offer-start t c .args in
     let p = make-offer-start t c .pre .1 in
     let d = c .before .before .next-offer in
-    cursor-moved (a .links) (a .lows .now) (a .highs .now) (a .costs .now) (a .spares .now) (a .rec .now) (a .marks .now) (p .1) (a .u) (d .result) (p .4) (d .ensures .0) (c .store .last .0) (c .store .ensures)
+    cursor-moved (a .links) (a .lows .now) (a .highs .now) (a .costs .now) (a .spares .now) (a .rec .now) (a .marks .now) (p .1) (p .0) (a .u) (d .result) (p .4) (d .ensures .0) (c .store .last .0) (c .store .ensures)
 
 make-offer-target : (t : ℕ) (c : OfferTarget t) → c .end-of .result < length (make-offer-start t (make-offer-stored t c) .args .spares .now)
 make-offer-target t c =

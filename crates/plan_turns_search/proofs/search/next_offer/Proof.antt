@@ -326,7 +326,7 @@ returns c =
     let a = at-start .args in
     let p = at-start .pre in
     let e = c .before .search .inv .0 in
-    (rw e (walk-end (a .links) (a .lows .now) (a .highs .now) (a .costs .now) (a .spares .now) (p .0 .fits) (atSource (a .rec .now)) (a .u) (c .before .search .e) (c .search-test .left) (c .before .search .inv .1)), omega arith)
+    (rw e (walk-end (a .links) (a .lows .now) (a .highs .now) (a .costs .now) (a .spares .now) (p .0 .fits) (atSource (a .rec .now)) (a .u) (p .0 .inv) (c .before .search .e) (c .search-test .left) (c .before .search .inv .1)), omega arith)
 
 returns-2 : tie.Need-returns-2 Inv-loop μ-loop Inv-search μ-search
 returns-2 c =
@@ -342,7 +342,7 @@ returns-2 c =
     let n = p .1 .held (v .result) lv in
     let h = c .before .before .entry3 .ensures in
     let s = c .before .entry4 .ensures in
-    (walk-found (a .links) (a .lows .now) (a .highs .now) (a .costs .now) (a .spares .now) (p .0 .fits) (atSource (a .rec .now)) (a .u) (at-search .search .e) (at-search-test .search-test .taken) (at-search .search .inv .1) (at-if1 .if1 .left) (taken-free (a .links) (a .lows .now) (a .highs .now) (a .costs .now) (a .spares .now) (p .0 .fits) (atSource (a .rec .now)) (p .0 .inv) (v .result) (at-search .search .e) (mark (a .marks .now) (v .result) 1) (sym (v .ensures)) n (omega (arith, c .if2 .taken))), omega arith)
+    (walk-found (a .links) (a .lows .now) (a .highs .now) (a .costs .now) (a .spares .now) (p .0 .fits) (atSource (a .rec .now)) (a .u) (p .0 .inv) (at-search .search .e) (at-search-test .search-test .taken) (at-search .search .inv .1) (at-if1 .if1 .left) (taken-free (a .links) (a .lows .now) (a .highs .now) (a .costs .now) (a .spares .now) (p .0 .fits) (atSource (a .rec .now)) (p .0 .inv) (v .result) (at-search .search .e) (mark (a .marks .now) (v .result) 1) (sym (v .ensures)) n (omega (arith, c .if2 .taken))), omega arith)
 
 returns-3 : tie.Need-returns-3 Inv-loop μ-loop Inv-search μ-search
 returns-3 c =
@@ -357,7 +357,7 @@ returns-3 c =
     let a = at-start .args in
     let p = at-start .pre in
     let v = at-end-of .end-of in
-    (walk-found (a .links) (a .lows .now) (a .highs .now) (a .costs .now) (a .spares .now) (p .0 .fits) (atSource (a .rec .now)) (a .u) (at-search .search .e) (at-search-test .search-test .taken) (at-search .search .inv .1) (at-if1 .if1 .left) (held-wanted (a .links) (a .lows .now) (a .highs .now) (a .costs .now) (a .spares .now) (p .0 .fits) (atSource (a .rec .now)) (p .0 .inv) (v .result) (at-loop .loop .f) (at-loop .loop .inv .1) (at-search .search .e) (sym (v .ensures)) (ltb-true (keyOf (a .costs .now) (at-loop .loop .f)) (keyOf (a .costs .now) (at-search .search .e)) (sym (at-cheaper .cheaper .ensures) ∙ at-if3 .if3 .taken)) (sym (ap (atTarget (a .rec .now)) (c .before .before .opposite .ensures) ∙ p .0 .paired .twin (opposite (at-loop .loop .f))) ∙ c .if4 .taken)), omega arith)
+    (walk-found (a .links) (a .lows .now) (a .highs .now) (a .costs .now) (a .spares .now) (p .0 .fits) (atSource (a .rec .now)) (a .u) (p .0 .inv) (at-search .search .e) (at-search-test .search-test .taken) (at-search .search .inv .1) (at-if1 .if1 .left) (held-wanted (a .links) (a .lows .now) (a .highs .now) (a .costs .now) (a .spares .now) (p .0 .fits) (atSource (a .rec .now)) (p .0 .inv) (v .result) (at-loop .loop .f) (at-loop .loop .inv .1) (at-search .search .e) (sym (v .ensures)) (ltb-true (keyOf (a .costs .now) (at-loop .loop .f)) (keyOf (a .costs .now) (at-search .search .e)) (sym (at-cheaper .cheaper .ensures) ∙ at-if3 .if3 .taken)) (sym (ap (atTarget (a .rec .now)) (c .before .before .opposite .ensures) ∙ p .0 .paired .twin (opposite (at-loop .loop .f))) ∙ c .if4 .taken)), omega arith)
 
 pub next-offer-spec : {M : Type 1} → statement M
 next-offer-spec =
