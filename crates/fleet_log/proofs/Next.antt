@@ -21,7 +21,7 @@ use Rattle.fleet.proofs.Calls.{handled-next}
 use Rattle.fleet_log.specs.Logged.{LogsInFleet}
 
 -- an accepted line has room in the log
-room-free : (x : Slices) (room : ℕ) (s : State) (l : List ℕ) → faultOf x room s l ≡ 0 → length (s .log) < room
+pub room-free : (x : Slices) (room : ℕ) (s : State) (l : List ℕ) → faultOf x room s l ≡ 0 → length (s .log) < room
 room-free x room s l e =
     let t = tableOf x in
     let f = frameOf l in

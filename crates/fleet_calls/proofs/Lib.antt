@@ -1,0 +1,6 @@
+pub mod Choice
+pub mod Same
+pub mod Promises
+pub mod Calls
+pub mod EventCalls
+pub mod Callable
