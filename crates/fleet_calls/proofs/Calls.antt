@@ -1,11 +1,11 @@
 -- Calls, one after the other, are the run over their lines. By induction on the calls; what the last call left follows the state of the run (`Follows`).
-use Prim.Native.Nat.{ℕ, suc, _+_, _≤_, _<_}
+use Prim.Native.Nat.{ℕ, suc, _+_, _<_}
 use mathlib.Core.Path.{_≡_, refl, sym, _∙_, ap}
 use mathlib.Core.Bool.{Bool, true, false, cond}
-use mathlib.Core.List.{List, [], _∷_, _++_}
+use mathlib.Core.List.{List, [], _∷_, _++_, append-nil}
 use native.Mathlib.Omega.{arith}
 use lib.Dec.{eqb}
-use lib.ListN.{length, take, drop, getD, set, length-append, length-set, List·getD-append}
+use lib.ListN.{length, drop, getD, set, length-append, length-set, List·getD-append}
 use lib.Seq.{append-snoc, drop-cons, take-append-seam, drop-append-seam, set-append-seam}
 use borrow.Author.Tests.{eqb-true}
 use Rattle.table.specs.Same.{Same}
@@ -16,15 +16,15 @@ use Rattle.wake_log.specs.declared.Entry.{Entry}
 use Rattle.wake_log.specs.declared.Answer.{Answer}
 use Rattle.wake_log.specs.declared.Answer.the-variants.{Logged, Refused}
 use Rattle.wake_log.specs.Log.{noEntry}
-use Rattle.wake_log.specs.Entry.{answerOf}
 use Rattle.probe_rules.specs.Rules.{entryOf}
-use Rattle.fleet_theory.specs.Fleet.{outcomeOf, alteredBy, eventFault, State, start, faultOf, answerTo, accepted, next, run}
+use Rattle.fleet_theory.specs.Fleet.{outcomeOf, State, start, faultOf, answerTo, accepted, next, run}
 use Rattle.fleet.proofs.Calls.{handled-next}
 use Rattle.fleet_log.specs.Logged.{LogsInFleet}
 use Rattle.fleet_log.proofs.Next.{room-free}
 use Rattle.fleet_calls.specs.Calls.{
   SameTable,
   counted,
+  entriesIn,
   LoggedCall,
   LoggedLeft,
   freshLogged,
@@ -37,7 +37,7 @@ use Rattle.fleet_calls.specs.Calls.{
   answersTo,
   LoggedRun,
 }
-use Rattle.fleet_calls.proofs.Promises.{same-fine, handled-is, handled-same, logs-same}
+use Rattle.fleet_calls.proofs.Promises.{same-fine, logs-same}
 
 -- the record and the count are those of the state, and so are the used entries of the log; the rest of it is as lent
 pub record Follows (log : List Entry) (s : State) (b : LoggedLeft) : Type 0 where
@@ -68,6 +68,20 @@ used-next x room s l = go (eqb (faultOf x room s l) 0)
     go : (b : Bool) → length (s .log) + counted (cond b (Logged (entryTo x s l)) (Refused (faultOf x room s l))) ≡ length ((cond b (accepted x s l) s) .log)
     go true = sym (length-append (s .log) (entryTo x s l ∷ []))
     go false = omega arith
+
+log-next : (x : Slices) (room : ℕ) (s : State) (l : List ℕ) (rest : List Answer) → next x room s l .log ++ entriesIn rest ≡ s .log ++ entriesIn (answerTo x room s l ∷ rest)
+unfolding next
+log-next x room s l rest = go (eqb (faultOf x room s l) 0)
+  where
+    go : (b : Bool) → (cond b (accepted x s l) s) .log ++ entriesIn rest ≡ s .log ++ entriesIn (cond b (Logged (entryTo x s l)) (Refused (faultOf x room s l)) ∷ rest)
+    go true = append-snoc (s .log) (entryTo x s l) (entriesIn rest)
+    go false = refl
+
+-- the log of the run has the entries of its answers
+run-log : (x : Slices) (room : ℕ) (s : State) (ls : List (List ℕ)) → run x room s ls .log ≡ s .log ++ entriesIn (answersTo x room s ls)
+unfolding run answersTo
+run-log x room s [] = sym (append-nil (s .log))
+run-log x room s (l ∷ ls) = run-log x room (next x room s l) ls ∙ log-next x room s l (answersTo x room (next x room s l) ls)
 
 -- a call is a step
 module _ (x : Slices) (log : List Entry) (s : State) (b : LoggedLeft) (c : LoggedCall) (f : Follows log s b)
@@ -171,6 +185,7 @@ module _ (x : Slices) (fine : slicesFault x ≡ 0) where
         used = f .used;
         used-within = rw (f .used, f .log-is) (let long = length-append es rest in omega arith);
         entries = rw (f .used, f .log-is) (take-append-seam es rest);
+        entries-answered = rw (f .used, f .log-is) (take-append-seam es rest) ∙ run-log x (length log) (start x) (loggedLines cs) ∙ ap entriesIn (sym (all .0));
         entry-read = λ i l. rw (f .log-is) (List·getD-append es rest noEntry i (rw (f .used) at l));
         free = rw (f .used, f .log-is) (drop-append-seam es rest);
         long = f .long;

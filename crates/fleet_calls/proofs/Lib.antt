@@ -4,3 +4,5 @@ pub mod Promises
 pub mod Calls
 pub mod EventCalls
 pub mod Callable
+pub mod Places
+pub mod Demand3

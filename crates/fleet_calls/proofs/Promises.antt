@@ -10,7 +10,7 @@ use borrow.Author.Tests.{eqb-true}
 use Rattle.range.specs.First.{orElse}
 use Rattle.range.proofs.Faults.{or-left, or-none, or-same}
 use Rattle.table.specs.Table.{Table}
-use Rattle.table.specs.Legal.{Legal, tableFault}
+use Rattle.table.specs.Legal.{tableFault}
 use Rattle.table.specs.Same.{Same}
 use Rattle.table.specs.Slices.{Slices, tableOf, slicesFault}
 use Rattle.table.proofs.Same.{same-fault}

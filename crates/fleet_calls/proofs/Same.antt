@@ -18,7 +18,6 @@ use Rattle.table.specs.Same.{Same}
 use Rattle.table.proofs.Same.{degree-same}
 use Rattle.probe_frame.specs.Frame.{Frame, frameOf, frameFault}
 use Rattle.probe_record.specs.Record.{outbound, inbound, ownWith, standing, held, dearestUntried, cheapestHeld, spareFault}
-use Rattle.wake_log.specs.declared.Entry.{Entry}
 use Rattle.probe_rules.specs.declared.Event.{Event}
 use Rattle.probe_rules.specs.declared.Event.the-variants.{Opening, Offer, Refusal}
 use Rattle.probe_rules.specs.declared.Outcome.{Outcome}

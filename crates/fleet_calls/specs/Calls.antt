@@ -29,6 +29,12 @@ abbrev pub counted : Answer → ℕ
 counted (Logged e) = 1
 counted (Refused n) = 0
 
+-- the entries that answers have logged
+abbrev pub entriesIn : List Answer → List Entry
+entriesIn [] = []
+entriesIn (Logged e ∷ rest) = e ∷ entriesIn rest
+entriesIn (Refused n ∷ rest) = entriesIn rest
+
 -- Calls with a lent log: `event_logged`.
 
 -- a call: its slices and its line, its answer, and the record and the log at its exit
@@ -136,6 +142,8 @@ module _ (x : Slices) (log : List Entry) (cs : List LoggedCall) where
     pub used : after .used ≡ length (reached .log)
     pub used-within : after .used ≤ length (after .log)
     pub entries : take (after .used) (after .log) ≡ reached .log
+    -- "one for each accepted event"
+    pub entries-answered : take (after .used) (after .log) ≡ entriesIn (loggedAnswers cs)
     pub entry-read : (i : ℕ) → i < after .used → getD (after .log) i noEntry ≡ getD (reached .log) i noEntry
     pub free : drop (after .used) (after .log) ≡ drop (after .used) log
     pub long : length (after .log) ≡ length log
