@@ -4,10 +4,13 @@ use mathlib.Core.Path.{_≡_, refl, sym, _∙_, ap}
 use mathlib.Core.Bool.{Bool, true, false, cond}
 use mathlib.Core.List.{List, [], _∷_, _++_, append-nil}
 use native.Mathlib.Omega.{arith}
-use lib.Dec.{eqb}
+use lib.Dec.{ltb, eqb}
 use lib.ListN.{length, drop, getD, set, length-append, length-set, List·getD-append}
 use lib.Seq.{append-snoc, drop-cons, take-append-seam, drop-append-seam, set-append-seam}
-use borrow.Author.Tests.{eqb-true}
+use borrow.Author.Tests.{ltb-true, eqb-true}
+use Rattle.range.specs.First.{orElse}
+use Rattle.range.proofs.Bools.{unless-none}
+use Rattle.range.proofs.Faults.{or-right}
 use Rattle.table.specs.Same.{Same}
 use Rattle.table.specs.Table.{Table}
 use Rattle.table.specs.Slices.{Slices, tableOf, slicesFault}
@@ -17,10 +20,9 @@ use Rattle.wake_log.specs.declared.Answer.{Answer}
 use Rattle.wake_log.specs.declared.Answer.the-variants.{Logged, Refused}
 use Rattle.wake_log.specs.Log.{noEntry}
 use Rattle.probe_rules.specs.Rules.{entryOf}
-use Rattle.fleet_theory.specs.Fleet.{outcomeOf, State, start, faultOf, answerTo, accepted, next, run}
+use Rattle.fleet_theory.specs.Fleet.{own, fleetFault, eventLineFault, eventOf, unsentFault, outcomeOf, State, start, faultOf, answerTo, accepted, next, run}
 use Rattle.fleet.proofs.Calls.{handled-next}
 use Rattle.fleet_log.specs.Logged.{LogsInFleet}
-use Rattle.fleet_log.proofs.Next.{room-free}
 use Rattle.fleet_calls.specs.Calls.{
   SameTable,
   counted,
@@ -45,6 +47,16 @@ pub record Follows (log : List Entry) (s : State) (b : LoggedLeft) : Type 0 wher
   pub used : b .used ≡ length (s .log)
   pub log-is : b .log ≡ s .log ++ drop (length (s .log)) log
   pub long : length (b .log) ≡ length log
+
+-- an accepted line has room in the log
+room-free : (x : Slices) (room : ℕ) (s : State) (l : List ℕ) → faultOf x room s l ≡ 0 → length (s .log) < room
+room-free x room s l e =
+    let t = tableOf x in
+    let f = frameOf l in
+    let sent = unsentFault (eventOf t f) (own t (f .from) (s .bytes)) in
+    let full : ℕ = cond (ltb (length (s .log)) room) 0 26 in
+    ltb-true (length (s .log)) room (unless-none (ltb (length (s .log)) room) 25
+    (or-right sent full (or-right (eventLineFault t l) (orElse sent full) (or-right (fleetFault t (s .bytes)) (orElse (eventLineFault t l) (orElse sent full)) (or-right (slicesFault x) (orElse (fleetFault t (s .bytes)) (orElse (eventLineFault t l) (orElse sent full))) e)))))
 
 -- the first free entry is stored
 behind : (log es : List Entry) (e : Entry) → length es < length log

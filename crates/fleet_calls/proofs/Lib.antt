@@ -6,3 +6,4 @@ pub mod EventCalls
 pub mod Callable
 pub mod Places
 pub mod Demand3
+pub mod Ends

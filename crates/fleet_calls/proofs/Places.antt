@@ -16,7 +16,7 @@ pub calls-before : (x : Slices) (b : LoggedLeft) (before later : List LoggedCall
 calls-before x b [] later k = tt
 calls-before x b (c ∷ before) later k = (k .0, calls-before x (leftByLogged b c) before later (k .1))
 
-call-at : (x : Slices) (b : LoggedLeft) (before later : List LoggedCall) (c : LoggedCall) → LoggedCalls x b (before ++ c ∷ later) → KeptLogged x (leftAfterLogged b before) c
+pub call-at : (x : Slices) (b : LoggedLeft) (before later : List LoggedCall) (c : LoggedCall) → LoggedCalls x b (before ++ c ∷ later) → KeptLogged x (leftAfterLogged b before) c
 call-at x b [] later c k = k .0
 call-at x b (a ∷ before) later c k = call-at x (leftByLogged b a) before later c (k .1)
 

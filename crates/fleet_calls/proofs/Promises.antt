@@ -77,7 +77,7 @@ module _ (x y : Slices) (same : Same (tableOf x) (tableOf y)) (fine : slicesFaul
     abbrev f : Frame
     f = frameOf l
 
-    same-event-fault : eventFault x r used room l ≡ eventFault y r used room l
+    pub same-event-fault : eventFault x r used room l ≡ eventFault y r used room l
     same-event-fault =
         or-same (fine ∙ sym fine′) (or-same (same-fleet t u same r) (or-same (same-line t u same l) (ap (λ (n : ℕ). orElse n (cond (ltb used room) 0 26)) (same-unsent t u same f r))))
 
@@ -100,12 +100,18 @@ module _ (x y : Slices) (same : Same (tableOf x) (tableOf y)) (fine : slicesFaul
       bytes-same : alteredBy t r f ≡ alteredBy u r f
       bytes-same = same-alter t u same (f .to) (outcomeOf t r f) within r ∙ ap (λ (o : Outcome). alterFleet u (f .to) o r) same-outcome
 
+    abbrev fault : Slices → ℕ
+    fault z = eventFault z r used room l
+
+    -- the answer, and the record after it
+    pub same-answer : answerOf (fault x) (entryOf t (f .to) (outcomeOf t r f)) ≡ answerOf (fault y) (entryOf u (f .to) (outcomeOf u r f))
+    same-answer = answer-same (fault x) (fault y) (entryOf t (f .to) (outcomeOf t r f)) (entryOf u (f .to) (outcomeOf u r f)) same-event-fault entries-same
+
+    pub same-record-after : cond (eqb (fault x) 0) (alteredBy t r f) r ≡ cond (eqb (fault y) 0) (alteredBy u r f) r
+    same-record-after = where-none (fault x) (fault y) (alteredBy t r f) (alteredBy u r f) r same-event-fault bytes-same
+
     pub handled-same : (a : Answer) (r′ : List ℕ) → Handled x used room l a r r′ → Handled y used room l a r r′
-    handled-same a r′ h =
-        handled-is y used room l a r r′
-        (handled-answer x used room l a r r′ h
-        ∙ answer-same (eventFault x r used room l) (eventFault y r used room l) (entryOf t (f .to) (outcomeOf t r f)) (entryOf u (f .to) (outcomeOf u r f)) same-event-fault entries-same)
-        (h .record-after ∙ where-none (eventFault x r used room l) (eventFault y r used room l) (alteredBy t r f) (alteredBy u r f) r same-event-fault bytes-same)
+    handled-same a r′ h = handled-is y used room l a r r′ (handled-answer x used room l a r r′ h ∙ same-answer) (h .record-after ∙ same-record-after)
 
   pub logs-same : (used : ℕ) (l : List ℕ) (a : Answer) (r r′ : List ℕ) (log log′ : List Entry) → LogsInFleet x used l a r r′ log log′ → LogsInFleet y used l a r r′ log log′
   logs-same used l a r r′ log log′ h =

@@ -13,9 +13,9 @@ use Rattle.range.specs.Choice.{lowest, best}
 use Rattle.range.proofs.Sums.{weigh-same}
 use Rattle.range.proofs.Faults.{or-same, first-same}
 use Rattle.range.proofs.Lists.{joined-same}
-use Rattle.table.specs.Table.{Table, item, touches, degree, spare, dearer, cheaper, joins, between}
+use Rattle.table.specs.Table.{Table, item, spare, dearer, cheaper, joins, between}
 use Rattle.table.specs.Same.{Same}
-use Rattle.table.proofs.Same.{degree-same}
+use Rattle.plan_theory.proofs.Same.{dearer-same, same-degree}
 use Rattle.probe_frame.specs.Frame.{Frame, frameOf, frameFault}
 use Rattle.probe_record.specs.Record.{outbound, inbound, ownWith, standing, held, dearestUntried, cheapestHeld, spareFault}
 use Rattle.probe_rules.specs.declared.Event.{Event}
@@ -29,7 +29,7 @@ use Rattle.fleet_theory.specs.Fleet.{ownPair, own, fleetFault, eventKindFault, 
 use Rattle.fleet_calls.proofs.Choice.{lowest-of-same, best-of-same}
 
 -- a test that counts only where another passes
-and-under : (a b c : Bool) → (a ≡ true → b ≡ c) → (a && b) ≡ (a && c)
+pub and-under : (a b c : Bool) → (a ≡ true → b ≡ c) → (a && b) ≡ (a && c)
 and-under true b c h = h refl
 and-under false b c h = refl
 
@@ -42,15 +42,8 @@ module _ (t u : Table) (e : Same t u) where
   same-own p r =
       joined-same (ownPair t p r) (ownPair u p r) (t .links) (λ i l. rw (e .low i l, e .high i l)) ∙ ap (λ (n : ℕ). joined (ownPair u p r) n) (e .links)
 
-  dearer-same : (i j : ℕ) → i < t .links → j < t .links → dearer t i j ≡ dearer u i j
-  unfolding dearer
-  dearer-same i j li lj = rw (e .cost i li, e .cost j lj, e .low i li, e .low j lj, e .high i li, e .high j lj)
-
-  same-degree : (v : ℕ) → degree t v ≡ degree u v
-  same-degree v = degree-same (t .links) (t .low) (u .low) (t .high) (u .high) (e .low) (e .high) v ∙ ap (λ (n : ℕ). count n (touches u v)) (e .links)
-
   same-spare : (v : ℕ) → v < t .probes → spare t v ≡ spare u v
-  same-spare v l = rw (same-degree v, e .need v l)
+  same-spare v l = rw (same-degree t u e v, e .need v l)
 
   -- the own links with a byte's value: their number, and the best of them
   module _ (p : ℕ) (byte : ℕ → ℕ) (value : ℕ) where
@@ -75,12 +68,16 @@ module _ (t u : Table) (e : Same t u) where
     same-held = same-count p (inbound a) 1
 
     same-dearest : dearestUntried t p a ≡ dearestUntried u p a
-    same-dearest = same-best p (outbound a) 0 (dearer t) (dearer u) (dearer-same)
+    same-dearest = same-best p (outbound a) 0 (dearer t) (dearer u) (dearer-same t u e)
 
     same-cheapest : cheapestHeld t p a ≡ cheapestHeld u p a
-    same-cheapest = same-best p (inbound a) 1 (cheaper t) (cheaper u) (λ i j l m. dearer-same j i m l)
+    same-cheapest = same-best p (inbound a) 1 (cheaper t) (cheaper u) (λ i j l m. dearer-same t u e j i m l)
 
-  -- 20, 21 and 22
+  -- 22 of an end
+  pub same-spare-fault : (p : ℕ) → p < t .probes → (a : List ℕ) → spareFault t p a ≡ spareFault u p a
+  same-spare-fault p l a = rw (same-spare p l, same-standing p a, same-held p a)
+
+  -- 20, 21 and 22 of a fleet
   pub same-fleet : (r : List ℕ) → fleetFault t r ≡ fleetFault u r
   same-fleet r = or-same size (or-same bytes spares)
     where
@@ -93,15 +90,15 @@ module _ (t u : Table) (e : Same t u) where
       spares : first (λ p. spareFault t p (own t p r)) (t .probes) ≡ first (λ p. spareFault u p (own u p r)) (u .probes)
       spares =
           first-same (λ p. spareFault t p (own t p r)) (λ p. spareFault u p (own u p r)) (t .probes)
-          (λ p l. rw (same-own p r, same-spare p l, same-standing p (own u p r), same-held p (own u p r)))
+          (λ p l. ap (spareFault t p) (same-own p r) ∙ same-spare-fault p l (own u p r))
           ∙ ap (λ (n : ℕ). first (λ p. spareFault u p (own u p r)) n) (e .probes)
 
   -- a line: what it says, and its checks
-  same-between : (a b : ℕ) → between t a b ≡ between u a b
+  pub same-between : (a b : ℕ) → between t a b ≡ between u a b
   same-between a b =
       lowest-of-same (joins t a b) (joins u a b) (t .links) (λ i l. rw (e .low i l, e .high i l)) ∙ ap (λ (n : ℕ). lowest (joins u a b) n) (e .links)
 
-  same-heard : (f : Frame) → heardOf t f ≡ heardOf u f
+  pub same-heard : (f : Frame) → heardOf t f ≡ heardOf u f
   same-heard f = ap (λ (i : ℕ). cond (eqb (f .kind) 1) (Offer i) (Refusal i)) (same-between (f .from) (f .to))
 
   pub same-event : (f : Frame) → eventOf t f ≡ eventOf u f
@@ -127,7 +124,7 @@ module _ (t u : Table) (e : Same t u) where
   -- what befalls a probe of the table
   same-displaces : (i c : ℕ) → i < t .links → (ltb c (t .links) && dearer t i c) ≡ (ltb c (u .links) && dearer u i c)
   same-displaces i c l =
-      and-under (ltb c (t .links)) (dearer t i c) (dearer u i c) (λ k. dearer-same i c l (ltb-true c (t .links) k))
+      and-under (ltb c (t .links)) (dearer t i c) (dearer u i c) (λ k. dearer-same t u e i c l (ltb-true c (t .links) k))
       ∙ ap (λ (n : ℕ). ltb c n && dearer u i c) (e .links)
 
   pub same-befalls : (p : ℕ) → p < t .probes → (v : Event) → EventWithin (t .links) v → (a : List ℕ) → befalls t p v a ≡ befalls u p v a

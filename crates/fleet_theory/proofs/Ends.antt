@@ -187,7 +187,7 @@ module _ (x : Slices) (fine : slicesFault x ≡ 0) (s : State) (h : HoldsAfter (
       may = sendable (askedEvent k i) (own t p r)
 
       pub ask-may-send : (may ≡ true) ↔ MaySend t r (askedFrame t p k i)
-      ask-may-send = (λ m. (refl, framed k, rw (asked-event t legal p i a k) m), λ m. rw (asked-event t legal p i a k) at (m .2))
+      ask-may-send = (λ m. ((refl, framed k), rw (asked-event t legal p i a k) m), λ m. rw (asked-event t legal p i a k) at (m .1))
         where
           framed : (k : Kind) → IsFrame (askedFrame t p k i)
           framed kind.Offer = inl refl

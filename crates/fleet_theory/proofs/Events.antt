@@ -20,7 +20,7 @@ use Rattle.probe_rules.specs.declared.Event.the-variants.{Opening, Offer, Refus
 use Rattle.probe_rules.specs.Frames.{numberFault, heardOf}
 use Rattle.probe_rules.proofs.Frames.{between-across}
 use Rattle.fleet_theory.specs.Fleet.{own, eventKindFault, eventEndsFault, eventLineFault, eventOf, unsentFault, outcomeOf}
-use Rattle.fleet_theory.specs.Words.{IsFrame, MaySend, TrulySent}
+use Rattle.fleet_theory.specs.Words.{FrameOfTable, MaySend, TrulySent}
 use Rattle.fleet_theory.proofs.Lines.{frameChecks, frame-checks}
 use Rattle.fleet_theory.proofs.Own.{outOf, inOf, out-reads, in-reads}
 use Rattle.fleet_theory.proofs.Connect.{Came, StepBy, befalls-step}
@@ -68,12 +68,12 @@ says t l e = go (ℕ-discrete (f .kind) 0) (ℕ-discrete (f .kind) 1)
 -- the byte by which a frame of the table may be sent
 module _ (t : Table) (f : Frame) (i : ℕ) where
   pub may-offer : heardOf t f ≡ Offer i → (r : List ℕ)
-      → (MaySend t r f → outOf t r (f .from) i ≡ 1) × (f .number ≡ t .number → IsFrame f → outOf t r (f .from) i ≡ 1 → MaySend t r f)
-  may-offer is r = (λ m. eqb-true (outOf t r (f .from) i) 1 (rw is at (m .2)), λ n k e. (n, k, rw (is, e)))
+      → (MaySend t r f → outOf t r (f .from) i ≡ 1) × (FrameOfTable t f → outOf t r (f .from) i ≡ 1 → MaySend t r f)
+  may-offer is r = (λ m. eqb-true (outOf t r (f .from) i) 1 (rw is at (m .1)), λ frame e. (frame, rw (is, e)))
 
   pub may-refuse : heardOf t f ≡ Refusal i → (r : List ℕ)
-      → (MaySend t r f → inOf t r (f .from) i ≡ 2) × (f .number ≡ t .number → IsFrame f → inOf t r (f .from) i ≡ 2 → MaySend t r f)
-  may-refuse is r = (λ m. eqb-true (inOf t r (f .from) i) 2 (rw is at (m .2)), λ n k e. (n, k, rw (is, e)))
+      → (MaySend t r f → inOf t r (f .from) i ≡ 2) × (FrameOfTable t f → inOf t r (f .from) i ≡ 2 → MaySend t r f)
+  may-refuse is r = (λ m. eqb-true (inOf t r (f .from) i) 2 (rw is at (m .1)), λ frame e. (frame, rw (is, e)))
 
 -- a frame that may be sent at some moment passes the checks before 27
 module _ (t : Table) (l : List ℕ) (digits : frameFault l ≡ 0) where
@@ -89,7 +89,7 @@ module _ (t : Table) (l : List ℕ) (digits : frameFault l ≡ 0) where
       ∙ frame-checks t f number few (rw (ne-eqb (f .kind) 0 some, lt-ltb i (t .links) within))
 
   may-send-passes : (r : List ℕ) → MaySend t r f → eventLineFault t l ≡ 0
-  may-send-passes r (number, inl k, m) = frame-passes number (λ z. omega arith) (omega arith) (go (decLt i (t .links)))
+  may-send-passes r ((number, inl k), m) = frame-passes number (λ z. omega arith) (omega arith) (go (decLt i (t .links)))
     where
       go : Dec (i < t .links) → i < t .links
       go (yes b) = b
@@ -97,7 +97,7 @@ module _ (t : Table) (l : List ℕ) (digits : frameFault l ≡ 0) where
           let one = eqb-true (outOf t r (f .from) i) 1 (rw (eq-eqb (f .kind) 1 k) at m) in
           let none = out-reads t .no-byte r (f .from) i (λ own. b (own .0)) in
           absurd (omega arith)
-  may-send-passes r (number, inr k, m) = frame-passes number (λ z. omega arith) (omega arith) (go (decLt i (t .links)))
+  may-send-passes r ((number, inr k), m) = frame-passes number (λ z. omega arith) (omega arith) (go (decLt i (t .links)))
     where
       go : Dec (i < t .links) → i < t .links
       go (yes b) = b

@@ -28,7 +28,7 @@ use Rattle.fleet_theory.proofs.EndRise.{out-rises, in-rises, out-next}
 use Rattle.fleet_theory.proofs.EndFinish.{refused-plan}
 use Rattle.fleet_theory.specs.Fleet.{eventLineFault, outcomeOf, State, start, faultOf, answerTo, next, run}
 use Rattle.table.specs.Slices.{Slices, tableOf, slicesFault}
-use Rattle.fleet_theory.specs.Words.{IsFrame, MaySend, TrulySent, RefusedIn, IsOpening, TrulySentLine, Usable}
+use Rattle.fleet_theory.specs.Words.{IsFrame, FrameOfTable, MaySend, TrulySent, RefusedIn, IsOpening, TrulySentLine, Usable}
 use Rattle.fleet_theory.specs.ClaimsOfRun.{moments}
 use Rattle.fleet_theory.proofs.Own.{outOf, inOf}
 use Rattle.fleet_theory.proofs.Bytes.{byte-of}
@@ -97,7 +97,7 @@ module _ (x : Slices) (fine : slicesFault x ≡ 0) where
         let c = run-rises s′ (next-holds x fine s h room l) ls p i in
         (omega arith, omega arith)
 
-    module _ (f : Frame) (number : f .number ≡ t .number) (frame : IsFrame f) (i : ℕ) where
+    module _ (f : Frame) (frame : FrameOfTable t f) (i : ℕ) where
       abbrev maker : State → ℕ
       maker s = outOf t (s .bytes) (f .from) i
 
@@ -117,12 +117,12 @@ module _ (x : Slices) (fine : slicesFault x ≡ 0) where
 
         byte-offer : (s : State) → HoldsAfter t s → (ls : List (List ℕ)) → maker s ≤ 1 → (maker (run x room s ls) ≡ 0 → ⊥) → TrulySent t f (moments x room s ls)
         unfolding moments run
-        byte-offer s h [] few d = inl (may-offer t f i is (s .bytes) .1 number frame (omega (arith, d)))
+        byte-offer s h [] few d = inl (may-offer t f i is (s .bytes) .1 frame (omega (arith, d)))
         byte-offer s h (l ∷ ls) few d = go (byte-offer (next x room s l) (next-holds x fine s h room l) ls) (ℕ-discrete (maker s) 1)
           where
             go : (maker (next x room s l) ≤ 1 → (maker (run x room (next x room s l) ls) ≡ 0 → ⊥) → TrulySent t f (moments x room (next x room s l) ls))
                 → Dec (maker s ≡ 1) → MaySend t (s .bytes) f ⊎ TrulySent t f (moments x room (next x room s l) ls)
-            go on (yes e) = inl (may-offer t f i is (s .bytes) .1 number frame e)
+            go on (yes e) = inl (may-offer t f i is (s .bytes) .1 frame e)
             go on (no e) =
                 let s′ = next x room s l in
                 inr (on (out-next t legal (outOf t (s .bytes)) (inOf t (s .bytes)) (outOf t (s′ .bytes)) (inOf t (s′ .bytes)) (h .good) (next-steps x fine s h room l) (f .from) i (omega arith)) d)
@@ -139,7 +139,7 @@ module _ (x : Slices) (fine : slicesFault x ≡ 0) where
 
         byte-refusal : (s : State) (ls : List (List ℕ)) → refuser (run x room s ls) ≡ 2 → TrulySent t f (moments x room s ls)
         unfolding moments run
-        byte-refusal s [] e = inl (may-refuse t f i is (s .bytes) .1 number frame e)
+        byte-refusal s [] e = inl (may-refuse t f i is (s .bytes) .1 frame e)
         byte-refusal s (l ∷ ls) e = inr (byte-refusal (next x room s l) ls e)
 
     -- a line after a list of lines
@@ -164,23 +164,23 @@ module _ (x : Slices) (fine : slicesFault x ≡ 0) where
 
       sending : f .number ≡ t .number → Says t f → Sending
       sending number (an-opening k b v) = opens k
-      sending number (an-offer i k b a v is) = go (ℕ-discrete (maker f number (inl k) i s) 0)
+      sending number (an-offer i k b a v is) = go (ℕ-discrete (maker f (number, inl k) i s) 0)
         where
-          go : Dec (maker f number (inl k) i s ≡ 0) → Sending
+          go : Dec (maker f (number, inl k) i s ≡ 0) → Sending
           go (yes z) =
-              not-sent (inl k) (rw (v, eq-eqb (maker f number (inl k) i s) 0 z))
-              (λ m. let c = offer-byte f number (inl k) i is (start x) (start-holds x fine) ls m in omega arith)
+              not-sent (inl k) (rw (v, eq-eqb (maker f (number, inl k) i s) 0 z))
+              (λ m. let c = offer-byte f (number, inl k) i is (start x) (start-holds x fine) ls m in omega arith)
           go (no d) =
-              sent (inl k) (rw (v, ne-eqb (maker f number (inl k) i s) 0 d))
-              (byte-offer f number (inl k) i is (start x) (start-holds x fine) ls (let z = start-out x (f .from) i in omega arith) d)
-      sending number (a-refusal i k b a v is) = go (ℕ-discrete (refuser f number (inr k) i s) 2)
+              sent (inl k) (rw (v, ne-eqb (maker f (number, inl k) i s) 0 d))
+              (byte-offer f (number, inl k) i is (start x) (start-holds x fine) ls (let z = start-out x (f .from) i in omega arith) d)
+      sending number (a-refusal i k b a v is) = go (ℕ-discrete (refuser f (number, inr k) i s) 2)
         where
-          go : Dec (refuser f number (inr k) i s ≡ 2) → Sending
-          go (yes e) = sent (inr k) (rw (v, eq-eqb (refuser f number (inr k) i s) 2 e)) (byte-refusal f number (inr k) i is (start x) ls e)
+          go : Dec (refuser f (number, inr k) i s ≡ 2) → Sending
+          go (yes e) = sent (inr k) (rw (v, eq-eqb (refuser f (number, inr k) i s) 2 e)) (byte-refusal f (number, inr k) i is (start x) ls e)
           go (no d) =
               let few = run-holds x fine room (start x) (start-holds x fine) ls .good .in-small (f .from) i in
-              not-sent (inr k) (rw (v, ne-eqb (refuser f number (inr k) i s) 2 d))
-              (λ m. d (let c = refusal-byte f number (inr k) i is (start x) (start-holds x fine) ls m in omega arith))
+              not-sent (inr k) (rw (v, ne-eqb (refuser f (number, inr k) i s) 2 d))
+              (λ m. d (let c = refusal-byte f (number, inr k) i is (start x) (start-holds x fine) ls m in omega arith))
 
       abbrev full : ℕ
       full = roomLeftFault (length (s .log)) room

@@ -17,9 +17,13 @@ use Rattle.fleet_theory.specs.Fleet.{own, eventLineFault}
 abbrev pub IsFrame : Frame → Type 0
 IsFrame f = (f .kind ≡ 1) ⊎ (f .kind ≡ 2)
 
--- "the rules above let the frame be sent": a frame of the table, by the probe `from` on its own bytes
+-- of the table's number
+abbrev pub FrameOfTable : Table → Frame → Type 0
+FrameOfTable t f = (f .number ≡ t .number) × IsFrame f
+
+-- "the rules above let the frame be sent": by the probe `from`, on its own bytes
 abbrev pub MaySend : Table → List ℕ → Frame → Type 0
-MaySend t r f = (f .number ≡ t .number) × IsFrame f × (sendable (heardOf t f) (own t (f .from) r) ≡ true)
+MaySend t r f = FrameOfTable t f × (sendable (heardOf t f) (own t (f .from) r) ≡ true)
 
 -- "Truly sent: at some moment so far, the start included, the rules above let the frame be sent": by the records of these moments
 abbrev pub TrulySent : Table → Frame → List (List ℕ) → Type 0
