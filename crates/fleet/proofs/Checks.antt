@@ -3,25 +3,19 @@ use Prim.Native.Nat.{ℕ, _<_}
 use mathlib.Core.Path.{_≡_}
 use mathlib.Core.List.{List}
 use native.Mathlib.Omega.{arith}
-use Rattle.range.specs.First.{orElse}
-use Rattle.range.proofs.Faults.{or-left}
 use Rattle.table.specs.Table.{Table}
 use Rattle.table.specs.Legal.{Legal}
 use Rattle.table.proofs.LegalLaws.{legal-table}
 use Rattle.plan_theory.specs.Criterion.{Across, up, down}
-use Rattle.probe_frame.specs.Frame.{Frame, frameOf, frameFault}
-use Rattle.probe_rules.specs.Frames.{numberFault}
+use Rattle.probe_frame.specs.Frame.{Frame, frameOf}
 use Rattle.probe_rules.specs.Within.{EventWithin}
-use Rattle.fleet_theory.specs.Fleet.{eventKindFault, eventEndsFault, eventLineFault, eventOf}
+use Rattle.fleet_theory.specs.Fleet.{eventLineFault, eventOf}
 use Rattle.fleet_theory.proofs.Events.{Says, an-opening, an-offer, a-refusal, says}
 
 -- a line past the checks before 27
 module _ (t : Table) (l : List ℕ) (e : eventLineFault t l ≡ 0) where
   abbrev f : Frame
   f = frameOf l
-
-  pub line-frame : frameFault l ≡ 0
-  line-frame = or-left (frameFault l) (orElse (eventKindFault f) (orElse (numberFault t f) (eventEndsFault t f))) e
 
   pub line-within : EventWithin (t .links) (eventOf t f)
   line-within = go (says t l e)

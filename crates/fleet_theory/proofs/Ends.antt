@@ -27,6 +27,7 @@ use Rattle.probe_rules.specs.Frames.{numberFault, heardOf}
 use Rattle.probe_rules.specs.Within.{OwnLink, OwnOutcome}
 use Rattle.probe_rules.proofs.Frames.{between-is}
 use Rattle.probe.specs.declared.Kind.{Kind}
+use Rattle.probe.specs.declared.Kind.the-variants as kind
 use Rattle.probe.specs.declared.Asked.{Asked}
 use Rattle.probe.specs.declared.Asked.the-variants as asked
 use Rattle.probe_checks.specs.Checks as end
@@ -35,7 +36,7 @@ use Rattle.probe.specs.Answers.{Asks, askedEvent, askedFrame, askedLine}
 use Rattle.probe.proofs.Calls.{asked-event}
 use Rattle.fleet_theory.specs.Fleet.{own, eventKindFault, eventEndsFault, eventOf, outcomeOf, State, start, run}
 use Rattle.table.specs.Slices.{Slices, tableOf, slicesFault}
-use Rattle.fleet_theory.specs.Demand3.{IsFrame, MaySend}
+use Rattle.fleet_theory.specs.Words.{IsFrame, MaySend}
 use Rattle.fleet_theory.specs.Ends.{SameAlone, EndsAlone}
 use Rattle.fleet_theory.proofs.Own.{outOf, inOf, length-own}
 use Rattle.fleet_theory.proofs.Events.{Says, an-opening, an-offer, a-refusal, says, line-step}
@@ -186,7 +187,11 @@ module _ (x : Slices) (fine : slicesFault x ≡ 0) (s : State) (h : HoldsAfter (
       may = sendable (askedEvent k i) (own t p r)
 
       pub ask-may-send : (may ≡ true) ↔ MaySend t r (askedFrame t p k i)
-      ask-may-send = (λ m. rw (asked-event t legal p i a k) m, λ m. rw (asked-event t legal p i a k) at m)
+      ask-may-send = (λ m. ((refl, framed k), rw (asked-event t legal p i a k) m), λ m. rw (asked-event t legal p i a k) at (m .1))
+        where
+          framed : (k : Kind) → IsFrame (askedFrame t p k i)
+          framed kind.Offer = inl refl
+          framed kind.Refusal = inr refl
 
       module _ (out : List ℕ) (long : 15 ≤ length out) (answer : Asked) (out′ : List ℕ) where
         abbrev fault : ℕ

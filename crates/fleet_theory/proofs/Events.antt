@@ -1,17 +1,17 @@
 -- What a line past the checks before 27 says, and that it is a step.
 use Prim.Native.Nat.{ℕ, _*_, _<_}
-use mathlib.Core.Path.{_≡_}
-use mathlib.Core.Logic.{_↔_}
+use mathlib.Core.Path.{_≡_, _∙_}
+use mathlib.Core.Logic.{inl, inr}
 use mathlib.Core.Bool.{_&&_}
-use mathlib.Core.List.{List}
+use mathlib.Core.List.{List, [], _∷_}
 use native.Mathlib.Omega.{arith}
-use native.Mathlib.Decide.{ℕ-discrete}
+use native.Mathlib.Decide.{decLt, ℕ-discrete}
 use lib.Dec.{ltb, eqb}
 use lib.ListN.{length}
-use borrow.Author.Tests.{ltb-true, eqb-true, eqb-false, eq-eqb, ne-eqb}
+use borrow.Author.Tests.{ltb-true, lt-ltb, eqb-true, eqb-false, eq-eqb, ne-eqb}
 use Rattle.range.specs.First.{orElse}
 use Rattle.range.proofs.Bools.{and-right, unless-none, when-none}
-use Rattle.range.proofs.Faults.{or-left, or-right}
+use Rattle.range.proofs.Faults.{or-left, or-right, or-none}
 use Rattle.table.specs.Table.{Table, between}
 use Rattle.table.specs.Legal.{Legal}
 use Rattle.plan_theory.specs.Criterion.{Across}
@@ -20,8 +20,9 @@ use Rattle.probe_rules.specs.declared.Event.the-variants.{Opening, Offer, Refus
 use Rattle.probe_rules.specs.Frames.{numberFault, heardOf}
 use Rattle.probe_rules.proofs.Frames.{between-across}
 use Rattle.fleet_theory.specs.Fleet.{own, eventKindFault, eventEndsFault, eventLineFault, eventOf, unsentFault, outcomeOf}
-use Rattle.fleet_theory.specs.Demand3.{MaySend}
-use Rattle.fleet_theory.proofs.Own.{outOf, inOf}
+use Rattle.fleet_theory.specs.Words.{FrameOfTable, MaySend, TrulySent}
+use Rattle.fleet_theory.proofs.Lines.{frameChecks, frame-checks}
+use Rattle.fleet_theory.proofs.Own.{outOf, inOf, out-reads, in-reads}
 use Rattle.fleet_theory.proofs.Connect.{Came, StepBy, befalls-step}
 
 -- an opening of a probe, or an offer or a refusal from one end of a link to the other
@@ -39,8 +40,8 @@ says t l e = go (ℕ-discrete (f .kind) 0) (ℕ-discrete (f .kind) 1)
     i : ℕ
     i = between t (f .from) (f .to)
 
-    rest : orElse (eventKindFault f) (orElse (numberFault t f) (eventEndsFault t f)) ≡ 0
-    rest = or-right (frameFault l) (orElse (eventKindFault f) (orElse (numberFault t f) (eventEndsFault t f))) e
+    rest : frameChecks t f ≡ 0
+    rest = or-right (frameFault l) (frameChecks t f) e
 
     few : f .kind < 3
     few = ltb-true (f .kind) 3 (unless-none (ltb (f .kind) 3) 8 (or-left (eventKindFault f) (orElse (numberFault t f) (eventEndsFault t f)) rest))
@@ -64,13 +65,51 @@ says t l e = go (ℕ-discrete (f .kind) 0) (ℕ-discrete (f .kind) 1)
         a-refusal i (omega (arith, few)) (within z) (between-across t (f .from) (f .to) (within z)) (rw (ne-eqb (f .kind) 0 z, ne-eqb (f .kind) 1 o))
         (rw (ne-eqb (f .kind) 1 o))
 
--- the byte by which a frame may be sent
+-- the byte by which a frame of the table may be sent
 module _ (t : Table) (f : Frame) (i : ℕ) where
-  pub may-offer : heardOf t f ≡ Offer i → (r : List ℕ) → MaySend t r f ↔ (outOf t r (f .from) i ≡ 1)
-  may-offer is r = (λ m. eqb-true (outOf t r (f .from) i) 1 (rw is at m), λ e. rw (is, e))
+  pub may-offer : heardOf t f ≡ Offer i → (r : List ℕ)
+      → (MaySend t r f → outOf t r (f .from) i ≡ 1) × (FrameOfTable t f → outOf t r (f .from) i ≡ 1 → MaySend t r f)
+  may-offer is r = (λ m. eqb-true (outOf t r (f .from) i) 1 (rw is at (m .1)), λ frame e. (frame, rw (is, e)))
 
-  pub may-refuse : heardOf t f ≡ Refusal i → (r : List ℕ) → MaySend t r f ↔ (inOf t r (f .from) i ≡ 2)
-  may-refuse is r = (λ m. eqb-true (inOf t r (f .from) i) 2 (rw is at m), λ e. rw (is, e))
+  pub may-refuse : heardOf t f ≡ Refusal i → (r : List ℕ)
+      → (MaySend t r f → inOf t r (f .from) i ≡ 2) × (FrameOfTable t f → inOf t r (f .from) i ≡ 2 → MaySend t r f)
+  may-refuse is r = (λ m. eqb-true (inOf t r (f .from) i) 2 (rw is at (m .1)), λ frame e. (frame, rw (is, e)))
+
+-- a frame that may be sent at some moment passes the checks before 27
+module _ (t : Table) (l : List ℕ) (digits : frameFault l ≡ 0) where
+  abbrev f : Frame
+  f = frameOf l
+
+  abbrev i : ℕ
+  i = between t (f .from) (f .to)
+
+  frame-passes : f .number ≡ t .number → (f .kind ≡ 0 → ⊥) → f .kind < 3 → i < t .links → eventLineFault t l ≡ 0
+  frame-passes number some few within =
+      or-none (frameFault l) (frameChecks t f) digits
+      ∙ frame-checks t f number few (rw (ne-eqb (f .kind) 0 some, lt-ltb i (t .links) within))
+
+  may-send-passes : (r : List ℕ) → MaySend t r f → eventLineFault t l ≡ 0
+  may-send-passes r ((number, inl k), m) = frame-passes number (λ z. omega arith) (omega arith) (go (decLt i (t .links)))
+    where
+      go : Dec (i < t .links) → i < t .links
+      go (yes b) = b
+      go (no b) =
+          let one = eqb-true (outOf t r (f .from) i) 1 (rw (eq-eqb (f .kind) 1 k) at m) in
+          let none = out-reads t .no-byte r (f .from) i (λ own. b (own .0)) in
+          absurd (omega arith)
+  may-send-passes r ((number, inr k), m) = frame-passes number (λ z. omega arith) (omega arith) (go (decLt i (t .links)))
+    where
+      go : Dec (i < t .links) → i < t .links
+      go (yes b) = b
+      go (no b) =
+          let two = eqb-true (inOf t r (f .from) i) 2 (rw (ne-eqb (f .kind) 1 (λ z. omega arith)) at m) in
+          let none = in-reads t .no-byte r (f .from) i (λ own. b (own .0)) in
+          absurd (omega arith)
+
+  pub truly-sent-passes : (so-far : List (List ℕ)) → TrulySent t f so-far → eventLineFault t l ≡ 0
+  truly-sent-passes [] m = absurd m
+  truly-sent-passes (r ∷ so-far) (inl m) = may-send-passes r m
+  truly-sent-passes (r ∷ so-far) (inr m) = truly-sent-passes so-far m
 
 module _ (t : Table) (r : List ℕ) (f : Frame) where
   -- 27, and that it does not turn the frame down

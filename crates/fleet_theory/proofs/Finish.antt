@@ -24,7 +24,9 @@ use Rattle.fleet_theory.proofs.EndFinish.{rested-in, finished-plan}
 use Rattle.fleet_theory.proofs.EndLive.{live-or-quiet}
 use Rattle.fleet_theory.specs.Fleet.{eventLineFault, outcomeOf, State, accepted, next, run, finished}
 use Rattle.table.specs.Slices.{Slices, tableOf, slicesFault}
-use Rattle.fleet_theory.specs.Demand3.{MaySend, moments, TrulySent, endRests, LeadsOn}
+use Rattle.fleet_theory.specs.Words.{MaySend, TrulySent, endRests, Usable}
+use Rattle.fleet_theory.specs.ClaimsOfRun.{moments, LeadsOn}
+use Rattle.fleet_theory.proofs.Lines.{line-frame}
 use Rattle.fleet_theory.proofs.Own.{outOf, inOf}
 use Rattle.fleet_theory.proofs.Run.{slices-legal, HoldsAfter, Passed, passed-fault, next-accepted, accepted-holds, accepted-steps}
 use Rattle.fleet_theory.proofs.Quiet.{quiet-finished, finished-quiet, quiet-stays}
@@ -160,14 +162,14 @@ module _ (x : Slices) (fine : slicesFault x ≡ 0) where
               then-on so-far now-sent room fits =
                   let pass = passed room (omega arith) in
                   let long = length-append (s .log) (entryOf t (frameOf l .to) (outcomeOf t (s .bytes) (frameOf l)) ∷ []) in (
-                    (a .line, sent (a .usable)),
+                    sent (a .usable),
                     (entryOf t (frameOf l .to) (outcomeOf t (s .bytes) (frameOf l)), rw (passed-fault x fine s h room l pass) refl),
                     rw (next-accepted x fine s h room l pass) (rest .1 (so-far ++ (s′ .bytes ∷ [])) (last-sent t (s′ .bytes) so-far) room (omega arith)),
                   )
                 where
-                  sent : (frameOf l .kind ≡ 0) ⊎ MaySend t (s .bytes) (frameOf l) → (frameOf l .kind ≡ 0) ⊎ TrulySent t (frameOf l) so-far
-                  sent (inl z) = inl z
-                  sent (inr m) = inr (now-sent (frameOf l) m)
+                  sent : (frameOf l .kind ≡ 0) ⊎ MaySend t (s .bytes) (frameOf l) → Usable t l so-far
+                  sent (inl z) = inl (a .line, z)
+                  sent (inr m) = inr (line-frame t l (a .line), now-sent (frameOf l) m)
 
   pub leads : x .number < 65536 → (s : State) → HoldsAfter t s → Leads s
   leads digits s h = leads-on digits (suc (8 * x .links)) s h (omega arith)

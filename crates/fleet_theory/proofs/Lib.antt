@@ -18,7 +18,7 @@ pub mod Sent
 pub mod Quiet
 pub mod Live
 pub mod Finish
-pub mod Demand3
+pub mod ClaimsOfRun
 pub mod Alone
 pub mod Ends
 pub mod Samples

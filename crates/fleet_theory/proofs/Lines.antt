@@ -2,10 +2,13 @@
 use Prim.Native.Nat.{ℕ, _<_}
 use mathlib.Core.Path.{_≡_, refl, _∙_, ap}
 use mathlib.Core.Logic.{_⊎_, inl, inr}
+use mathlib.Core.List.{List}
 use native.Mathlib.Omega.{arith}
-use borrow.Author.Tests.{lt-ltb, eq-eqb, ne-eqb}
+use lib.Dec.{eqb}
+use borrow.Author.Tests.{lt-ltb, eqb-true, eq-eqb, ne-eqb}
 use Rattle.range.specs.First.{orElse}
-use Rattle.range.proofs.Faults.{or-none}
+use Rattle.range.proofs.Bools.{unless-none}
+use Rattle.range.proofs.Faults.{or-left, or-right, or-none}
 use Rattle.table.specs.Table.{Table, between}
 use Rattle.table.specs.Legal.{Legal}
 use Rattle.plan_theory.specs.Criterion.{Across}
@@ -16,16 +19,31 @@ use Rattle.probe_rules.proofs.Frames.{between-is, ends-below, writable}
 use Rattle.fleet_theory.specs.Fleet.{eventKindFault, eventEndsFault, eventLineFault}
 
 -- the checks of a line after 1 and 2 are those of its frame
-abbrev frameChecks : Table → Frame → ℕ
+abbrev pub frameChecks : Table → Frame → ℕ
 frameChecks t f = orElse (eventKindFault f) (orElse (numberFault t f) (eventEndsFault t f))
+
+pub frame-checks : (t : Table) (f : Frame) → f .number ≡ t .number → f .kind < 3 → eventEndsFault t f ≡ 0 → frameChecks t f ≡ 0
+frame-checks t f number kind ends =
+    or-none (eventKindFault f) (orElse (numberFault t f) (eventEndsFault t f)) (rw (lt-ltb (f .kind) 3 kind))
+    ∙ or-none (numberFault t f) (eventEndsFault t f) (rw (eq-eqb (f .number) (t .number) number))
+    ∙ ends
+
+-- what a line past these checks gives
+module _ (t : Table) (l : List ℕ) (e : eventLineFault t l ≡ 0) where
+  pub line-frame : frameFault l ≡ 0
+  line-frame = or-left (frameFault l) (frameChecks t (frameOf l)) e
+
+  pub line-number : frameOf l .number ≡ t .number
+  line-number =
+      let f = frameOf l in
+      let rest = or-right (eventKindFault f) (orElse (numberFault t f) (eventEndsFault t f)) (or-right (frameFault l) (frameChecks t f) e) in
+      eqb-true (f .number) (t .number) (unless-none (eqb (f .number) (t .number)) 22 (or-left (numberFault t f) (eventEndsFault t f) rest))
 
 line-fault : (t : Table) (f : Frame) → Writable f → f .number ≡ t .number → f .kind < 3 → eventEndsFault t f ≡ 0 → eventLineFault t (frameLine f) ≡ 0
 line-fault t f w number kind ends =
     or-none (frameFault (frameLine f)) (frameChecks t (frameOf (frameLine f))) (line-passes f w)
     ∙ ap (frameChecks t) (line-says f w)
-    ∙ or-none (eventKindFault f) (orElse (numberFault t f) (eventEndsFault t f)) (rw (lt-ltb (f .kind) 3 kind))
-    ∙ or-none (numberFault t f) (eventEndsFault t f) (rw (eq-eqb (f .number) (t .number) number))
-    ∙ ends
+    ∙ frame-checks t f number kind ends
 
 module _ (t : Table) (legal : Legal t) (digits : t .number < 65536) where
   pub opening-line : (p : ℕ) → p < t .probes

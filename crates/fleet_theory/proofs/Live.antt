@@ -26,7 +26,7 @@ use Rattle.fleet_theory.proofs.EndState.{onesAt, store, SameBytes, Live
 use Rattle.table.proofs.LegalLaws.{legal-table}
 use Rattle.fleet_theory.proofs.EndBytes.{storedByte, Swap, gone, new, old, swap}
 use Rattle.fleet_theory.specs.Fleet.{own, eventLineFault, alterFleet, alteredBy}
-use Rattle.fleet_theory.specs.Demand3.{MaySend}
+use Rattle.fleet_theory.specs.Words.{MaySend}
 use Rattle.fleet_theory.proofs.Own.{outOf, inOf}
 use Rattle.fleet_theory.proofs.Bytes.{storedIn, altered-out, altered-in}
 use Rattle.fleet_theory.proofs.Lines.{opening-line, frame-line}
@@ -139,9 +139,9 @@ module _ (t : Table) (legal : Legal t) (r : List ℕ) (long : length r ≡ 4 * t
       altering (record { kind = 0; number = t .number; from = p; to = p }) (a .0) (a .1) (inl refl) (opening-alters p i l at z room)
   live-line digits (may-hear i p w l x e z) =
       let a = frame-line t legal digits 1 i p w (inl refl) l x in
-      altering (record { kind = 1; number = t .number; from = p; to = w }) (a .0) (a .1) (inr (rw (a .2) (eq-eqb (outOf t r p i) 1 e)))
+      altering (record { kind = 1; number = t .number; from = p; to = w }) (a .0) (a .1) (inr ((refl, inl refl), rw (a .2) (eq-eqb (outOf t r p i) 1 e)))
       (rw (a .2) (offer-alters i p w l x (λ y. omega arith) z))
   live-line digits (may-learn i p w l x e d) =
       let a = frame-line t legal digits 2 i w p (inr refl) l (back x) in
-      altering (record { kind = 2; number = t .number; from = w; to = p }) (a .0) (a .1) (inr (rw (a .2) (eq-eqb (inOf t r w i) 2 e)))
+      altering (record { kind = 2; number = t .number; from = w; to = p }) (a .0) (a .1) (inr ((refl, inr refl), rw (a .2) (eq-eqb (inOf t r w i) 2 e)))
       (rw (a .2) (refusal-alters i p l (near x) d))

@@ -14,7 +14,7 @@ use Rattle.probe_rules.specs.Within.{OwnOutcome}
 use Rattle.probe_rules.proofs.Frames.{joins-across, across-joins, other-across, one-link}
 use Rattle.fleet_theory.proofs.EndState.{store}
 use Rattle.fleet_theory.proofs.EndBytes.{Cell, here, there, cell, storedByte, before-store, Swap, gone, new, old, swap}
-use Rattle.fleet_theory.specs.Demand3.{Refuses, RefusedIn}
+use Rattle.fleet_theory.specs.Words.{Refuses, RefusedIn}
 use Rattle.fleet_theory.proofs.Bytes.{storedIn}
 
 -- an entry more

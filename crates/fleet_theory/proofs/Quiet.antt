@@ -23,7 +23,7 @@ use Rattle.probe_frame.specs.Frame.{Frame, frameOf}
 use Rattle.fleet_theory.proofs.EndState.{onesAt, Quiet}
 use Rattle.table.proofs.LegalLaws.{legal-table}
 use Rattle.fleet_theory.specs.Fleet.{own, eventLineFault, alteredBy, wouldOpen, alters, finished}
-use Rattle.fleet_theory.specs.Demand3.{MaySend}
+use Rattle.fleet_theory.specs.Words.{MaySend}
 use Rattle.fleet_theory.proofs.Own.{outOf, inOf}
 use Rattle.fleet_theory.proofs.Events.{Says, an-opening, an-offer, a-refusal, says, may-offer, may-refuse}
 

@@ -26,7 +26,7 @@ use Rattle.fleet_theory.proofs.EndRise.{fresh-good, in-rises, good-step
 use Rattle.fleet_theory.specs.Fleet.{outAt, inAt, own, fleetFault, eventLineFault, outcomeOf, State, start, faultOf, accepted, next, run}
 use Rattle.table.proofs.Slices.{legal-slices}
 use Rattle.table.specs.Slices.{Slices, tableOf, slicesFault}
-use Rattle.fleet_theory.specs.Demand3.{RefusedIn, Refuses}
+use Rattle.fleet_theory.specs.Words.{RefusedIn, Refuses}
 use Rattle.fleet_theory.proofs.Own.{outOf, inOf, own-or-not, ReadsAt, out-reads, in-reads}
 use Rattle.fleet_theory.proofs.Bytes.{byte-of, length-altered, altered-in}
 use Rattle.fleet_theory.proofs.Connect.{StepBy}

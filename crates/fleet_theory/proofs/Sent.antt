@@ -28,9 +28,11 @@ use Rattle.fleet_theory.proofs.EndRise.{out-rises, in-rises, out-next}
 use Rattle.fleet_theory.proofs.EndFinish.{refused-plan}
 use Rattle.fleet_theory.specs.Fleet.{eventLineFault, outcomeOf, State, start, faultOf, answerTo, next, run}
 use Rattle.table.specs.Slices.{Slices, tableOf, slicesFault}
-use Rattle.fleet_theory.specs.Demand3.{IsFrame, MaySend, moments, TrulySent, RefusedIn}
+use Rattle.fleet_theory.specs.Words.{IsFrame, FrameOfTable, MaySend, TrulySent, RefusedIn, IsOpening, TrulySentLine, Usable}
+use Rattle.fleet_theory.specs.ClaimsOfRun.{moments}
 use Rattle.fleet_theory.proofs.Own.{outOf, inOf}
 use Rattle.fleet_theory.proofs.Bytes.{byte-of}
+use Rattle.fleet_theory.proofs.Lines.{line-frame, line-number}
 use Rattle.fleet_theory.proofs.Events.{Says, an-opening, an-offer, a-refusal, says, may-offer, may-refuse, unsentOf}
 use Rattle.fleet_theory.proofs.Run.{slices-legal, roomLeftFault, HoldsAfter, start-out, start-holds, fault-is, next-holds, next-steps, run-holds}
 
@@ -95,7 +97,7 @@ module _ (x : Slices) (fine : slicesFault x ≡ 0) where
         let c = run-rises s′ (next-holds x fine s h room l) ls p i in
         (omega arith, omega arith)
 
-    module _ (f : Frame) (i : ℕ) where
+    module _ (f : Frame) (frame : FrameOfTable t f) (i : ℕ) where
       abbrev maker : State → ℕ
       maker s = outOf t (s .bytes) (f .from) i
 
@@ -115,12 +117,12 @@ module _ (x : Slices) (fine : slicesFault x ≡ 0) where
 
         byte-offer : (s : State) → HoldsAfter t s → (ls : List (List ℕ)) → maker s ≤ 1 → (maker (run x room s ls) ≡ 0 → ⊥) → TrulySent t f (moments x room s ls)
         unfolding moments run
-        byte-offer s h [] few d = inl (may-offer t f i is (s .bytes) .1 (omega (arith, d)))
+        byte-offer s h [] few d = inl (may-offer t f i is (s .bytes) .1 frame (omega (arith, d)))
         byte-offer s h (l ∷ ls) few d = go (byte-offer (next x room s l) (next-holds x fine s h room l) ls) (ℕ-discrete (maker s) 1)
           where
             go : (maker (next x room s l) ≤ 1 → (maker (run x room (next x room s l) ls) ≡ 0 → ⊥) → TrulySent t f (moments x room (next x room s l) ls))
                 → Dec (maker s ≡ 1) → MaySend t (s .bytes) f ⊎ TrulySent t f (moments x room (next x room s l) ls)
-            go on (yes e) = inl (may-offer t f i is (s .bytes) .1 e)
+            go on (yes e) = inl (may-offer t f i is (s .bytes) .1 frame e)
             go on (no e) =
                 let s′ = next x room s l in
                 inr (on (out-next t legal (outOf t (s .bytes)) (inOf t (s .bytes)) (outOf t (s′ .bytes)) (inOf t (s′ .bytes)) (h .good) (next-steps x fine s h room l) (f .from) i (omega arith)) d)
@@ -137,11 +139,11 @@ module _ (x : Slices) (fine : slicesFault x ≡ 0) where
 
         byte-refusal : (s : State) (ls : List (List ℕ)) → refuser (run x room s ls) ≡ 2 → TrulySent t f (moments x room s ls)
         unfolding moments run
-        byte-refusal s [] e = inl (may-refuse t f i is (s .bytes) .1 e)
+        byte-refusal s [] e = inl (may-refuse t f i is (s .bytes) .1 frame e)
         byte-refusal s (l ∷ ls) e = inr (byte-refusal (next x room s l) ls e)
 
-    -- a frame past the checks before 27, after a list of lines
-    module _ (ls : List (List ℕ)) (l : List ℕ) (frame : IsFrame (frameOf l)) where
+    -- a line after a list of lines
+    module _ (ls : List (List ℕ)) (l : List ℕ) where
       abbrev s : State
       s = run x room (start x) ls
 
@@ -154,25 +156,31 @@ module _ (x : Slices) (fine : slicesFault x ≡ 0) where
       abbrev Truly : Type 0
       Truly = TrulySent t f (moments x room (start x) ls)
 
-      sent-or-not : Says t f → ((unsent ≡ 0) × Truly) ⊎ ((unsent ≡ 27) × (Truly → ⊥))
-      sent-or-not (an-opening k b v) = absurd (go frame)
+      -- an opening, or a frame that 27 turns down exactly when it is not truly sent
+      pub data Sending : Type 0 where
+        opens : f .kind ≡ 0 → Sending
+        sent : IsFrame f → unsent ≡ 0 → Truly → Sending
+        not-sent : IsFrame f → unsent ≡ 27 → (Truly → ⊥) → Sending
+
+      sending : f .number ≡ t .number → Says t f → Sending
+      sending number (an-opening k b v) = opens k
+      sending number (an-offer i k b a v is) = go (ℕ-discrete (maker f (number, inl k) i s) 0)
         where
-          go : IsFrame f → ⊥
-          go (inl e) = omega arith
-          go (inr e) = omega arith
-      sent-or-not (an-offer i k b a v is) = go (ℕ-discrete (maker f i s) 0)
-        where
-          go : Dec (maker f i s ≡ 0) → ((unsent ≡ 0) × Truly) ⊎ ((unsent ≡ 27) × (Truly → ⊥))
-          go (yes z) = inr (rw (v, eq-eqb (maker f i s) 0 z), λ m. let c = offer-byte f i is (start x) (start-holds x fine) ls m in omega arith)
+          go : Dec (maker f (number, inl k) i s ≡ 0) → Sending
+          go (yes z) =
+              not-sent (inl k) (rw (v, eq-eqb (maker f (number, inl k) i s) 0 z))
+              (λ m. let c = offer-byte f (number, inl k) i is (start x) (start-holds x fine) ls m in omega arith)
           go (no d) =
-              inl (rw (v, ne-eqb (maker f i s) 0 d), byte-offer f i is (start x) (start-holds x fine) ls (let z = start-out x (f .from) i in omega arith) d)
-      sent-or-not (a-refusal i k b a v is) = go (ℕ-discrete (refuser f i s) 2)
+              sent (inl k) (rw (v, ne-eqb (maker f (number, inl k) i s) 0 d))
+              (byte-offer f (number, inl k) i is (start x) (start-holds x fine) ls (let z = start-out x (f .from) i in omega arith) d)
+      sending number (a-refusal i k b a v is) = go (ℕ-discrete (refuser f (number, inr k) i s) 2)
         where
-          go : Dec (refuser f i s ≡ 2) → ((unsent ≡ 0) × Truly) ⊎ ((unsent ≡ 27) × (Truly → ⊥))
-          go (yes e) = inl (rw (v, eq-eqb (refuser f i s) 2 e), byte-refusal f i is (start x) ls e)
+          go : Dec (refuser f (number, inr k) i s ≡ 2) → Sending
+          go (yes e) = sent (inr k) (rw (v, eq-eqb (refuser f (number, inr k) i s) 2 e)) (byte-refusal f (number, inr k) i is (start x) ls e)
           go (no d) =
               let few = run-holds x fine room (start x) (start-holds x fine) ls .good .in-small (f .from) i in
-              inr (rw (v, ne-eqb (refuser f i s) 2 d), λ m. d (let c = refusal-byte f i is (start x) (start-holds x fine) ls m in omega arith))
+              not-sent (inr k) (rw (v, ne-eqb (refuser f (number, inr k) i s) 2 d))
+              (λ m. d (let c = refusal-byte f (number, inr k) i is (start x) (start-holds x fine) ls m in omega arith))
 
       abbrev full : ℕ
       full = roomLeftFault (length (s .log)) room
@@ -180,33 +188,67 @@ module _ (x : Slices) (fine : slicesFault x ≡ 0) where
       fault : faultOf x room s l ≡ orElse (eventLineFault t l) (orElse unsent full)
       fault = fault-is x fine s (run-holds x fine room (start x) (start-holds x fine) ls) room l
 
+      -- the number of the answer is the line's fault
+      answered : numberOf (answerTo x room s l) ≡ faultOf x room s l
+      answered = answer-number (faultOf x room s l) (entryOf t (f .to) (outcomeOf t (s .bytes) f))
+
       answer-refused : (n : ℕ) → faultOf x room s l ≡ n → (n ≡ 0 → ⊥) → answerTo x room s l ≡ Refused n
       answer-refused n e d = rw (e, ne-eqb n 0 d)
 
-      pub by-27 : eventLineFault t l ≡ 0 → (answerTo x room s l ≡ Refused 27) ↔ (Truly → ⊥)
-      by-27 e = go (sent-or-not (says t l e))
-        where
-          not-full : full ≡ 27 → ⊥
-          not-full = part (ltb (length (s .log)) room)
-            where
-              part : (b : Bool) → _≡_ {A = ℕ} (cond b 0 26) 27 → ⊥
-              part true z = omega arith
-              part false z = omega arith
+      line-refused : (eventLineFault t l ≡ 0 → ⊥) → answerTo x room s l ≡ Refused (eventLineFault t l)
+      line-refused e = answer-refused (eventLineFault t l) (fault ∙ or-some (eventLineFault t l) (orElse unsent full) e) e
 
-          go : ((unsent ≡ 0) × Truly) ⊎ ((unsent ≡ 27) × (Truly → ⊥)) → (answerTo x room s l ≡ Refused 27) ↔ (Truly → ⊥)
-          go (inl (z, m)) = (
-            λ a. absurd (not-full
-                (sym (fault ∙ or-none (eventLineFault t l) (orElse unsent full) e ∙ or-none unsent full z)
-                ∙ sym (answer-number (faultOf x room s l) (entryOf t (f .to) (outcomeOf t (s .bytes) f)))
-                ∙ ap numberOf a)),
-            λ d. absurd (d m),
-          )
-          go (inr (z, d)) =
-              (λ a. d, λ c. answer-refused 27 (fault ∙ or-none (eventLineFault t l) (orElse unsent full) e ∙ rw z) (λ y. omega arith))
+      module _ (e : eventLineFault t l ≡ 0) where
+        here : Sending
+        here = sending (line-number t l e) (says t l e)
 
-      pub not-sent : (Truly → ⊥) → (n : ℕ) × (answerTo x room s l ≡ Refused n)
-      not-sent d = go (ℕ-discrete (eventLineFault t l) 0)
+        refused-27 : unsent ≡ 27 → answerTo x room s l ≡ Refused 27
+        refused-27 z = answer-refused 27 (fault ∙ or-none (eventLineFault t l) (orElse unsent full) e ∙ rw z) (λ y. omega arith)
+
+        pub by-27 : IsFrame f → (answerTo x room s l ≡ Refused 27) ↔ (Truly → ⊥)
+        by-27 frame = go frame here
+          where
+            not-full : full ≡ 27 → ⊥
+            not-full = part (ltb (length (s .log)) room)
+              where
+                part : (b : Bool) → _≡_ {A = ℕ} (cond b 0 26) 27 → ⊥
+                part true z = omega arith
+                part false z = omega arith
+
+            go : IsFrame f → Sending → (answerTo x room s l ≡ Refused 27) ↔ (Truly → ⊥)
+            go (inl k) (opens z) = absurd (omega arith)
+            go (inr k) (opens z) = absurd (omega arith)
+            go k (sent is z m) = (
+              λ a. absurd (not-full (sym (fault ∙ or-none (eventLineFault t l) (orElse unsent full) e ∙ or-none unsent full z) ∙ sym answered ∙ ap numberOf a)),
+              λ d. absurd (d m),
+            )
+            go k (not-sent is z d) = (λ a. d, λ c. refused-27 z)
+
+      -- a line that is neither an opening nor a truly sent frame is turned down
+      pub unsent-turned-down : (IsOpening t l → ⊥) → (TrulySentLine t l (moments x room (start x) ls) → ⊥) → (n : ℕ) × (answerTo x room s l ≡ Refused n)
+      unsent-turned-down no-opening no-frame = go (ℕ-discrete (eventLineFault t l) 0)
         where
+          past : eventLineFault t l ≡ 0 → Sending → (n : ℕ) × (answerTo x room s l ≡ Refused n)
+          past e (opens z) = absurd (no-opening (e, z))
+          past e (sent is z m) = absurd (no-frame (line-frame t l e, m))
+          past e (not-sent is z d) = (27, refused-27 e z)
+
           go : Dec (eventLineFault t l ≡ 0) → (n : ℕ) × (answerTo x room s l ≡ Refused n)
-          go (yes e) = (27, by-27 e .1 d)
-          go (no e) = (eventLineFault t l, answer-refused (eventLineFault t l) (fault ∙ or-some (eventLineFault t l) (orElse unsent full) e) e)
+          go (yes e) = past e (here e)
+          go (no e) = (eventLineFault t l, line-refused e)
+
+      -- and an accepted line is one of both
+      pub logged-usable : (entry : Entry) → answerTo x room s l ≡ Logged entry → Usable t l (moments x room (start x) ls)
+      logged-usable entry is = go (ℕ-discrete (eventLineFault t l) 0)
+        where
+          never : (n : ℕ) → (n ≡ 0 → ⊥) → answerTo x room s l ≡ Refused n → ⊥
+          never n d e = d (sym (ap numberOf e) ∙ ap numberOf is)
+
+          past : eventLineFault t l ≡ 0 → Sending → Usable t l (moments x room (start x) ls)
+          past e (opens z) = inl (e, z)
+          past e (sent k z m) = inr (line-frame t l e, m)
+          past e (not-sent k z d) = absurd (never 27 (λ y. omega arith) (refused-27 e z))
+
+          go : Dec (eventLineFault t l ≡ 0) → Usable t l (moments x room (start x) ls)
+          go (yes e) = past e (here e)
+          go (no e) = absurd (never (eventLineFault t l) e (line-refused e))

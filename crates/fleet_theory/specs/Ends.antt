@@ -23,7 +23,7 @@ use Rattle.probe.specs.Answers.{Befallen, Asks, askedEvent, askedFrame, askedLi
 use Rattle.table.specs.Legal.{lentFault}
 use Rattle.fleet_theory.specs.Fleet.{State, start, own, faultOf, answerTo, next, run}
 use Rattle.table.specs.Slices.{Slices, tableOf, slicesFault}
-use Rattle.fleet_theory.specs.Demand3.{IsFrame, MaySend}
+use Rattle.fleet_theory.specs.Words.{IsFrame, MaySend}
 
 -- the line l at the state s, and the probe `to` called alone: `event` is what reaches it, `fault` the fault of its call
 module _ (x : Slices) (room : ℕ) (s : State) (l : List ℕ) where

@@ -1,4 +1,5 @@
 pub mod Fleet
-pub mod Demand3
+pub mod Words
+pub mod ClaimsOfRun
 pub mod Ends
 pub mod Samples

@@ -2,6 +2,7 @@ pub mod Places
 pub mod Pass
 pub mod Order
 pub mod Plan
+pub mod Same
 pub mod Slse
 pub mod Bound
 pub mod Settled

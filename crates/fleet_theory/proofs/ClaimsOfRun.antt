@@ -1,4 +1,4 @@
--- Demand 3.
+-- The claims of demand 3 about the run, one by one: each by what holds after a list of lines (`HoldsAfter`).
 use Prim.Native.Nat.{ℕ, _<_}
 use mathlib.Core.Path.{_≡_, sym, _∙_}
 use mathlib.Core.List.{List}
@@ -7,21 +7,25 @@ use Rattle.table.specs.Table.{Table}
 use Rattle.plan_theory.proofs.Plan.{touches-low, touches-high}
 use Rattle.fleet_theory.specs.Fleet.{State, start, run}
 use Rattle.table.specs.Slices.{Slices, tableOf, slicesFault}
-use Rattle.fleet_theory.specs.Demand3.{moments, Demand3}
-use Rattle.fleet_theory.proofs.Run.{HoldsAfter, start-holds, run-holds}
+use Rattle.fleet_theory.specs.ClaimsOfRun.{moments, ClaimsOfRun}
+use Rattle.fleet_theory.proofs.Events.{truly-sent-passes}
+use Rattle.fleet_theory.proofs.Run.{HoldsAfter, start-holds, fleet-passes, run-holds}
 use Rattle.fleet_theory.proofs.Changes.{changes-four}
-use Rattle.fleet_theory.proofs.Sent.{refused-is-kept, two-is-refused, by-27, not-sent}
+use Rattle.fleet_theory.proofs.Sent.{refused-is-kept, two-is-refused, by-27, unsent-turned-down, logged-usable}
 use Rattle.fleet_theory.proofs.Finish.{run-sent, finished-unaltered, unaltered-finished, ends-plan, needs-kept, cost-kept, leads}
 
-pub demand-3 : (x : Slices) → slicesFault x ≡ 0 → x .number < 65536 → (room : ℕ) (ls : List (List ℕ)) → Demand3 x room ls
-demand-3 x fine digits room ls =
+pub claims-of-run : (x : Slices) → slicesFault x ≡ 0 → x .number < 65536 → (room : ℕ) (ls : List (List ℕ)) → ClaimsOfRun x room ls
+claims-of-run x fine digits room ls =
     record {
+      passes = fleet-passes x fine after holds;
       eight = λ i l. let a = changes-four x fine room ls i l in omega arith;
       four = changes-four x fine room ls;
       refused-kept = refused-is-kept x fine after holds;
       two-refused = two-is-refused x fine after holds;
-      unsent-refused = λ xs ys l e frame. not-sent x fine room xs l frame;
-      unsent-by-27 = λ xs ys l e frame. by-27 x fine room xs l frame;
+      unsent-refused = λ xs ys l is. unsent-turned-down x fine room xs l;
+      sent-passes = λ so-far l m. truly-sent-passes t l (m .0) so-far (m .1);
+      accepted-usable = λ xs ys l is. logged-usable x fine room xs l;
+      unsent-by-27 = λ xs ys l is frame e. by-27 x fine room xs l e frame;
       goes-on = let w = leads x fine digits after holds in (w .0, w .1 (moments x room (start x) ls) (run-sent x room (start x) ls));
       says-finished = (finished-unaltered x fine after holds, unaltered-finished x fine after holds digits);
       rests-plan = ends-plan x fine after holds;

@@ -1,61 +1,23 @@
--- Demand 3: one claim about a whole list of lines of any bytes.
+-- The claims of demand 3 about the run over a list of lines of any bytes. Behind demand 3, which is about calls: `fleet_calls`.
 use Prim.Native.Nat.{ℕ, _+_, _*_, _/_, _≤_, _<_}
 use mathlib.Core.Path.{_≡_}
 use mathlib.Core.Logic.{_↔_, _⊎_}
 use mathlib.Core.Bool.{Bool, true, not}
 use mathlib.Core.List.{List, [], _∷_, _++_}
 use lib.ListN.{length}
-use Rattle.table.specs.Table.{Table, item, touches, joins}
-use Rattle.plan_theory.specs.Plan.{rested, kept, linksAt, costOf, Meets}
-use Rattle.probe_frame.specs.Frame.{Frame, frameOf}
-use Rattle.wake_log.specs.declared.Entry.{Entry}
-use Rattle.wake_log.specs.declared.What.{What}
-use Rattle.wake_log.specs.declared.What.the-variants as what
-use Rattle.wake_log.specs.declared.Answer.the-variants.{Logged, Refused}
-use Rattle.probe_rules.specs.Rules.{sendable, rests}
-use Rattle.probe_rules.specs.Frames.{heardOf}
-use Rattle.fleet_theory.specs.Fleet.{State, start, own, eventLineFault, answerTo, next, run, changes, finished}
+use Rattle.table.specs.Table.{Table, item, touches}
 use Rattle.table.specs.Slices.{Slices, tableOf}
-
--- "a frame": a line's frame that is no opening
-abbrev pub IsFrame : Frame → Type 0
-IsFrame f = (f .kind ≡ 1) ⊎ (f .kind ≡ 2)
-
--- "the rules above let the frame be sent": by the probe `from`, on its own bytes
-abbrev pub MaySend : Table → List ℕ → Frame → Type 0
-MaySend t r f = sendable (heardOf t f) (own t (f .from) r) ≡ true
+use Rattle.plan_theory.specs.Plan.{rested, kept, linksAt, costOf, Meets}
+use Rattle.probe_frame.specs.Frame.{frameOf}
+use Rattle.wake_log.specs.declared.Entry.{Entry}
+use Rattle.wake_log.specs.declared.Answer.the-variants.{Logged, Refused}
+use Rattle.fleet_theory.specs.Fleet.{State, start, fleetFault, eventLineFault, answerTo, next, run, changes, finished}
+use Rattle.fleet_theory.specs.Words.{IsFrame, MaySend, TrulySent, RefusedIn, endRests, IsOpening, TrulySentLine, Usable}
 
 -- the moments of a list: its records, "the start included"
 unfoldable pub moments : Slices → ℕ → State → List (List ℕ) → List (List ℕ)
 moments x room s [] = s .bytes ∷ []
 moments x room s (l ∷ ls) = s .bytes ∷ moments x room (next x room s l) ls
-
--- "Truly sent: at some moment so far .. the rules above let the frame be sent."
-abbrev pub TrulySent : Table → Frame → List (List ℕ) → Type 0
-TrulySent t f [] = ⊥
-TrulySent t f (r ∷ rs) = MaySend t r f ⊎ TrulySent t f rs
-
--- "Refused: an event so far refused an offer on the link or displaced one": the entry of the probe p says so of the link i
-abbrev pub Refuses : Table → ℕ → ℕ → What → Type 0
-Refuses t i p (what.Refused j) = j ≡ i
-Refuses t i p (what.TakenDisplacing j q) = joins t p q i ≡ true
-Refuses t i p (what.Opened j) = ⊥
-Refuses t i p what.NothingToOpen = ⊥
-Refuses t i p (what.Taken j) = ⊥
-Refuses t i p (what.RefusalLearnt j) = ⊥
-Refuses t i p (what.NoChange j) = ⊥
-
-abbrev pub RefusedIn : Table → ℕ → List Entry → Type 0
-RefusedIn t i [] = ⊥
-RefusedIn t i (e ∷ es) = Refuses t i (e .probe) (e .what) ⊎ RefusedIn t i es
-
--- the end p rests the link i
-abbrev pub endRests : Table → List ℕ → ℕ → ℕ → Bool
-endRests t r p i = rests (own t p r) i
-
--- "openings and truly sent frames"
-abbrev pub Usable : Table → List ℕ → List (List ℕ) → Type 0
-Usable t l so-far = (eventLineFault t l ≡ 0) × ((frameOf l .kind ≡ 0) ⊎ TrulySent t (frameOf l) so-far)
 
 -- "some further list of openings and truly sent frames, none turned down, leads to the finish": `so-far` are the moments up to the state
 abbrev pub LeadsOn : Slices → ℕ → List (List ℕ) → State → List (List ℕ) → Type 0
@@ -73,16 +35,23 @@ module _ (x : Slices) (room : ℕ) (ls : List (List ℕ)) where
   abbrev after : State
   after = run x room (start x) ls
 
-  pub record Demand3 : Type 0 where
+  pub record ClaimsOfRun : Type 0 where
+    -- 20 to 22 let the record pass
+    pub passes : fleetFault t (after .bytes) ≡ 0
     -- "after it no link has had more than eight changes", and not more than four
     pub eight : (i : ℕ) → i < x .links → changes x room (start x) ls i ≤ 8
     pub four : (i : ℕ) → i < x .links → changes x room (start x) ls i ≤ 4
     -- "every link that either end has refused is in demand 2's plan"; "A byte 2 stands on no other link."
     pub refused-kept : (i : ℕ) → i < x .links → RefusedIn t i (after .log) → kept t i ≡ true
     pub two-refused : (j : ℕ) → item (after .bytes) j ≡ 2 → RefusedIn t (j / 4) (after .log)
-    -- "every frame not truly sent was turned down": at its place in the list
-    pub unsent-refused : (xs ys : List (List ℕ)) (l : List ℕ) → ls ≡ xs ++ l ∷ ys → IsFrame (frameOf l)
-        → (TrulySent t (frameOf l) (moments x room (start x) xs) → ⊥) → (n : ℕ) × (answerTo x room (run x room (start x) xs) l ≡ Refused n)
+    -- "every frame not truly sent was turned down", at its place in the list: every line that is neither an opening nor a truly sent frame
+    pub unsent-refused : (xs ys : List (List ℕ)) (l : List ℕ) → ls ≡ xs ++ l ∷ ys → (IsOpening t l → ⊥)
+        → (TrulySentLine t l (moments x room (start x) xs) → ⊥) → (n : ℕ) × (answerTo x room (run x room (start x) xs) l ≡ Refused n)
+    -- a line that is no frame, or is one of another table number, of another kind or between probes without a link, is never truly sent
+    pub sent-passes : (so-far : List (List ℕ)) (l : List ℕ) → TrulySentLine t l so-far → eventLineFault t l ≡ 0
+    -- so an accepted line is an opening or a truly sent frame
+    pub accepted-usable : (xs ys : List (List ℕ)) (l : List ℕ) → ls ≡ xs ++ l ∷ ys
+        → (e : Entry) → answerTo x room (run x room (start x) xs) l ≡ Logged e → Usable t l (moments x room (start x) xs)
     -- "a frame past the checks before 27 is turned down by 27 exactly when it is not truly sent"
     pub unsent-by-27 : (xs ys : List (List ℕ)) (l : List ℕ) → ls ≡ xs ++ l ∷ ys → IsFrame (frameOf l) → eventLineFault t l ≡ 0
         → (answerTo x room (run x room (start x) xs) l ≡ Refused 27) ↔ (TrulySent t (frameOf l) (moments x room (start x) xs) → ⊥)

@@ -1,0 +1,61 @@
+-- Calls can be made: for any lines, each over any slices of the table, on what the last one left. So no statement about calls is hollow.
+use Prim.Native.Nat.{ℕ}
+use mathlib.Core.Path.{_≡_, refl, ap}
+use mathlib.Core.Bool.{cond}
+use mathlib.Core.List.{List, [], _∷_}
+use lib.Dec.{eqb}
+use lib.ListN.{length, set}
+use Rattle.table.specs.Slices.{Slices, tableOf}
+use Rattle.probe_frame.specs.Frame.{frameOf}
+use Rattle.wake_log.specs.Entry.{answerOf}
+use Rattle.probe_rules.specs.Rules.{entryOf}
+use Rattle.fleet_theory.specs.Fleet.{eventFault, outcomeOf, alteredBy}
+use Rattle.fleet_calls.specs.Calls.{SameTable, LoggedCall, LoggedLeft, leftByLogged, KeptLogged, LoggedCalls, loggedLines, EventCall, EventLeft, leftByEvent, KeptEvent, EventCalls, eventLines}
+use Rattle.fleet_calls.proofs.Promises.{handled-is}
+
+-- the call of a line that does what `event_logged` promises
+abbrev pub madeLogged : LoggedLeft → Slices → List ℕ → LoggedCall
+madeLogged b y l =
+    let fault = eventFault y (b .bytes) (b .used) (length (b .log)) l in
+    let entry = entryOf (tableOf y) (frameOf l .to) (outcomeOf (tableOf y) (b .bytes) (frameOf l)) in
+    record {
+      slices = y;
+      line = l;
+      answer = answerOf fault entry;
+      bytes = cond (eqb fault 0) (alteredBy (tableOf y) (b .bytes) (frameOf l)) (b .bytes);
+      log = cond (eqb fault 0) (set (b .log) (b .used) entry) (b .log);
+    }
+
+abbrev madeEvent : ℕ → EventLeft → Slices → List ℕ → EventCall
+madeEvent room b y l =
+    let fault = eventFault y (b .bytes) (b .used) room l in
+    record {
+      slices = y;
+      line = l;
+      answer = answerOf fault (entryOf (tableOf y) (frameOf l .to) (outcomeOf (tableOf y) (b .bytes) (frameOf l)));
+      bytes = cond (eqb fault 0) (alteredBy (tableOf y) (b .bytes) (frameOf l)) (b .bytes);
+    }
+
+module _ (x y : Slices) (same : SameTable y x) where
+  pub made-kept : (b : LoggedLeft) (l : List ℕ) → KeptLogged x b (madeLogged b y l)
+  made-kept b l =
+      let c = madeLogged b y l in
+      record {
+        same-table = same;
+        promise = record { handled = handled-is y (b .used) (length (b .log)) l (c .answer) (b .bytes) (c .bytes) refl refl; log-after = refl };
+      }
+
+  pub callable : (b : LoggedLeft) (ls : List (List ℕ)) → (cs : List LoggedCall) × (loggedLines cs ≡ ls) × LoggedCalls x b cs
+  callable b [] = ([], refl, tt)
+  callable b (l ∷ ls) =
+      let c = madeLogged b y l in
+      let rest = callable (leftByLogged b c) ls in
+      (c ∷ rest .0, ap (λ (ms : List (List ℕ)). l ∷ ms) (rest .1), (made-kept b l, rest .2))
+
+  pub event-callable : (room : ℕ) (b : EventLeft) (ls : List (List ℕ)) → (cs : List EventCall) × (eventLines cs ≡ ls) × EventCalls x room b cs
+  event-callable room b [] = ([], refl, tt)
+  event-callable room b (l ∷ ls) =
+      let c = madeEvent room b y l in
+      let rest = event-callable room (leftByEvent b c) ls in
+      let kept : KeptEvent x room b c = record { same-table = same; promise = handled-is y (b .used) room l (c .answer) (b .bytes) (c .bytes) refl refl } in
+      (c ∷ rest .0, ap (λ (ms : List (List ℕ)). l ∷ ms) (rest .1), (kept, rest .2))

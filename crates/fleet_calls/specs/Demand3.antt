@@ -1,0 +1,106 @@
+-- Demand 3: one claim about a whole list of calls, each with a line of any bytes. Its words stand in `fleet_theory`, specs/Words.antt and specs/Fleet.antt.
+use Prim.Native.Nat.{ℕ, _+_, _*_, _/_, _≤_, _<_}
+use mathlib.Core.Path.{_≡_}
+use mathlib.Core.Logic.{_↔_, _⊎_}
+use mathlib.Core.Bool.{Bool, true, not}
+use mathlib.Core.List.{List, [], _∷_, _++_}
+use lib.ListN.{length, take}
+use Rattle.table.specs.Table.{Table, item, touches}
+use Rattle.table.specs.Slices.{Slices, tableOf}
+use Rattle.plan_theory.specs.Plan.{rested, kept, linksAt, costOf, Meets}
+use Rattle.probe_frame.specs.Frame.{frameOf}
+use Rattle.wake_log.specs.declared.Entry.{Entry}
+use Rattle.wake_log.specs.declared.Answer.the-variants.{Logged, Refused}
+use Rattle.fleet_theory.specs.Fleet.{start, fleetFault, eventLineFault, linkChanges, finished}
+use Rattle.fleet_theory.specs.Words.{IsFrame, MaySend, TrulySent, RefusedIn, endRests, IsOpening, TrulySentLine, Usable}
+use Rattle.fleet.specs.declared.Finishing.{Finishing}
+use Rattle.fleet.specs.declared.Finishing.the-variants.{Says}
+use Rattle.fleet.specs.Answers.{whetherFinished}
+use Rattle.fleet_calls.specs.Calls.{SameTable, LoggedCall, LoggedLeft, freshLogged, KeptLogged, LoggedCalls, leftAfterLogged, loggedLines}
+
+-- "Changes: for each accepted event, the record bytes whose value after it differs from that before; a link's are those in its own four bytes": from the record r on. A refused call alters none.
+abbrev pub changesOver : List ℕ → List LoggedCall → ℕ → ℕ
+changesOver r [] i = 0
+changesOver r (c ∷ cs) i = linkChanges r (c .bytes) i + changesOver (c .bytes) cs i
+
+-- the records of the moments from the record r on, "the start included"
+abbrev pub recordsOver : List ℕ → List LoggedCall → List (List ℕ)
+recordsOver r [] = r ∷ []
+recordsOver r (c ∷ cs) = r ∷ recordsOver (c .bytes) cs
+
+-- "some further list of openings and truly sent frames, none turned down, leads to the finish": from the record r on, `so-far` are the records of the moments up to it
+abbrev pub LeadsToFinish : Table → List (List ℕ) → List ℕ → List LoggedCall → Type 0
+LeadsToFinish t so-far r [] = finished t r ≡ true
+LeadsToFinish t so-far r (d ∷ ds) =
+    Usable t (d .line) so-far × ((e : Entry) × (d .answer ≡ Logged e)) × LeadsToFinish t (so-far ++ (d .bytes ∷ [])) (d .bytes) ds
+
+-- "For every list of openings and heard frames, refused ones included, from a fleet begun fresh with one legal table": the calls `cs`, with a log of any content and length
+module _ (x : Slices) (log : List Entry) (cs : List LoggedCall) where
+  abbrev t : Table
+  t = tableOf x
+
+  -- what the calls up to a moment leave, and what all leave
+  abbrev leftAt : List LoggedCall → LoggedLeft
+  leftAt before = leftAfterLogged (freshLogged x log) before
+
+  abbrev after : LoggedLeft
+  after = leftAt cs
+
+  -- the record after it, and the used entries of the log
+  abbrev bytes : List ℕ
+  bytes = after .bytes
+
+  abbrev entries : List Entry
+  entries = take (after .used) (after .log)
+
+  -- the records up to a moment
+  abbrev momentsAt : List LoggedCall → List (List ℕ)
+  momentsAt before = recordsOver (start x .bytes) before
+
+  -- a log with these used entries, of any room, and what a call then gets
+  abbrev HasEntries : List Entry → Type 0
+  HasEntries log′ = take (after .used) log′ ≡ entries
+
+  abbrev withLog : List Entry → LoggedLeft
+  withLog log′ = record { bytes = bytes; log = log′; used = after .used }
+
+  pub record Demand3 : Type 0 where
+    -- 20 to 22 let the record pass at every moment, so `finished`, called on it in any slices of the table, says whether the fleet is finished, and refuses nothing
+    pub passes : (before later : List LoggedCall) → cs ≡ before ++ later → fleetFault t (leftAt before .bytes) ≡ 0
+    pub says : (y : Slices) → SameTable y x → (q : Finishing) → q ≡ whetherFinished y bytes → q ≡ Says (finished t bytes)
+    -- "after it no link has had more than eight changes", and not more than four
+    pub eight : (i : ℕ) → i < x .links → changesOver (start x .bytes) cs i ≤ 8
+    pub four : (i : ℕ) → i < x .links → changesOver (start x .bytes) cs i ≤ 4
+    -- "every link that either end has refused is in demand 2's plan"; "A byte 2 stands on no other link."
+    pub refused-kept : (i : ℕ) → i < x .links → RefusedIn t i entries → kept t i ≡ true
+    pub two-refused : (j : ℕ) → item bytes j ≡ 2 → RefusedIn t (j / 4) entries
+    -- "every frame not truly sent was turned down": every line that is neither an opening nor a truly sent frame, at its place in the list
+    pub unsent-refused : (before later : List LoggedCall) (c : LoggedCall) → cs ≡ before ++ c ∷ later → (IsOpening t (c .line) → ⊥)
+        → (TrulySentLine t (c .line) (momentsAt before) → ⊥) → (n : ℕ) × (c .answer ≡ Refused n)
+    -- a line that is no frame, or is one of another table number, of another kind or between probes without a link, is never truly sent
+    pub sent-passes : (so-far : List (List ℕ)) (l : List ℕ) → TrulySentLine t l so-far → eventLineFault t l ≡ 0
+    -- so an accepted line is an opening or a truly sent frame
+    pub accepted-usable : (before later : List LoggedCall) (c : LoggedCall) → cs ≡ before ++ c ∷ later
+        → (e : Entry) → c .answer ≡ Logged e → Usable t (c .line) (momentsAt before)
+    -- "a frame past the checks before 27 is turned down by 27 exactly when it is not truly sent"
+    pub unsent-by-27 : (before later : List LoggedCall) (c : LoggedCall) → cs ≡ before ++ c ∷ later → IsFrame (frameOf (c .line)) → eventLineFault t (c .line) ≡ 0
+        → (c .answer ≡ Refused 27) ↔ (TrulySent t (frameOf (c .line)) (momentsAt before) → ⊥)
+    -- "From there some further list of openings and truly sent frames, none turned down, leads to the finish": "the log lent has an entry free for each of them"
+    pub goes-on : (ms : List (List ℕ))
+        × ((log′ : List Entry) → HasEntries log′ → after .used + length ms ≤ length log′ → (ds : List LoggedCall) → loggedLines ds ≡ ms → LoggedCalls x (withLog log′) ds
+        → LeadsToFinish t (momentsAt cs) bytes ds)
+    -- "The fleet says finished exactly when no opening and no frame that may be sent would change anything": called with an entry free
+    pub says-finished : (finished t bytes ≡ true)
+        ↔ ((log′ : List Entry) → HasEntries log′ → after .used < length log′ → (d : LoggedCall) → KeptLogged x (withLog log′) d
+        → eventLineFault t (d .line) ≡ 0 → (frameOf (d .line) .kind ≡ 0) ⊎ MaySend t bytes (frameOf (d .line)) → d .bytes ≡ bytes)
+    -- "Whenever it is finished, each end of each link rests it exactly when it is not in demand 2's plan, so both ends agree"
+    pub rests-plan : finished t bytes ≡ true → (i p : ℕ) → i < x .links → touches t p i ≡ true → endRests t bytes p i ≡ rested t i
+    pub ends-agree : finished t bytes ≡ true → (i : ℕ) → i < x .links → endRests t bytes (t .low i) i ≡ endRests t bytes (t .high i) i
+    -- "no two such lists with the same table finish with different plans": the other calls `cs′`, over slices y of the table, with another log
+    pub same-plan : finished t bytes ≡ true → (y : Slices) → SameTable y x → (log′ : List Entry) (cs′ : List LoggedCall) → LoggedCalls y (freshLogged y log′) cs′
+        → (let bytes′ = leftAfterLogged (freshLogged y log′) cs′ .bytes in
+        finished (tableOf y) bytes′ ≡ true → (i p : ℕ) → i < x .links → touches t p i ≡ true → endRests t bytes p i ≡ endRests (tableOf y) bytes′ p i)
+    -- "Every need is then met, and the plan costs at most twice as much as any choice of links that meets the needs."
+    pub needs-met : finished t bytes ≡ true → (v : ℕ) → v < x .probes → t .need v ≤ linksAt t (λ i. not (endRests t bytes v i)) v
+    pub cost-twice : finished t bytes ≡ true → (choice : ℕ → Bool) → Meets t choice
+        → costOf t (λ i. not (endRests t bytes (t .low i) i)) ≤ 2 * costOf t choice

@@ -1,0 +1,74 @@
+-- A script in pieces prints the same in any slices of the table: by induction on the bytes of a piece, then on the pieces.
+use Prim.Native.Nat.{ℕ, _+_, _%_}
+use mathlib.Core.Path.{_≡_, refl, _∙_, ap}
+use mathlib.Core.Bool.{cond}
+use mathlib.Core.List.{List, [], _∷_, _++_}
+use lib.Dec.{eqb}
+use lib.ListN.{length, take}
+use Rattle.range.specs.Sum.{sum}
+use Rattle.table.specs.Same.{Same}
+use Rattle.table.specs.Slices.{Slices, tableOf, slicesFault}
+use Rattle.output.specs.Output.{refusalLine}
+use Rattle.wake_log.specs.declared.Answer.{Answer}
+use Rattle.fleet_theory.specs.Fleet.{eventFault, linkChanges}
+use Rattle.fleet_calls.specs.Calls.{SameTable}
+use Rattle.fleet_calls.proofs.Same.{same-finished}
+use Rattle.fleet_calls.proofs.Promises.{same-fine, same-event-fault, same-answer, same-record-after}
+use Rattle.script_theory.specs.Script.{answerLine, lastLine, scriptText, Script, answered, bytesAfter, afterLine, afterByte, afterPiece, begun, endText, together, carried, printedBy}
+use Rattle.script_theory.proofs.Pieces.{any-pieces}
+use Rattle.script_calls.specs.Pieces.{PieceCall, PiecesOf, textOfPieces, printedByCalls}
+
+-- a script after a line, by what the line gives
+abbrev afterAnswer : Script → ℕ → List ℕ → Answer → ℕ → Script
+afterAnswer p fault bytes answer links =
+    record {
+      bytes = bytes;
+      used = p .used + cond (eqb fault 0) 1 0;
+      changed = (p .changed + sum links (linkChanges (p .bytes) bytes)) % 4294967296;
+      held = [];
+      out = p .out ++ answerLine answer;
+    }
+
+module _ (x y : Slices) (same : Same (tableOf x) (tableOf y)) (fine : slicesFault x ≡ 0) (fine′ : slicesFault y ≡ 0) (room : ℕ) where
+  same-after-line : (p : Script) (l : List ℕ) → afterLine x room p l ≡ afterLine y room p l
+  same-after-line p l =
+      let fault : Slices → ℕ = λ z. eventFault z (p .bytes) (p .used) room l in
+      ap (λ (n : ℕ). afterAnswer p n (bytesAfter x room p l) (answered x room p l) (x .links)) (same-event-fault x y same fine fine′ (p .used) room l (p .bytes))
+      ∙ ap (λ (r : List ℕ). afterAnswer p (fault y) r (answered x room p l) (x .links)) (same-record-after x y same fine fine′ (p .used) room l (p .bytes))
+      ∙ ap (λ (a : Answer). afterAnswer p (fault y) (bytesAfter y room p l) a (x .links)) (same-answer x y same fine fine′ (p .used) room l (p .bytes))
+      ∙ ap (λ (n : ℕ). afterAnswer p (fault y) (bytesAfter y room p l) (answered y room p l) n) (same .links)
+
+  same-after-byte : (p : Script) (b : ℕ) → afterByte x room p b ≡ afterByte y room p b
+  same-after-byte p b =
+      let h = p .held ++ (b ∷ []) in
+      ap (λ (q : Script). cond (eqb b 10) q (record { bytes = p .bytes; used = p .used; changed = p .changed; held = take 16 h; out = p .out })) (same-after-line p h)
+
+  pub same-after-piece : (p : Script) (a : List ℕ) → afterPiece x room p a ≡ afterPiece y room p a
+  unfolding afterPiece
+  same-after-piece p [] = refl
+  same-after-piece p (b ∷ a) = ap (λ (q : Script). afterPiece x room q a) (same-after-byte p b) ∙ same-after-piece (afterByte y room p b) a
+
+  pub same-end : (bytes : List ℕ) (held changed : ℕ) → endText x bytes held changed ≡ endText y bytes held changed
+  same-end bytes held changed = ap (λ done. cond (eqb held 0) [] (refusalLine 1) ++ lastLine done changed) (same-finished (tableOf x) (tableOf y) same bytes)
+
+-- the texts of the pieces
+abbrev textsOf : List PieceCall → List (List ℕ)
+textsOf [] = []
+textsOf (c ∷ cs) = c .text ∷ textsOf cs
+
+texts-together : (cs : List PieceCall) → together (textsOf cs) ≡ textOfPieces cs
+unfolding together
+texts-together [] = refl
+texts-together (c ∷ cs) = ap (λ (rest : List ℕ). c .text ++ rest) (texts-together cs)
+
+module _ (x : Slices) (fine : slicesFault x ≡ 0) (room : ℕ) (y : Slices) (last : SameTable y x) where
+  calls-print : (p : Script) (cs : List PieceCall) → PiecesOf x cs → printedByCalls room p cs y ≡ printedBy x room p (textsOf cs)
+  unfolding printedByCalls printedBy
+  calls-print p [] k = same-end y x (last .same) (same-fine x y fine last) fine room (p .bytes) (length (p .held)) (p .changed)
+  calls-print p (c ∷ cs) k =
+      ap (λ (q : Script). q .out ++ printedByCalls room (carried q) cs y) (same-after-piece (c .slices) x (k .0 .same) (same-fine x (c .slices) fine (k .0)) fine room p (c .text))
+      ∙ ap (λ (rest : List ℕ). afterPiece x room p (c .text) .out ++ rest) (calls-print (carried (afterPiece x room p (c .text))) cs (k .1))
+
+  -- pieces, each in its own slices, print what the text prints whole
+  pub any-slices : (cs : List PieceCall) → PiecesOf x cs → printedByCalls room (begun x) cs y ≡ scriptText x room (textOfPieces cs)
+  any-slices cs k = calls-print (begun x) cs k ∙ any-pieces x room fine (textsOf cs) ∙ ap (scriptText x room) (texts-together cs)
