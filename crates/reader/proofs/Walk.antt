@@ -82,7 +82,7 @@ module _ {M : Type 1} (𝓤 : URA M) (H : Heap 𝓤) (A : Atoms 𝓤) (mem : Mem
   NextLine = tripleOf 𝓤 H A next-line.signature (next-line.spec 𝓤 H A mem run)
 
 -- A slice and an offset, as they are passed, and the reader made of them.
-abbrev pub passed : RefT (List ℕ) → ℕ → List Val × List Val × Unit {0}
+abbrev pub passed : RefT (List ℕ) → ℕ → List Val × (List Val × Unit {0})
 passed s i = (sliceVal (s .ptr) (length (s .now)) ∷ [], (vint w64 i ∷ [], tt))
 
 abbrev pub made : RefT (List ℕ) → ℕ → Reader
