@@ -90,6 +90,11 @@ good-line s at width g =
     rw (until-width s at width g, lt-ltb (at + width) (length s) (g .within), eq-eqb width width refl)
     (none-first (λ j. digitFault (getD s (at + j) 0)) width (λ j l. rw (lt-ltb (valueOf (getD s (at + j) 0)) 16 (g .digits j l))))
 
+-- the line behind a good one starts behind its line feed
+pub good-next : (s : List ℕ) (at width : ℕ) → GoodLine s at width → lineAt s at .next ≡ at + width + 1
+unfolding lineAt
+good-next s at width g = rw (until-width s at width g, lt-ltb (at + width) (length s) (g .within))
+
 -- How the code comes to a line's fault.
 pub fault-of-length : (s : List ℕ) (at width start len : ℕ) → lineAt s at .line ≡ Here start len → (len ≡ width → ⊥) → 1 ≡ lineFault s at width
 unfolding lineFault
@@ -99,6 +104,6 @@ pub fault-of-missing : (s : List ℕ) (at width : ℕ) → lineAt s at .line ≡
 unfolding lineFault
 fault-of-missing s at width h = rw h
 
-pub fault-of-digits : (s : List ℕ) (at width start len r : ℕ) → lineAt s at .line ≡ Here start len → len ≡ width → r ≡ first (λ j. digitFault (getD s (at + j) 0)) width → r ≡ lineFault s at width
+pub fault-of-digits : (s : List ℕ) (at width start len r : ℕ) → lineAt s at .line ≡ Here start len → len ≡ width → r ≡ first (λ j. digitFault (getD s (start + j) 0)) width → r ≡ lineFault s at width
 unfolding lineFault
-fault-of-digits s at width start len r h n e = e ∙ rw (h, eq-eqb len width n)
+fault-of-digits s at width start len r h n e = e ∙ ap (λ (k : ℕ). first (λ j. digitFault (getD s (k + j) 0)) width) (there s at start len h .starts) ∙ rw (h, eq-eqb len width n)

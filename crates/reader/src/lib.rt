@@ -3,6 +3,7 @@ ghost use mathlib.Core.Path.{_≡_};
 ghost use lib.ListN.{length};
 ghost use lib.Dec.{leb};
 ghost use Rattle.lines.specs.Line.{lineAt};
+use lines::Found;
 use lines::Line;
 
 pub struct Reader<'a> {
@@ -41,10 +42,30 @@ pub fn at_end<'a>(r: Reader<'a>) -> bool
     lines::is_end(r.text, r.at)
 }
 
-// For callers with a plain text: the first line, with no reader in the signature.
-pub fn first_line(text: &[u8]) -> Line
-    ensures { λ l. ⌜ l ≡ lineAt (now (text .entry)) 0 .line ⌝ }
+// For callers with a plain text and an offset, with no reader in the signature. The table's text is read through these.
+
+pub fn first_line(text: &[u8]) -> Found
+    ensures { λ f. ⌜ f ≡ lineAt (now (text .entry)) 0 ⌝ }
 {
     let t = next_line(new(text));
-    t.line
+    Found {
+        line: t.line,
+        next: t.rest.at,
+    }
+}
+
+pub fn line_at(text: &[u8], at: usize) -> Found
+    ensures { λ f. ⌜ f ≡ lineAt (now (text .entry)) at ⌝ }
+{
+    let t = next_line(Reader { text, at });
+    Found {
+        line: t.line,
+        next: t.rest.at,
+    }
+}
+
+pub fn ends_at(text: &[u8], at: usize) -> bool
+    ensures { λ b. ⌜ b ≡ leb (length (now (text .entry))) at ⌝ }
+{
+    at_end(Reader { text, at })
 }

@@ -1,14 +1,13 @@
 -- The round trips of document 01's table text: a text read and written, and a table written and read.
 use Prim.Native.Nat.{ℕ, _+_, _*_, _≤_, _<_}
 use mathlib.Core.Path.{_≡_, refl, sym, _∙_, ap}
-use mathlib.Core.Bool.{Bool, true, false, _||_, true≢false}
+use mathlib.Core.Bool.{Bool, true, false, _||_}
 use mathlib.Core.List.{List, [], _∷_, _++_}
 use native.Mathlib.Omega.{arith}
 use lib.Dec.{eqb}
 use lib.ListN.{length, take, drop, length-append, length-take}
 use lib.Seq.{take-all, take-at}
 use borrow.Author.Tests.{eqb-true, eq-eqb}
-use Rattle.range.proofs.Bools.{and-left, and-right}
 use Rattle.hex.specs.Digits.{numberAt}
 use Rattle.table.specs.Table.{Table}
 use Rattle.table.specs.Legal.{tableFault}
@@ -21,6 +20,7 @@ use Rattle.table_laws.proofs.Tables.{headRow, needRow, linkRow, needRow
 use Rattle.table.proofs.Same.{same-fault}
 use Rattle.table.proofs.Accepted.{Accepted, text-good, good-text}
 use Rattle.table.proofs.Lengths.{length-needs, length-links, length-text}
+use Rattle.table_text.proofs.Begins.{begins-take}
 use Rattle.table_laws.proofs.Fits.{link-reads}
 
 -- the lengths of the header, the need lines, the link lines and the closing line
@@ -28,12 +28,6 @@ end-is : (p l : ℕ) → 13 + 5 * p + 13 * l + 5 ≡ 13 + (5 * p + (13 * l + 5))
 end-is p l = omega arith
 
 -- where the closing line is found, it stands
-
-begins-take : (s xs : List ℕ) → begins s xs ≡ true → take (length xs) s ≡ xs
-unfolding begins
-begins-take s [] e = refl
-begins-take [] (x ∷ xs) e = absurd (true≢false (sym e))
-begins-take (b ∷ s) (x ∷ xs) e = rw (eqb-true b x (and-left (eqb b x) (begins s xs) e), begins-take s xs (and-right (eqb b x) (begins s xs) e))
 
 take-begins : (s xs : List ℕ) → take (length xs) s ≡ xs → begins s xs ≡ true
 unfolding begins

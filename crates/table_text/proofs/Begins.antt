@@ -1,13 +1,15 @@
--- How a comparison of bytes goes on, byte by byte.
+-- How a comparison of bytes goes on, byte by byte, and what one that held says.
 use Prim.Native.Nat.{ℕ, suc, _+_, _≤_, _<_}
-use mathlib.Core.Path.{_≡_}
-use mathlib.Core.Bool.{true, false}
-use mathlib.Core.List.{List}
+use mathlib.Core.Path.{_≡_, refl, sym}
+use mathlib.Core.Bool.{true, false, true≢false}
+use mathlib.Core.List.{List, [], _∷_}
 use native.Mathlib.Numerals.{add-one}
 use native.Mathlib.Omega.{arith}
-use lib.ListN.{length, getD, drop, drop-of-length-le}
+use lib.Dec.{eqb}
+use lib.ListN.{length, getD, take, drop, drop-of-length-le}
 use lib.Seq.{drop-cons}
-use borrow.Author.Tests.{eq-eqb, ne-eqb}
+use borrow.Author.Tests.{eqb-true, eq-eqb, ne-eqb}
+use Rattle.range.proofs.Bools.{and-left, and-right}
 use Rattle.table.specs.Text.{begins}
 
 module _ (s what : List ℕ) (at k : ℕ) (l : k < length what) where
@@ -28,3 +30,9 @@ module _ (s what : List ℕ) (at k : ℕ) (l : k < length what) where
 pub begins-done : (s what : List ℕ) (k : ℕ) → length what ≤ k → begins s (drop k what) ≡ true
 unfolding begins
 begins-done s what k h = rw (drop-of-length-le what h)
+
+pub begins-take : (s xs : List ℕ) → begins s xs ≡ true → take (length xs) s ≡ xs
+unfolding begins
+begins-take s [] e = refl
+begins-take [] (x ∷ xs) e = absurd (true≢false (sym e))
+begins-take (b ∷ s) (x ∷ xs) e = rw (eqb-true b x (and-left (eqb b x) (begins s xs) e), begins-take s xs (and-right (eqb b x) (begins s xs) e))

@@ -12,8 +12,9 @@ use Rattle.range.specs.Lists.{stored}
 use Rattle.range.proofs.Lists.{stored-same}
 use Rattle.hex.specs.Digits.{numberAt}
 use Rattle.hex.proofs.Laws.{number-fits}
+use Rattle.lines.specs.Line.{lineAt}
 use Rattle.lines.specs.Digits.{lineFault}
-use Rattle.lines.proofs.Lines.{GoodLine, line-good}
+use Rattle.lines.proofs.Lines.{GoodLine, line-good, good-next}
 use Rattle.table.specs.Legal.{sizeFault, linkFault, Size}
 use Rattle.table.proofs.Faults.{size-good}
 use Rattle.table.specs.Text.{ofText, needStart, linkStart, needLineFault, linkLineFault, headFault, bodyFault, textFault}
@@ -59,36 +60,36 @@ links-good s m e =
     none-first (linkFault (ofText s .probes) (ofText s .low) (ofText s .high)) m
     (λ i l. or-right (lineFault s (linkStart (ofText s .probes) i) 12) (linkFault (ofText s .probes) (ofText s .low) (ofText s .high) i) (first-all (linkLineFault s) m i e l))
 
--- How the code comes to a link line's fault.
-module _ (s : List ℕ) (probes i r : ℕ) (ep : probes ≡ ofText s .probes) (e : r ≡ lineFault s (linkStart probes i) 12) where
-  abbrev fault : ℕ → ℕ
-  fault n = linkFault n (ofText s .low) (ofText s .high) i
+-- A link line that starts at an offset: its ends, and how the code comes to its fault.
+module _ (s : List ℕ) (probes i at : ℕ) (ep : probes ≡ ofText s .probes) (ea : at ≡ linkStart probes i) where
+  start : at ≡ linkStart (ofText s .probes) i
+  start = ea ∙ ap (λ (n : ℕ). linkStart n i) ep
 
-  line : r ≡ lineFault s (linkStart (ofText s .probes) i) 12
-  line = e ∙ ap (λ (n : ℕ). lineFault s (linkStart n i) 12) ep
+  pub low-at : (v : ℕ) → v ≡ numberAt s at 4 → v ≡ ofText s .low i
+  low-at v f = f ∙ ap (λ (k : ℕ). numberAt s k 4) start
 
-  pub link-line-refused : (r ≡ 0 → ⊥) → r ≡ linkLineFault s i
-  link-line-refused n = or-here r (lineFault s (linkStart (ofText s .probes) i) 12) (fault (ofText s .probes)) line n
+  pub high-at : (v : ℕ) → v ≡ numberAt s (at + 4) 4 → v ≡ ofText s .high i
+  high-at v f = f ∙ ap (λ (k : ℕ). numberAt s (k + 4) 4) start
 
-  pub link-line-then : r ≡ 0 → (q : ℕ) → q ≡ fault probes → q ≡ linkLineFault s i
-  link-line-then z q f = or-next r (lineFault s (linkStart (ofText s .probes) i) 12) (fault (ofText s .probes)) q line z (f ∙ ap fault ep)
+  module _ (r : ℕ) (e : r ≡ lineFault s at 12) where
+    abbrev fault : ℕ → ℕ
+    fault n = linkFault n (ofText s .low) (ofText s .high) i
 
-  pub low-is : (v : ℕ) → v ≡ numberAt s (linkStart probes i) 4 → v ≡ ofText s .low i
-  low-is v f = f ∙ ap (λ (n : ℕ). numberAt s (linkStart n i) 4) ep
+    line : r ≡ lineFault s (linkStart (ofText s .probes) i) 12
+    line = e ∙ ap (λ (k : ℕ). lineFault s k 12) start
 
-  pub high-is : (v : ℕ) → v ≡ numberAt s (linkStart probes i + 4) 4 → v ≡ ofText s .high i
-  high-is v f = f ∙ ap (λ (n : ℕ). numberAt s (linkStart n i + 4) 4) ep
+    pub link-line-refused : (r ≡ 0 → ⊥) → r ≡ linkLineFault s i
+    link-line-refused n = or-here r (lineFault s (linkStart (ofText s .probes) i) 12) (fault (ofText s .probes)) line n
 
-  module _ (some : i ≡ 0 → ⊥) where
-    pub low-before : (v : ℕ) → v ≡ numberAt s (linkStart probes i - 13) 4 → v ≡ ofText s .low (i - 1)
-    low-before v f =
-        let k : linkStart probes i - 13 ≡ linkStart (ofText s .probes) (i - 1) = omega arith in
-        f ∙ ap (λ (n : ℕ). numberAt s n 4) k
+    pub link-line-then : r ≡ 0 → (q : ℕ) → q ≡ fault probes → q ≡ linkLineFault s i
+    link-line-then z q f = or-next r (lineFault s (linkStart (ofText s .probes) i) 12) (fault (ofText s .probes)) q line z (f ∙ ap fault ep)
 
-    pub high-before : (v : ℕ) → v ≡ numberAt s (linkStart probes i - 9) 4 → v ≡ ofText s .high (i - 1)
-    high-before v f =
-        let k : linkStart probes i - 9 ≡ linkStart (ofText s .probes) (i - 1) + 4 = omega arith in
-        f ∙ ap (λ (n : ℕ). numberAt s n 4) k
+  -- the link line behind it, where it has no fault
+  pub link-next : (n : ℕ) → linkLineFault s i ≡ 0 → n ≡ lineAt s at .next → n ≡ linkStart probes (i + 1)
+  link-next n e en =
+      let z = or-left (lineFault s (linkStart (ofText s .probes) i) 12) (linkFault (ofText s .probes) (ofText s .low) (ofText s .high) i) e in
+      let k = good-next s at 12 (line-good s at 12 (ap (λ (k : ℕ). lineFault s k 12) start ∙ z)) in
+      omega arith
 
 -- a header without a fault
 pub record GoodHead (pmax lmax : ℕ) (s : List ℕ) : Type 0 where
@@ -102,6 +103,12 @@ head-good pmax lmax s e =
       line = line-good s 0 12 (or-left (lineFault s 0 12) size e);
       size = size-good pmax lmax (ofText s .probes) (ofText s .links) (or-right (lineFault s 0 12) size e);
     }
+
+-- the need line behind one without a fault
+pub need-next : (s : List ℕ) (v at n : ℕ) → at ≡ needStart v → lineFault s at 4 ≡ 0 → n ≡ lineAt s at .next → n ≡ needStart (v + 1)
+need-next s v at n ea e en =
+    let k = good-next s at 4 (line-good s at 4 e) in
+    omega arith
 
 -- the lines stand within the text
 pub lines-within : (s : List ℕ) (probes links : ℕ) → probes ≡ ofText s .probes → 13 ≤ length s

@@ -1,19 +1,39 @@
-// 1 to 6 of a table's text, line by line.
-use table::HEADER_BYTES;
-use table::LINK_BYTES;
-use table::NEED_BYTES;
+// 1 to 6 of a table's text, line by line. Each line is taken from the reader, at the offset that the line before gave.
 ghost use mathlib.Core.Path.{_≡_};
 ghost use mathlib.Core.Bool.{true};
-ghost use Prim.Native.Nat.{_+_, _*_, _<_, _≤_};
+ghost use Prim.Native.Nat.{_-_, _≤_};
 ghost use lib.ListN.{length, drop};
 ghost use Rattle.range.specs.First.{first};
-ghost use Rattle.table.specs.Text.{ofText, begins, closingFault, needLineFault, linkLineFault, headFault};
+ghost use Rattle.lines.specs.Line.{lineAt};
+ghost use Rattle.lines.specs.Digits.{lineFault};
+ghost use Rattle.table.specs.Text.{ofText, begins, needStart, linkStart, closingFault, needLineFault, linkLineFault, headFault};
+
+// Lines that were checked: the first fault among them, 0 for none, and where the next line starts.
+pub struct Checked {
+    pub fault: u8,
+    pub next: usize,
+}
+
+// 1 and 2 of the line of so many digits at an offset.
+fn digits_line(text: &[u8], at: usize, width: usize) -> Checked
+    ensures { λ r. ⌜ (r .fault ≡ lineFault (now (text .entry)) at width) × (r .next ≡ lineAt (now (text .entry)) at .next) ⌝ }
+{
+    let found = reader::line_at(text, at);
+    let line = found.line;
+    let fault = lines::checks::found_fault(text, at, line, width);
+    Checked {
+        fault,
+        next: found.next,
+    }
+}
 
 // 1 and 2 of the header, then 3.
 pub fn head_fault(text: &[u8], pmax: usize, lmax: usize) -> u8
     ensures { λ r. ⌜ r ≡ headFault pmax lmax (now (text .entry)) ⌝ }
 {
-    let fault = lines::line_fault(text, 0, 12);
+    let found = reader::first_line(text);
+    let line = found.line;
+    let fault = lines::checks::found_fault(text, 0, line, 12);
     if fault != 0 {
         return fault;
     }
@@ -25,63 +45,71 @@ pub fn head_fault(text: &[u8], pmax: usize, lmax: usize) -> u8
     )
 }
 
-// 1 and 2 of the need lines.
-pub fn need_lines_fault(text: &[u8], probes: usize) -> u8
-    requires { ⌜ probes ≤ 65535 ⌝ }
-    ensures { λ r. ⌜ r ≡ first (needLineFault (now (text .entry))) probes ⌝ }
+// 1 and 2 of the need lines, from where the first one starts.
+pub fn need_lines(text: &[u8], start: usize, probes: usize) -> Checked
+    requires { ⌜ start ≡ needStart 0 ⌝ }
+    ensures { λ r. ⌜ (r .fault ≡ first (needLineFault (now (text .entry))) probes) × (r .fault ≡ 0 → r .next ≡ needStart probes) ⌝ }
 {
+    let mut at = start;
     let mut v = 0;
     while v < probes {
-        let fault = lines::line_fault(text, HEADER_BYTES + NEED_BYTES * v, 4);
-        if fault != 0 {
-            return fault;
+        let line = digits_line(text, at, 4);
+        if line.fault != 0 {
+            return line;
         }
+        at = line.next;
         v += 1;
     }
-    0
+    Checked { fault: 0, next: at }
 }
 
-// 1, 2, 4 and 5 of one link line.
-fn link_line_fault(text: &[u8], probes: usize, i: usize) -> u8
-    requires { ⌜ (probes ≡ ofText (now text) .probes) × (probes ≤ 65535) × (i ≤ 65535) ⌝ }
-    ensures { λ r. ⌜ r ≡ linkLineFault (now (text .entry)) i ⌝ }
+// 1, 2, 4 and 5 of one link line. `before` is where the link line before it starts.
+fn link_line(text: &[u8], probes: usize, before: usize, at: usize, i: usize) -> Checked
+    requires { ⌜ (probes ≡ ofText (now text) .probes) × (before ≡ linkStart probes (i - 1)) × (at ≡ linkStart probes i) ⌝ }
+    ensures { λ r. ⌜ (r .fault ≡ linkLineFault (now (text .entry)) i) × (r .next ≡ lineAt (now (text .entry)) at .next) ⌝ }
 {
-    let at = HEADER_BYTES + NEED_BYTES * probes + LINK_BYTES * i;
-    let fault = lines::line_fault(text, at, 12);
-    if fault != 0 {
-        return fault;
+    let line = digits_line(text, at, 12);
+    if line.fault != 0 {
+        return line;
     }
     let low = hex::fields::number(text, at, 4);
     let high = hex::fields::number(text, at + 4, 4);
     let ends = table::checks::ends_fault(probes, low, high);
     if ends != 0 {
-        return ends;
+        return Checked {
+            fault: ends,
+            next: line.next,
+        };
     }
     if i == 0 {
-        return 0;
+        return line;
     }
-    table::checks::order_fault(
-        hex::fields::number(text, at - 13, 4),
-        hex::fields::number(text, at - 9, 4),
-        low,
-        high,
-    )
+    let low0 = hex::fields::number(text, before, 4);
+    let high0 = hex::fields::number(text, before + 4, 4);
+    Checked {
+        fault: table::checks::order_fault(low0, high0, low, high),
+        next: line.next,
+    }
 }
 
-// 1, 2, 4 and 5 of the link lines.
-pub fn link_lines_fault(text: &[u8], probes: usize, links: usize) -> u8
-    requires { ⌜ (probes ≡ ofText (now text) .probes) × (probes ≤ 65535) × (links ≤ 65535) ⌝ }
-    ensures { λ r. ⌜ r ≡ first (linkLineFault (now (text .entry))) links ⌝ }
+// 1, 2, 4 and 5 of the link lines, from where the first one starts.
+pub fn link_lines(text: &[u8], start: usize, probes: usize, links: usize) -> Checked
+    requires { ⌜ (probes ≡ ofText (now text) .probes) × (start ≡ linkStart probes 0) ⌝ }
+    ensures { λ r. ⌜ (r .fault ≡ first (linkLineFault (now (text .entry))) links) × (r .fault ≡ 0 → r .next ≡ linkStart probes links) ⌝ }
 {
+    let mut before = start;
+    let mut at = start;
     let mut i = 0;
     while i < links {
-        let fault = link_line_fault(text, probes, i);
-        if fault != 0 {
-            return fault;
+        let link = link_line(text, probes, before, at, i);
+        if link.fault != 0 {
+            return link;
         }
+        before = at;
+        at = link.next;
         i += 1;
     }
-    0
+    Checked { fault: 0, next: at }
 }
 
 // Whether some bytes stand in a text at an offset.
@@ -113,7 +141,8 @@ pub fn closing_fault(text: &[u8], at: usize, more: bool) -> u8
     if more {
         return 0;
     }
-    if text.len() - at != 5 {
+    let closing = reader::line_at(text, at);
+    if !reader::ends_at(text, closing.next) {
         return 6;
     }
     0

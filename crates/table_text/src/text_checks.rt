@@ -9,6 +9,7 @@ ghost use lib.ListN.{length};
 ghost use Rattle.range.specs.First.{first};
 ghost use Rattle.range.specs.Lists.{stored};
 ghost use Rattle.hex.specs.Digits.{numberAt};
+ghost use Rattle.lines.specs.Digits.{lineFault};
 ghost use Rattle.table.specs.Legal.{needFault};
 ghost use Rattle.table.specs.Text.{ofText, needLineFault, linkLineFault, bodyFault, textFault};
 
@@ -53,22 +54,19 @@ fn needs_fault(text: &[u8], probes: usize, links: usize) -> u8
 
 // What follows the header: 1, 2, 4 and 5 line by line, then 6 and 7.
 fn body_fault(text: &[u8], probes: usize, links: usize, more: bool) -> u8
-    requires { ⌜ (probes ≡ ofText (now text) .probes) × (links ≡ ofText (now text) .links) × (probes ≤ 256) × (links ≤ 2048) × (13 ≤ length (now text)) ⌝ }
+    requires { ⌜ (probes ≡ ofText (now text) .probes) × (links ≡ ofText (now text) .links) × (probes ≤ 256) × (links ≤ 2048) × (lineFault (now text) 0 12 ≡ 0) ⌝ }
     ensures { λ r. ⌜ r ≡ bodyFault more (now (text .entry)) ⌝ }
 {
-    let need = super::line_checks::need_lines_fault(text, probes);
-    if need != 0 {
-        return need;
+    let header = reader::first_line(text);
+    let needs = super::line_checks::need_lines(text, header.next, probes);
+    if needs.fault != 0 {
+        return needs.fault;
     }
-    let link = super::line_checks::link_lines_fault(text, probes, links);
-    if link != 0 {
-        return link;
+    let rows = super::line_checks::link_lines(text, needs.next, probes, links);
+    if rows.fault != 0 {
+        return rows.fault;
     }
-    let closing = super::line_checks::closing_fault(
-        text,
-        HEADER_BYTES + NEED_BYTES * probes + LINK_BYTES * links,
-        more,
-    );
+    let closing = super::line_checks::closing_fault(text, rows.next, more);
     if closing != 0 {
         return closing;
     }

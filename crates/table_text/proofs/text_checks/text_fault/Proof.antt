@@ -5,6 +5,7 @@ use Rattle.table_text.proofs.text_checks.text_fault.Tie as tie
 use mathlib.Core.Path.{sym, _∙_}
 use native.Mathlib.Omega.{arith}
 use Rattle.range.proofs.Faults.{or-here, or-next}
+use Rattle.lines.proofs.Lines.{good-line}
 use Rattle.table.specs.Text.{textFault}
 use Rattle.table_text.proofs.Good.{head-good}
 
@@ -34,11 +35,10 @@ body-fault-requires c κs =
     let at-head-fault = c .before .before .before in
     let a = c .before .before .before .before .before .args in
     let g = head-good (a .pmax) (a .lmax) (a .text .now) (sym (at-head-fault .head-fault .ensures) ∙ c .before .before .if1 .left) in
-    let w = g .line .within in
     let z = g .size in
     let p = c .before .number .ensures in
     let m = c .number2 .ensures in
-    (p, m, omega arith, omega arith, omega arith)
+    (p, m, omega arith, omega arith, good-line (a .text .now) 0 12 (g .line))
 
 returns-2 : tie.Need-returns-2
 unfolding textFault

@@ -1,8 +1,8 @@
--- `lines::digits_fault` meets its contract.
+-- `lines::checks::digits_fault` meets its contract.
 -- Invariant: the bytes before j are digits. Measure: the bytes that are left.
 use borrow.Author.Needs.{needs}
-use Rattle.lines.proofs.digits_fault.Statement.{statement}
-use Rattle.lines.proofs.digits_fault.Tie as tie
+use Rattle.lines.proofs.checks.digits_fault.Statement.{statement}
+use Rattle.lines.proofs.checks.digits_fault.Tie as tie
 use Prim.Native.Nat.{ℕ, _+_, _-_, _≤_}
 use mathlib.Core.Path.{_≡_, refl, sym, _∙_}
 use mathlib.Core.List.{List}
