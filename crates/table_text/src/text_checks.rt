@@ -52,21 +52,21 @@ fn needs_fault(text: &[u8], probes: usize, links: usize) -> u8
     table::checks::needs_fault(probes, links, &needs, &lows, &highs)
 }
 
-// What follows the header: 1, 2, 4 and 5 line by line, then 6 and 7.
+// What follows the header, from behind its line: 1, 2, 4 and 5 line by line, then 6 and 7.
 fn body_fault(text: &[u8], probes: usize, links: usize, more: bool) -> u8
     requires { ⌜ (probes ≡ ofText (now text) .probes) × (links ≡ ofText (now text) .links) × (probes ≤ 256) × (links ≤ 2048) × (lineFault (now text) 0 12 ≡ 0) ⌝ }
     ensures { λ r. ⌜ r ≡ bodyFault more (now (text .entry)) ⌝ }
 {
     let header = reader::first_line(text);
-    let needs = super::line_checks::need_lines(text, header.next, probes);
-    if needs.fault != 0 {
-        return needs.fault;
+    let need_lines = super::line_checks::need_lines(text, header.next, probes);
+    if need_lines.fault != 0 {
+        return need_lines.fault;
     }
-    let rows = super::line_checks::link_lines(text, needs.next, probes, links);
-    if rows.fault != 0 {
-        return rows.fault;
+    let link_lines = super::line_checks::link_lines(text, need_lines.next, probes, links);
+    if link_lines.fault != 0 {
+        return link_lines.fault;
     }
-    let closing = super::line_checks::closing_fault(text, rows.next, more);
+    let closing = super::line_checks::closing_fault(text, link_lines.next, more);
     if closing != 0 {
         return closing;
     }
