@@ -25,7 +25,7 @@ use Rattle.fleet_calls.specs.Calls.{SameTable, LoggedCall, LoggedLeft, f
 use Rattle.fleet_calls.specs.Demand3.{recordsOver, LeadsToFinish, Demand3}
 use Rattle.fleet_calls.proofs.Same.{same-own, same-fleet, same-finished}
 use Rattle.fleet_calls.proofs.Promises.{same-fine, fine-room}
-use Rattle.fleet_calls.proofs.Calls.{Follows, calls-through, fresh-through, kept-logs, logged-run}
+use Rattle.fleet_calls.proofs.Calls.{FollowsRun, calls-through, fresh-through, kept-logs, logged-run}
 use Rattle.fleet_calls.proofs.Callable.{madeLogged, made-kept}
 use Rattle.fleet_calls.proofs.Places.{calls-before, leads-by-calls, changes-of-run, moments-of-run, left-follows, answer-of-run}
 
@@ -84,7 +84,7 @@ module _ (x : Slices) (fine : slicesFault x ≡ 0) (digits : x .number < 65536) 
     all : ClaimsOfRun x room ls
     all = claims-of-run x fine digits room ls
 
-    f : Follows log s after
+    f : FollowsRun log s after
     f = left-follows x fine log cs k
 
     entries-are : take (after .used) (after .log) ≡ s .log
@@ -94,7 +94,7 @@ module _ (x : Slices) (fine : slicesFault x ≡ 0) (digits : x .number < 65536) 
     withLog log′ = record { bytes = after .bytes; log = log′; used = after .used }
 
     -- with another log that has the used entries
-    follows-with : (log′ : List Entry) → take (after .used) log′ ≡ take (after .used) (after .log) → Follows log′ s (withLog log′)
+    follows-with : (log′ : List Entry) → take (after .used) log′ ≡ take (after .used) (after .log) → FollowsRun log′ s (withLog log′)
     follows-with log′ has =
         record {
           bytes = f .bytes;
@@ -200,5 +200,5 @@ module _ (x : Slices) (fine : slicesFault x ≡ 0) (digits : x .number < 65536) 
       claimed : ClaimsOfRun x room (loggedLines cs)
       claimed = all cs k
 
-      same : Follows log (run x room (start x) (loggedLines cs)) (leftAfterLogged (freshLogged x log) cs)
+      same : FollowsRun log (run x room (start x) (loggedLines cs)) (leftAfterLogged (freshLogged x log) cs)
       same = f cs k

@@ -30,9 +30,9 @@ GivenLines x [] = Unit
 GivenLines x (g ∷ gs) = SameTable (g .0) x × GivenLines x gs
 
 -- "one for each accepted event": how many entries an answer has logged
-abbrev pub counted : Answer → ℕ
-counted (Logged e) = 1
-counted (Refused n) = 0
+abbrev pub acceptedBy : Answer → ℕ
+acceptedBy (Logged e) = 1
+acceptedBy (Refused n) = 0
 
 -- the entries that answers have logged
 abbrev pub entriesIn : List Answer → List Entry
@@ -61,7 +61,7 @@ abbrev pub freshLogged : Slices → List Entry → LoggedLeft
 freshLogged x log = record { bytes = start x .bytes; log = log; used = 0 }
 
 abbrev pub leftByLogged : LoggedLeft → LoggedCall → LoggedLeft
-leftByLogged b c = record { bytes = c .bytes; log = c .log; used = b .used + counted (c .answer) }
+leftByLogged b c = record { bytes = c .bytes; log = c .log; used = b .used + acceptedBy (c .answer) }
 
 -- the call gets the table of x and what the last one left, and does what `event_logged` promises
 pub record KeptLogged (x : Slices) (b : LoggedLeft) (c : LoggedCall) : Type 0 where
@@ -107,7 +107,7 @@ abbrev pub freshEvent : Slices → EventLeft
 freshEvent x = record { bytes = start x .bytes; used = 0 }
 
 abbrev pub leftByEvent : EventLeft → EventCall → EventLeft
-leftByEvent b c = record { bytes = c .bytes; used = b .used + counted (c .answer) }
+leftByEvent b c = record { bytes = c .bytes; used = b .used + acceptedBy (c .answer) }
 
 -- the call gets the table of x and what the last one left, and does what `event` promises
 pub record KeptEvent (x : Slices) (room : ℕ) (b : EventLeft) (c : EventCall) : Type 0 where
