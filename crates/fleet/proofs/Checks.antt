@@ -10,6 +10,7 @@ use Rattle.plan_theory.specs.Criterion.{Across, up, down}
 use Rattle.probe_frame.specs.Frame.{Frame, frameOf}
 use Rattle.probe_rules.specs.Within.{EventWithin}
 use Rattle.fleet_theory.specs.Fleet.{eventLineFault, eventOf}
+pub use Rattle.fleet_theory.proofs.Lines.{line-frame}
 use Rattle.fleet_theory.proofs.Events.{Says, an-opening, an-offer, a-refusal, says}
 
 -- a line past the checks before 27

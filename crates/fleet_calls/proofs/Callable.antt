@@ -10,7 +10,7 @@ use Rattle.probe_frame.specs.Frame.{frameOf}
 use Rattle.wake_log.specs.Entry.{answerOf}
 use Rattle.probe_rules.specs.Rules.{entryOf}
 use Rattle.fleet_theory.specs.Fleet.{eventFault, outcomeOf, alteredBy}
-use Rattle.fleet_calls.specs.Calls.{SameTable, LoggedCall, LoggedLeft, leftByLogged, KeptLogged, LoggedCalls, loggedLines, EventCall, EventLeft, leftByEvent, KeptEvent, EventCalls, eventLines}
+use Rattle.fleet_calls.specs.Calls.{SameTable, LoggedCall, LoggedLeft, leftByLogged, KeptLogged, LoggedCalls, loggedGiven, EventCall, EventLeft, leftByEvent, KeptEvent, EventCalls, eventGiven, GivenLines}
 use Rattle.fleet_calls.proofs.Promises.{handled-is}
 
 -- the call of a line that does what `event_logged` promises
@@ -36,26 +36,30 @@ madeEvent room b y l =
       bytes = cond (eqb fault 0) (alteredBy (tableOf y) (b .bytes) (frameOf l)) (b .bytes);
     }
 
-module _ (x y : Slices) (same : SameTable y x) where
-  pub made-kept : (b : LoggedLeft) (l : List ℕ) → KeptLogged x b (madeLogged b y l)
-  made-kept b l =
-      let c = madeLogged b y l in
-      record {
-        same-table = same;
-        promise = record { handled = handled-is y (b .used) (length (b .log)) l (c .answer) (b .bytes) (c .bytes) refl refl; log-after = refl };
-      }
+pub made-kept : (x y : Slices) → SameTable y x → (b : LoggedLeft) (l : List ℕ) → KeptLogged x b (madeLogged b y l)
+made-kept x y same b l =
+    let c = madeLogged b y l in
+    record {
+      same-table = same;
+      promise = record { handled = handled-is y (b .used) (length (b .log)) l (c .answer) (b .bytes) (c .bytes) refl refl; log-after = refl };
+    }
 
-  pub callable : (b : LoggedLeft) (ls : List (List ℕ)) → (cs : List LoggedCall) × (loggedLines cs ≡ ls) × LoggedCalls x b cs
-  callable b [] = ([], refl, tt)
-  callable b (l ∷ ls) =
-      let c = madeLogged b y l in
-      let rest = callable (leftByLogged b c) ls in
-      (c ∷ rest .0, ap (λ (ms : List (List ℕ)). l ∷ ms) (rest .1), (made-kept b l, rest .2))
+made-event-kept : (x y : Slices) → SameTable y x → (room : ℕ) (b : EventLeft) (l : List ℕ) → KeptEvent x room b (madeEvent room b y l)
+made-event-kept x y same room b l =
+    let c = madeEvent room b y l in
+    record { same-table = same; promise = handled-is y (b .used) room l (c .answer) (b .bytes) (c .bytes) refl refl }
 
-  pub event-callable : (room : ℕ) (b : EventLeft) (ls : List (List ℕ)) → (cs : List EventCall) × (eventLines cs ≡ ls) × EventCalls x room b cs
-  event-callable room b [] = ([], refl, tt)
-  event-callable room b (l ∷ ls) =
+module _ (x : Slices) where
+  pub callable : (b : LoggedLeft) (gs : List (Slices × List ℕ)) → GivenLines x gs → (cs : List LoggedCall) × (loggedGiven cs ≡ gs) × LoggedCalls x b cs
+  callable b [] k = ([], refl, tt)
+  callable b ((y, l) ∷ gs) k =
+      let c = madeLogged b y l in
+      let rest = callable (leftByLogged b c) gs (k .1) in
+      (c ∷ rest .0, ap (λ (hs : List (Slices × List ℕ)). (y, l) ∷ hs) (rest .1), (made-kept x y (k .0) b l, rest .2))
+
+  pub event-callable : (room : ℕ) (b : EventLeft) (gs : List (Slices × List ℕ)) → GivenLines x gs → (cs : List EventCall) × (eventGiven cs ≡ gs) × EventCalls x room b cs
+  event-callable room b [] k = ([], refl, tt)
+  event-callable room b ((y, l) ∷ gs) k =
       let c = madeEvent room b y l in
-      let rest = event-callable room (leftByEvent b c) ls in
-      let kept : KeptEvent x room b c = record { same-table = same; promise = handled-is y (b .used) room l (c .answer) (b .bytes) (c .bytes) refl refl } in
-      (c ∷ rest .0, ap (λ (ms : List (List ℕ)). l ∷ ms) (rest .1), (kept, rest .2))
+      let rest = event-callable room (leftByEvent b c) gs (k .1) in
+      (c ∷ rest .0, ap (λ (hs : List (Slices × List ℕ)). (y, l) ∷ hs) (rest .1), (made-event-kept x y (k .0) room b l, rest .2))

@@ -1,4 +1,4 @@
--- Calls, one after the other, are the run over their lines. By induction on the calls; what the last call left follows the state of the run (`Follows`).
+-- Calls, one after the other, are the run over their lines. By induction on the calls; what the last call left follows the state of the run (`FollowsRun`).
 use Prim.Native.Nat.{ℕ, suc, _+_, _<_}
 use mathlib.Core.Path.{_≡_, refl, sym, _∙_, ap}
 use mathlib.Core.Bool.{Bool, true, false, cond}
@@ -25,7 +25,7 @@ use Rattle.fleet.proofs.Calls.{handled-next}
 use Rattle.fleet_log.specs.Logged.{LogsInFleet}
 use Rattle.fleet_calls.specs.Calls.{
   SameTable,
-  counted,
+  acceptedBy,
   entriesIn,
   LoggedCall,
   LoggedLeft,
@@ -42,7 +42,7 @@ use Rattle.fleet_calls.specs.Calls.{
 use Rattle.fleet_calls.proofs.Promises.{same-fine, logs-same}
 
 -- the record and the count are those of the state, and so are the used entries of the log; the rest of it is as lent
-pub record Follows (log : List Entry) (s : State) (b : LoggedLeft) : Type 0 where
+pub record FollowsRun (log : List Entry) (s : State) (b : LoggedLeft) : Type 0 where
   pub bytes : b .bytes ≡ s .bytes
   pub used : b .used ≡ length (s .log)
   pub log-is : b .log ≡ s .log ++ drop (length (s .log)) log
@@ -73,11 +73,11 @@ abbrev pub entryTo : Slices → State → List ℕ → Entry
 entryTo x s l = entryOf (tableOf x) (frameOf l .to) (outcomeOf (tableOf x) (s .bytes) (frameOf l))
 
 -- the count goes up with the log
-pub used-next : (x : Slices) (room : ℕ) (s : State) (l : List ℕ) → length (s .log) + counted (answerTo x room s l) ≡ length (next x room s l .log)
+pub used-next : (x : Slices) (room : ℕ) (s : State) (l : List ℕ) → length (s .log) + acceptedBy (answerTo x room s l) ≡ length (next x room s l .log)
 unfolding next
 used-next x room s l = go (eqb (faultOf x room s l) 0)
   where
-    go : (b : Bool) → length (s .log) + counted (cond b (Logged (entryTo x s l)) (Refused (faultOf x room s l))) ≡ length ((cond b (accepted x s l) s) .log)
+    go : (b : Bool) → length (s .log) + acceptedBy (cond b (Logged (entryTo x s l)) (Refused (faultOf x room s l))) ≡ length ((cond b (accepted x s l) s) .log)
     go true = sym (length-append (s .log) (entryTo x s l ∷ []))
     go false = omega arith
 
@@ -96,7 +96,7 @@ run-log x room s [] = sym (append-nil (s .log))
 run-log x room s (l ∷ ls) = run-log x room (next x room s l) ls ∙ log-next x room s l (answersTo x room (next x room s l) ls)
 
 -- a call is a step
-module _ (x : Slices) (log : List Entry) (s : State) (b : LoggedLeft) (c : LoggedCall) (f : Follows log s b)
+module _ (x : Slices) (log : List Entry) (s : State) (b : LoggedLeft) (c : LoggedCall) (f : FollowsRun log s b)
     (h : LogsInFleet x (b .used) (c .line) (c .answer) (b .bytes) (c .bytes) (b .log) (c .log)) where
   abbrev room : ℕ
   room = length log
@@ -129,12 +129,12 @@ module _ (x : Slices) (log : List Entry) (s : State) (b : LoggedLeft) (c : Logge
       go true = length-set (b .log) (length (s .log)) (entryTo x s l) ∙ f .long
       go false = f .long
 
-  pub step-follows : (c .answer ≡ answerTo x room s l) × Follows log (next x room s l) (leftByLogged b c)
+  pub step-follows : (c .answer ≡ answerTo x room s l) × FollowsRun log (next x room s l) (leftByLogged b c)
   step-follows = (
     stepped .0,
     record {
       bytes = stepped .1;
-      used = ap (λ (n : ℕ). n + counted (c .answer)) (f .used) ∙ ap (λ (a : Answer). length (s .log) + counted a) (stepped .0) ∙ used-next x room s l;
+      used = ap (λ (n : ℕ). n + acceptedBy (c .answer)) (f .used) ∙ ap (λ (a : Answer). length (s .log) + acceptedBy a) (stepped .0) ∙ used-next x room s l;
       log-is = log-follows;
       long = long-stays;
     },
@@ -167,7 +167,7 @@ module _ (x y : Slices) (k : SameTable y x) where
   pub fresh-through : (log : List Entry) → freshLogged y log ≡ freshLogged x log
   fresh-through log = rw (k .same .links)
 
-pub fresh-follows : (x : Slices) (log : List Entry) → Follows log (start x) (freshLogged x log)
+pub fresh-follows : (x : Slices) (log : List Entry) → FollowsRun log (start x) (freshLogged x log)
 fresh-follows x log = record { bytes = refl; used = refl; log-is = refl; long = refl }
 
 module _ (x : Slices) (fine : slicesFault x ≡ 0) where
@@ -176,8 +176,8 @@ module _ (x : Slices) (fine : slicesFault x ≡ 0) where
   kept-logs b c k =
       logs-same (c .slices) x (k .same-table .same) (same-fine x (c .slices) fine (k .same-table)) fine (b .used) (c .line) (c .answer) (b .bytes) (c .bytes) (b .log) (c .log) (k .promise)
 
-  pub calls-follow : (log : List Entry) (s : State) (b : LoggedLeft) → Follows log s b → (cs : List LoggedCall) → LoggedCalls x b cs
-      → (loggedAnswers cs ≡ answersTo x (length log) s (loggedLines cs)) × Follows log (run x (length log) s (loggedLines cs)) (leftAfterLogged b cs)
+  pub calls-follow : (log : List Entry) (s : State) (b : LoggedLeft) → FollowsRun log s b → (cs : List LoggedCall) → LoggedCalls x b cs
+      → (loggedAnswers cs ≡ answersTo x (length log) s (loggedLines cs)) × FollowsRun log (run x (length log) s (loggedLines cs)) (leftAfterLogged b cs)
   unfolding run answersTo
   calls-follow log s b f [] k = (refl, f)
   calls-follow log s b f (c ∷ cs) k =

@@ -1,5 +1,5 @@
 -- Demand 3: each claim about the calls is that about the run (`ClaimsOfRun`), which they follow.
-use Prim.Native.Nat.{ℕ, _-_, _<_}
+use Prim.Native.Nat.{ℕ, _+_, _-_, _≤_, _<_}
 use mathlib.Core.Path.{_≡_, refl, sym, _∙_, ap}
 use mathlib.Core.Logic.{_↔_, _⊎_}
 use mathlib.Core.Bool.{true}
@@ -22,10 +22,10 @@ use Rattle.fleet.specs.declared.Finishing.the-variants.{Says}
 use Rattle.fleet.specs.Answers.{whetherFinished}
 use Rattle.fleet.proofs.Calls.{handled-next}
 use Rattle.fleet_calls.specs.Calls.{SameTable, LoggedCall, LoggedLeft, freshLogged, KeptLogged, LoggedCalls, leftAfterLogged, loggedLines}
-use Rattle.fleet_calls.specs.Demand3.{recordsOver, Demand3}
+use Rattle.fleet_calls.specs.Demand3.{recordsOver, LeadsToFinish, Demand3}
 use Rattle.fleet_calls.proofs.Same.{same-own, same-fleet, same-finished}
 use Rattle.fleet_calls.proofs.Promises.{same-fine, fine-room}
-use Rattle.fleet_calls.proofs.Calls.{Follows, calls-through, fresh-through, kept-logs, logged-run}
+use Rattle.fleet_calls.proofs.Calls.{FollowsRun, calls-through, fresh-through, kept-logs, logged-run}
 use Rattle.fleet_calls.proofs.Callable.{madeLogged, made-kept}
 use Rattle.fleet_calls.proofs.Places.{calls-before, leads-by-calls, changes-of-run, moments-of-run, left-follows, answer-of-run}
 
@@ -43,9 +43,6 @@ module _ (x : Slices) (fine : slicesFault x ≡ 0) (digits : x .number < 65536) 
 
   abbrev room : ℕ
   room = length log
-
-  abbrev runOver : List LoggedCall → State
-  runOver cs = run x room (start x) (loggedLines cs)
 
   -- a call at its place
   module _ (before later : List LoggedCall) (c : LoggedCall) (k : LoggedCalls x (freshLogged x log) (before ++ c ∷ later)) where
@@ -87,7 +84,7 @@ module _ (x : Slices) (fine : slicesFault x ≡ 0) (digits : x .number < 65536) 
     all : ClaimsOfRun x room ls
     all = claims-of-run x fine digits room ls
 
-    f : Follows log s after
+    f : FollowsRun log s after
     f = left-follows x fine log cs k
 
     entries-are : take (after .used) (after .log) ≡ s .log
@@ -97,7 +94,7 @@ module _ (x : Slices) (fine : slicesFault x ≡ 0) (digits : x .number < 65536) 
     withLog log′ = record { bytes = after .bytes; log = log′; used = after .used }
 
     -- with another log that has the used entries
-    follows-with : (log′ : List Entry) → take (after .used) log′ ≡ take (after .used) (after .log) → Follows log′ s (withLog log′)
+    follows-with : (log′ : List Entry) → take (after .used) log′ ≡ take (after .used) (after .log) → FollowsRun log′ s (withLog log′)
     follows-with log′ has =
         record {
           bytes = f .bytes;
@@ -106,10 +103,21 @@ module _ (x : Slices) (fine : slicesFault x ≡ 0) (digits : x .number < 65536) 
           long = refl;
         }
 
+    passes-after : fleetFault t (after .bytes) ≡ 0
+    passes-after = rw (f .bytes) (all .passes)
+
     says-whether : (y : Slices) → SameTable y x → (q : Finishing) → q ≡ whetherFinished y (after .bytes) → q ≡ Says (finished t (after .bytes))
     says-whether y same q is =
-        let passes : fleetFault (tableOf y) (after .bytes) ≡ 0 = same-fleet (tableOf y) t (same .same) (after .bytes) ∙ rw (f .bytes) (all .passes) in
+        let passes : fleetFault (tableOf y) (after .bytes) ≡ 0 = same-fleet (tableOf y) t (same .same) (after .bytes) ∙ passes-after in
         is ∙ rw (same-fine x y fine same, passes) (ap Says (same-finished (tableOf y) t (same .same) (after .bytes)))
+
+    -- the further list, by whichever calls
+    further : (log′ : List Entry) → take (after .used) log′ ≡ take (after .used) (after .log) → after .used + length (all .goes-on .0) ≤ length log′
+        → (ds : List LoggedCall) → loggedLines ds ≡ all .goes-on .0 → LoggedCalls x (withLog log′) ds → LeadsToFinish t (recordsOver (start x .bytes) cs) (after .bytes) ds
+    further log′ has fits ds lines calls =
+        rw (moments-of-run x fine log cs k)
+        (leads-by-calls x fine log′ (moments x room (start x) ls) s (withLog log′) (follows-with log′ has) ds calls
+        (rw lines (all .goes-on .1 (length log′) (rw (f .used) at fits))))
 
     -- a call with an entry free
     bytes-next : (log′ : List Entry) (c : LoggedCall) → KeptLogged x (withLog log′) c → c .bytes ≡ next x (length log′) s (c .line) .bytes
@@ -167,32 +175,30 @@ module _ (x : Slices) (fine : slicesFault x ≡ 0) (digits : x .number < 65536) 
         let done : finished t (s′ .bytes) ≡ true = ap (finished t) (sym is) ∙ sym (same-finished (tableOf y) t (same .same) bytes′) ∙ e′ in
         rw (f .bytes, is, same-own (tableOf y) t (same .same) p (s′ .bytes)) (all .same-plan (rw (f .bytes) at e) (length log′) (loggedLines cs′) done i p l at)
 
-    pub demand-3 : Demand3 x log cs
-    demand-3 =
-        record {
-          passes = λ before later is.
-              let earlier = calls-before x (freshLogged x log) before later (rw is at k) in
-              rw (left-follows x fine log before earlier .bytes) (claims-of-run x fine digits room (loggedLines before) .passes);
-          says = says-whether;
-          eight = λ i l. rw (changes-of-run x fine log cs k i) (all .eight i l);
-          four = λ i l. rw (changes-of-run x fine log cs k i) (all .four i l);
-          refused-kept = λ i l a. all .refused-kept i l (rw entries-are at a);
-          two-refused = λ j e. rw entries-are (all .two-refused j (rw (f .bytes) at e));
-          unsent-refused = λ before later c is. unsent-here before later c (rw is at k);
-          sent-passes = all .sent-passes;
-          accepted-usable = λ before later c is. accepted-here before later c (rw is at k);
-          unsent-by-27 = λ before later c is. by-27-here before later c (rw is at k);
-          goes-on = (
-            all .goes-on .0,
-            λ log′ has fits ds lines calls.
-                rw (moments-of-run x fine log cs k)
-                (leads-by-calls x fine log′ (moments x room (start x) ls) s (withLog log′) (follows-with log′ has) ds calls
-                (rw lines (all .goes-on .1 (length log′) (rw (f .used) at fits)))),
-          );
-          says-finished = (finished-unaltered, unaltered-finished);
-          rests-plan = λ e. rw (f .bytes) (all .rests-plan (rw (f .bytes) at e));
-          ends-agree = λ e. rw (f .bytes) (all .ends-agree (rw (f .bytes) at e));
-          same-plan = plans-same;
-          needs-met = λ e. rw (f .bytes) (all .needs-met (rw (f .bytes) at e));
-          cost-twice = λ e. rw (f .bytes) (all .cost-twice (rw (f .bytes) at e));
-        }
+  pub demand-3 : (cs : List LoggedCall) → LoggedCalls x (freshLogged x log) cs → Demand3 x log cs
+  demand-3 cs k =
+      record {
+        passes = λ before later is. passes-after before (calls-before x (freshLogged x log) before later (rw is at k));
+        says = λ before later is. says-whether before (calls-before x (freshLogged x log) before later (rw is at k));
+        eight = λ i l. rw (changes-of-run x fine log cs k i) (claimed .eight i l);
+        four = λ i l. rw (changes-of-run x fine log cs k i) (claimed .four i l);
+        refused-kept = λ i l a. claimed .refused-kept i l (rw (entries-are cs k) at a);
+        two-refused = λ j e. rw (entries-are cs k) (claimed .two-refused j (rw (same .bytes) at e));
+        unsent-refused = λ before later c is. unsent-here before later c (rw is at k);
+        accepted-usable = λ before later c is. accepted-here before later c (rw is at k);
+        sent-passes = claimed .sent-passes;
+        unsent-by-27 = λ before later c is. by-27-here before later c (rw is at k);
+        goes-on = (claimed .goes-on .0, further cs k);
+        says-finished = (finished-unaltered cs k, unaltered-finished cs k);
+        rests-plan = λ e. rw (same .bytes) (claimed .rests-plan (rw (same .bytes) at e));
+        ends-agree = λ e. rw (same .bytes) (claimed .ends-agree (rw (same .bytes) at e));
+        same-plan = plans-same cs k;
+        needs-met = λ e. rw (same .bytes) (claimed .needs-met (rw (same .bytes) at e));
+        cost-twice = λ e. rw (same .bytes) (claimed .cost-twice (rw (same .bytes) at e));
+      }
+    where
+      claimed : ClaimsOfRun x room (loggedLines cs)
+      claimed = all cs k
+
+      same : FollowsRun log (run x room (start x) (loggedLines cs)) (leftAfterLogged (freshLogged x log) cs)
+      same = f cs k

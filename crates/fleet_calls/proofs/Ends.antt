@@ -43,11 +43,11 @@ use Rattle.fleet_theory.proofs.Ends.{ends-alone}
 use Rattle.fleet_theory.proofs.Run.{slices-legal}
 use Rattle.fleet.proofs.Checks.{line-to, line-within}
 use Rattle.fleet.proofs.Passing.{passed-line}
-use Rattle.fleet_calls.specs.Calls.{SameTable, counted, LoggedCall, LoggedLeft, freshLogged, leftByLogged, LoggedCalls, leftAfterLogged, loggedLines}
+use Rattle.fleet_calls.specs.Calls.{SameTable, acceptedBy, LoggedCall, LoggedLeft, freshLogged, leftByLogged, LoggedCalls, leftAfterLogged, loggedLines}
 use Rattle.fleet_calls.specs.Ends.{EndsOfCalls}
 use Rattle.fleet_calls.proofs.Same.{and-under, same-between, same-heard, same-line, same-spare-fault, same-befalls, same-entry}
 use Rattle.fleet_calls.proofs.Promises.{same-fine}
-use Rattle.fleet_calls.proofs.Calls.{Follows, entryTo, step-follows, kept-logs}
+use Rattle.fleet_calls.proofs.Calls.{FollowsRun, entryTo, step-follows, kept-logs}
 use Rattle.fleet_calls.proofs.Places.{calls-before, call-at, left-follows}
 
 -- the parts of an end's promise, and the promise of its parts
@@ -132,7 +132,7 @@ logged-none n e e′ is = go (ℕ-discrete n 0)
   where
     go : Dec (n ≡ 0) → n ≡ 0
     go (yes z) = z
-    go (no d) = let none = ap counted (rw (ne-eqb n 0 d) at is) in absurd (omega arith)
+    go (no d) = let none = ap acceptedBy (rw (ne-eqb n 0 d) at is) in absurd (omega arith)
 
 module _ (x : Slices) (fine : slicesFault x ≡ 0) (log : List Entry) where
   abbrev t : Table
@@ -161,10 +161,10 @@ module _ (x : Slices) (fine : slicesFault x ≡ 0) (log : List Entry) where
     abbrev left : LoggedLeft
     left = leftAfterLogged (freshLogged x log) before
 
-    follows : Follows log s left
+    follows : FollowsRun log s left
     follows = left-follows x fine log before (calls-before x (freshLogged x log) before (c ∷ later) k)
 
-    stepped : (c .answer ≡ answerTo x room s l) × Follows log (next x room s l) (leftByLogged left c)
+    stepped : (c .answer ≡ answerTo x room s l) × FollowsRun log (next x room s l) (leftByLogged left c)
     stepped = step-follows x log s left c follows (kept-logs x fine left c (call-at x (freshLogged x log) before later c k))
 
     none : faultOf x room s l ≡ 0

@@ -8,7 +8,7 @@ use Rattle.wake_log.specs.declared.Answer.{Answer}
 use Rattle.fleet_theory.specs.Fleet.{State, start, answerTo, next, run}
 use Rattle.fleet.specs.Answers.{Handled}
 use Rattle.fleet.proofs.Calls.{handled-next}
-use Rattle.fleet_calls.specs.Calls.{counted, EventCall, EventLeft, freshEvent, leftByEvent, KeptEvent, EventCalls, leftAfterEvents, eventLines, eventAnswers, answersTo, EventRun}
+use Rattle.fleet_calls.specs.Calls.{acceptedBy, EventCall, EventLeft, freshEvent, leftByEvent, KeptEvent, EventCalls, leftAfterEvents, eventLines, eventAnswers, answersTo, EventRun}
 use Rattle.fleet_calls.proofs.Promises.{same-fine, handled-same}
 use Rattle.fleet_calls.proofs.Calls.{used-next}
 
@@ -28,8 +28,8 @@ module _ (x : Slices) (fine : slicesFault x ≡ 0) (room : ℕ) where
         stepped .0,
         record {
           bytes = stepped .1;
-          used = ap (λ (n : ℕ). n + counted (c .answer)) (f .used)
-              ∙ ap (λ (a : Answer). length (s .log) + counted a) (stepped .0)
+          used = ap (λ (n : ℕ). n + acceptedBy (c .answer)) (f .used)
+              ∙ ap (λ (a : Answer). length (s .log) + acceptedBy a) (stepped .0)
               ∙ used-next x room s (c .line);
         },
       )

@@ -9,7 +9,7 @@ use Rattle.fleet_theory.specs.Fleet.{State, start, answerTo, next, run, linkCha
 use Rattle.fleet_theory.specs.ClaimsOfRun.{moments, LeadsOn}
 use Rattle.fleet_calls.specs.Calls.{LoggedCall, LoggedLeft, freshLogged, leftByLogged, KeptLogged, LoggedCalls, leftAfterLogged, loggedLines}
 use Rattle.fleet_calls.specs.Demand3.{changesOver, recordsOver, LeadsToFinish}
-use Rattle.fleet_calls.proofs.Calls.{Follows, step-follows, fresh-follows, kept-logs, calls-follow}
+use Rattle.fleet_calls.proofs.Calls.{FollowsRun, step-follows, fresh-follows, kept-logs, calls-follow}
 
 -- calls up to a place, and the call there
 pub calls-before : (x : Slices) (b : LoggedLeft) (before later : List LoggedCall) → LoggedCalls x b (before ++ later) → LoggedCalls x b before
@@ -25,7 +25,7 @@ module _ (x : Slices) (fine : slicesFault x ≡ 0) (log : List Entry) where
   room = length log
 
   -- the changes and the moments are those of the run
-  changes-are : (s : State) (b : LoggedLeft) → Follows log s b → (cs : List LoggedCall) → LoggedCalls x b cs → (i : ℕ)
+  changes-are : (s : State) (b : LoggedLeft) → FollowsRun log s b → (cs : List LoggedCall) → LoggedCalls x b cs → (i : ℕ)
       → changesOver (b .bytes) cs i ≡ changes x room s (loggedLines cs) i
   unfolding changes
   changes-are s b f [] k i = refl
@@ -35,7 +35,7 @@ module _ (x : Slices) (fine : slicesFault x ≡ 0) (log : List Entry) where
       let first : linkChanges (b .bytes) (c .bytes) i ≡ linkChanges (s .bytes) (s′ .bytes) i = rw (f .bytes, one .bytes) in
       rw (first, changes-are s′ (leftByLogged b c) one cs (k .1) i)
 
-  records-are : (s : State) (b : LoggedLeft) → Follows log s b → (cs : List LoggedCall) → LoggedCalls x b cs → recordsOver (b .bytes) cs ≡ moments x room s (loggedLines cs)
+  records-are : (s : State) (b : LoggedLeft) → FollowsRun log s b → (cs : List LoggedCall) → LoggedCalls x b cs → recordsOver (b .bytes) cs ≡ moments x room s (loggedLines cs)
   unfolding moments
   records-are s b f [] k = rw (f .bytes)
   records-are s b f (c ∷ cs) k =
@@ -43,7 +43,7 @@ module _ (x : Slices) (fine : slicesFault x ≡ 0) (log : List Entry) where
       rw (f .bytes, records-are (next x room s (c .line)) (leftByLogged b c) one cs (k .1))
 
   -- lines that lead on lead to the finish, by whichever calls
-  pub leads-by-calls : (so-far : List (List ℕ)) (s : State) (b : LoggedLeft) → Follows log s b → (ds : List LoggedCall) → LoggedCalls x b ds
+  pub leads-by-calls : (so-far : List (List ℕ)) (s : State) (b : LoggedLeft) → FollowsRun log s b → (ds : List LoggedCall) → LoggedCalls x b ds
       → LeadsOn x room so-far s (loggedLines ds) → LeadsToFinish (tableOf x) so-far (b .bytes) ds
   leads-by-calls so-far s b f [] k on = rw (f .bytes) on
   leads-by-calls so-far s b f (d ∷ ds) k on =
@@ -59,7 +59,7 @@ module _ (x : Slices) (fine : slicesFault x ≡ 0) (log : List Entry) where
     pub moments-of-run : recordsOver (start x .bytes) cs ≡ moments x room (start x) (loggedLines cs)
     moments-of-run = records-are (start x) (freshLogged x log) (fresh-follows x log) cs k
 
-    pub left-follows : Follows log (run x room (start x) (loggedLines cs)) (leftAfterLogged (freshLogged x log) cs)
+    pub left-follows : FollowsRun log (run x room (start x) (loggedLines cs)) (leftAfterLogged (freshLogged x log) cs)
     left-follows = calls-follow x fine log (start x) (freshLogged x log) (fresh-follows x log) cs k .1
 
   pub answer-of-run : (before later : List LoggedCall) (c : LoggedCall) → LoggedCalls x (freshLogged x log) (before ++ c ∷ later)

@@ -24,10 +24,15 @@ pub record SameTable (y x : Slices) : Type 0 where
   pub same : Same (tableOf y) (tableOf x)
   pub passes-8 : slicesRoomFault y ≡ 0
 
+-- lines, each with slices of the table of x
+abbrev pub GivenLines : Slices → List (Slices × List ℕ) → Type 0
+GivenLines x [] = Unit
+GivenLines x (g ∷ gs) = SameTable (g .0) x × GivenLines x gs
+
 -- "one for each accepted event": how many entries an answer has logged
-abbrev pub counted : Answer → ℕ
-counted (Logged e) = 1
-counted (Refused n) = 0
+abbrev pub acceptedBy : Answer → ℕ
+acceptedBy (Logged e) = 1
+acceptedBy (Refused n) = 0
 
 -- the entries that answers have logged
 abbrev pub entriesIn : List Answer → List Entry
@@ -56,7 +61,7 @@ abbrev pub freshLogged : Slices → List Entry → LoggedLeft
 freshLogged x log = record { bytes = start x .bytes; log = log; used = 0 }
 
 abbrev pub leftByLogged : LoggedLeft → LoggedCall → LoggedLeft
-leftByLogged b c = record { bytes = c .bytes; log = c .log; used = b .used + counted (c .answer) }
+leftByLogged b c = record { bytes = c .bytes; log = c .log; used = b .used + acceptedBy (c .answer) }
 
 -- the call gets the table of x and what the last one left, and does what `event_logged` promises
 pub record KeptLogged (x : Slices) (b : LoggedLeft) (c : LoggedCall) : Type 0 where
@@ -67,10 +72,14 @@ abbrev pub LoggedCalls : Slices → LoggedLeft → List LoggedCall → Type 0
 LoggedCalls x b [] = Unit
 LoggedCalls x b (c ∷ cs) = KeptLogged x b c × LoggedCalls x (leftByLogged b c) cs
 
--- what the last of them left, their lines, and their answers
+-- what the last of them left, what they were given, their lines, and their answers
 abbrev pub leftAfterLogged : LoggedLeft → List LoggedCall → LoggedLeft
 leftAfterLogged b [] = b
 leftAfterLogged b (c ∷ cs) = leftAfterLogged (leftByLogged b c) cs
+
+abbrev pub loggedGiven : List LoggedCall → List (Slices × List ℕ)
+loggedGiven [] = []
+loggedGiven (c ∷ cs) = (c .slices, c .line) ∷ loggedGiven cs
 
 abbrev pub loggedLines : List LoggedCall → List (List ℕ)
 loggedLines [] = []
@@ -98,7 +107,7 @@ abbrev pub freshEvent : Slices → EventLeft
 freshEvent x = record { bytes = start x .bytes; used = 0 }
 
 abbrev pub leftByEvent : EventLeft → EventCall → EventLeft
-leftByEvent b c = record { bytes = c .bytes; used = b .used + counted (c .answer) }
+leftByEvent b c = record { bytes = c .bytes; used = b .used + acceptedBy (c .answer) }
 
 -- the call gets the table of x and what the last one left, and does what `event` promises
 pub record KeptEvent (x : Slices) (room : ℕ) (b : EventLeft) (c : EventCall) : Type 0 where
@@ -113,6 +122,10 @@ abbrev pub leftAfterEvents : EventLeft → List EventCall → EventLeft
 leftAfterEvents b [] = b
 leftAfterEvents b (c ∷ cs) = leftAfterEvents (leftByEvent b c) cs
 
+abbrev pub eventGiven : List EventCall → List (Slices × List ℕ)
+eventGiven [] = []
+eventGiven (c ∷ cs) = (c .slices, c .line) ∷ eventGiven cs
+
 abbrev pub eventLines : List EventCall → List (List ℕ)
 eventLines [] = []
 eventLines (c ∷ cs) = c .line ∷ eventLines cs
@@ -121,7 +134,7 @@ abbrev pub eventAnswers : List EventCall → List Answer
 eventAnswers [] = []
 eventAnswers (c ∷ cs) = c .answer ∷ eventAnswers cs
 
--- Both are the run over their lines (`logged-run`, `event-run`), and calls can be made for any lines (`callable`).
+-- Both are the run over their lines (`logged-run`, `event-run`). Calls can be made for any lines, each over any slices of the table (`callable`, `event-callable`).
 
 -- the answers of the run over a list of lines
 unfoldable pub answersTo : Slices → ℕ → State → List (List ℕ) → List Answer

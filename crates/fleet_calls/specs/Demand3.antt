@@ -65,9 +65,10 @@ module _ (x : Slices) (log : List Entry) (cs : List LoggedCall) where
   withLog log′ = record { bytes = bytes; log = log′; used = after .used }
 
   pub record Demand3 : Type 0 where
-    -- 20 to 22 let the record pass at every moment, so `finished`, called on it in any slices of the table, says whether the fleet is finished, and refuses nothing
+    -- 20 to 22 let the record pass at every moment; so `finished`, called on it in any slices of the table, says whether the fleet is finished, and refuses nothing
     pub passes : (before later : List LoggedCall) → cs ≡ before ++ later → fleetFault t (leftAt before .bytes) ≡ 0
-    pub says : (y : Slices) → SameTable y x → (q : Finishing) → q ≡ whetherFinished y bytes → q ≡ Says (finished t bytes)
+    pub says : (before later : List LoggedCall) → cs ≡ before ++ later → (y : Slices) → SameTable y x
+        → (q : Finishing) → q ≡ whetherFinished y (leftAt before .bytes) → q ≡ Says (finished t (leftAt before .bytes))
     -- "after it no link has had more than eight changes", and not more than four
     pub eight : (i : ℕ) → i < x .links → changesOver (start x .bytes) cs i ≤ 8
     pub four : (i : ℕ) → i < x .links → changesOver (start x .bytes) cs i ≤ 4
@@ -77,15 +78,15 @@ module _ (x : Slices) (log : List Entry) (cs : List LoggedCall) where
     -- "every frame not truly sent was turned down": every line that is neither an opening nor a truly sent frame, at its place in the list
     pub unsent-refused : (before later : List LoggedCall) (c : LoggedCall) → cs ≡ before ++ c ∷ later → (IsOpening t (c .line) → ⊥)
         → (TrulySentLine t (c .line) (momentsAt before) → ⊥) → (n : ℕ) × (c .answer ≡ Refused n)
-    -- a line that is no frame, or is one of another table number, of another kind or between probes without a link, is never truly sent
-    pub sent-passes : (so-far : List (List ℕ)) (l : List ℕ) → TrulySentLine t l so-far → eventLineFault t l ≡ 0
     -- so an accepted line is an opening or a truly sent frame
     pub accepted-usable : (before later : List LoggedCall) (c : LoggedCall) → cs ≡ before ++ c ∷ later
         → (e : Entry) → c .answer ≡ Logged e → Usable t (c .line) (momentsAt before)
+    -- a line that is no frame, or is one of another table number, of another kind or between probes without a link, is never truly sent
+    pub sent-passes : (so-far : List (List ℕ)) (l : List ℕ) → TrulySentLine t l so-far → eventLineFault t l ≡ 0
     -- "a frame past the checks before 27 is turned down by 27 exactly when it is not truly sent"
     pub unsent-by-27 : (before later : List LoggedCall) (c : LoggedCall) → cs ≡ before ++ c ∷ later → IsFrame (frameOf (c .line)) → eventLineFault t (c .line) ≡ 0
         → (c .answer ≡ Refused 27) ↔ (TrulySent t (frameOf (c .line)) (momentsAt before) → ⊥)
-    -- "From there some further list of openings and truly sent frames, none turned down, leads to the finish": "the log lent has an entry free for each of them"
+    -- "From there some further list of openings and truly sent frames, none turned down, leads to the finish": "the log lent has an entry free for each of them". It is one list of lines, whatever calls give them; such calls can be made (`callable`).
     pub goes-on : (ms : List (List ℕ))
         × ((log′ : List Entry) → HasEntries log′ → after .used + length ms ≤ length log′ → (ds : List LoggedCall) → loggedLines ds ≡ ms → LoggedCalls x (withLog log′) ds
         → LeadsToFinish t (momentsAt cs) bytes ds)

@@ -1,4 +1,4 @@
--- The ends called alone.
+-- The ends called alone, by what holds at each moment of the run (`HoldsAfter`).
 use Prim.Native.Nat.{ℕ, _+_, _*_, _≤_, _<_}
 use mathlib.Core.Path.{_≡_, refl, sym, _∙_, ap}
 use mathlib.Core.Logic.{_↔_, _⊎_, inl, inr}

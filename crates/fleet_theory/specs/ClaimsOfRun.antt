@@ -47,11 +47,11 @@ module _ (x : Slices) (room : ℕ) (ls : List (List ℕ)) where
     -- "every frame not truly sent was turned down", at its place in the list: every line that is neither an opening nor a truly sent frame
     pub unsent-refused : (xs ys : List (List ℕ)) (l : List ℕ) → ls ≡ xs ++ l ∷ ys → (IsOpening t l → ⊥)
         → (TrulySentLine t l (moments x room (start x) xs) → ⊥) → (n : ℕ) × (answerTo x room (run x room (start x) xs) l ≡ Refused n)
-    -- a line that is no frame, or is one of another table number, of another kind or between probes without a link, is never truly sent
-    pub sent-passes : (so-far : List (List ℕ)) (l : List ℕ) → TrulySentLine t l so-far → eventLineFault t l ≡ 0
     -- so an accepted line is an opening or a truly sent frame
     pub accepted-usable : (xs ys : List (List ℕ)) (l : List ℕ) → ls ≡ xs ++ l ∷ ys
         → (e : Entry) → answerTo x room (run x room (start x) xs) l ≡ Logged e → Usable t l (moments x room (start x) xs)
+    -- a line that is no frame, or is one of another table number, of another kind or between probes without a link, is never truly sent
+    pub sent-passes : (so-far : List (List ℕ)) (l : List ℕ) → TrulySentLine t l so-far → eventLineFault t l ≡ 0
     -- "a frame past the checks before 27 is turned down by 27 exactly when it is not truly sent"
     pub unsent-by-27 : (xs ys : List (List ℕ)) (l : List ℕ) → ls ≡ xs ++ l ∷ ys → IsFrame (frameOf l) → eventLineFault t l ≡ 0
         → (answerTo x room (run x room (start x) xs) l ≡ Refused 27) ↔ (TrulySent t (frameOf l) (moments x room (start x) xs) → ⊥)

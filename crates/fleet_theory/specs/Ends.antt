@@ -1,4 +1,4 @@
--- Beside demand 3: the ends called alone, each on its own bytes of the fleet's record. The sentences are those of document 01, "The ends and their frames".
+-- Beside the claims about the run: the ends called alone, each on its own bytes of the fleet's record. The sentences are those of document 01, "The ends and their frames".
 use Prim.Native.Nat.{ℕ, _≤_, _<_}
 use mathlib.Core.Path.{_≡_}
 use mathlib.Core.Logic.{_↔_, _⊎_}

@@ -17,7 +17,7 @@ use Rattle.fleet_theory.specs.Fleet.{own, eventLineFault}
 abbrev pub IsFrame : Frame → Type 0
 IsFrame f = (f .kind ≡ 1) ⊎ (f .kind ≡ 2)
 
--- of the table's number
+-- a frame of the table: of its number
 abbrev pub FrameOfTable : Table → Frame → Type 0
 FrameOfTable t f = (f .number ≡ t .number) × IsFrame f
 

@@ -14,8 +14,7 @@ use Rattle.table_links.proofs.Search.{ordered}
 use Rattle.table_links.proofs.OrderedLinks.{ordered-links}
 use Rattle.probe_rules.proofs.OutcomeLaws.{event-wider}
 use Rattle.fleet_state.proofs.CheckLaws.{fleet-good}
-use Rattle.fleet_theory.proofs.Lines.{line-frame}
-use Rattle.fleet.proofs.Checks.{line-within, line-to}
+use Rattle.fleet.proofs.Checks.{line-frame, line-within, line-to}
 use Rattle.fleet.proofs.Calls.{event-of, unsent-is, line-refused, unsent-refused, full-refused, line-accepted}
 
 check-line-requires : tie.Need-check-line-requires
