@@ -2,12 +2,13 @@
 use Prim.Native.Nat.{ℕ, _≤_, _<_}
 use mathlib.Core.Path.{_≡_, refl, sym, _∙_, ap}
 use mathlib.Core.Bool.{Bool, true, false, cond}
-use mathlib.Core.List.{List, []}
+use mathlib.Core.List.{List, [], _∷_}
 use lib.Dec.{ltb, eqb}
 use lib.ListN.{length}
 use borrow.Author.Tests.{lt-ltb, le-ltb, ne-eqb}
 use native.Mathlib.Omega.{arith}
 use Rattle.range.specs.First.{orElse}
+use Rattle.range.specs.Reply.{refusal, values, replyOf}
 use Rattle.range.proofs.Faults.{or-here, or-none, or-through}
 use Rattle.table.specs.Table.{Table, ofSlices, between}
 use Rattle.table.specs.Slices.{sliceFault, Slices, tableOf, slicesFault, slicesOf}
@@ -15,7 +16,8 @@ use Rattle.probe_frame.specs.Frame.{Frame, frameOf}
 use Rattle.wake_log.specs.declared.Entry.{Entry}
 use Rattle.wake_log.specs.declared.Answer.{Answer}
 use Rattle.wake_log.specs.declared.Answer.the-variants.{Logged, Refused}
-use Rattle.wake_log.specs.Entry.{answerOf}
+use Rattle.wake_log.specs.Entry.{entryValues, answerReply, answerOf}
+use Rattle.wake_log.proofs.Answers.{answer-is, answer-reply}
 use mathlib.Core.Logic.{_⊎_, inl, inr}
 use Rattle.range.proofs.Bools.{decided}
 use Rattle.probe_rules.specs.declared.Event.{Event}
@@ -25,27 +27,40 @@ use Rattle.probe_rules.specs.Rules.{befalls, entryOf}
 use Rattle.probe_rules.specs.Within.{EventWithin}
 use Rattle.probe_rules.proofs.OutcomeLaws.{entry-same, befalls-same}
 use Rattle.fleet_theory.specs.Fleet.{own, fleetFault, eventLineFault, eventOf, unsentFault, eventFault, outcomeOf, alterFleet, alteredBy, State, faultOf, answerTo, accepted, next}
+use Rattle.fleet.specs.declared.Finishing.{Finishing}
 use Rattle.fleet.specs.declared.Finishing.the-variants as finishing
-use Rattle.fleet.specs.Answers.{Handled, finishingOf}
+use Rattle.fleet.specs.Answers.{Handled, finishingReply}
 use Rattle.fleet_theory.proofs.Own.{own-same, fleet-same}
 
-refused-answer : (fault n : ℕ) (entry : Entry) → n ≡ fault → (n ≡ 0 → ⊥) → Refused n ≡ answerOf fault entry
-refused-answer fault n entry e some = rw (← e, ne-eqb n 0 some)
+refused-answer : (fault n : ℕ) (vs : List ℕ) → n ≡ fault → (n ≡ 0 → ⊥) → answerReply (Refused n) ≡ replyOf fault vs
+refused-answer fault n vs e some = rw (← e, ne-eqb n 0 some)
 
 stays : (fault n : ℕ) (r r′ : List ℕ) → n ≡ fault → (n ≡ 0 → ⊥) → r ≡ cond (eqb fault 0) r′ r
 stays fault n r r′ e some = rw (← e, ne-eqb n 0 some)
 
-logged-answer : (fault : ℕ) (e e′ : Entry) → fault ≡ 0 → e ≡ e′ → Logged e ≡ answerOf fault e′
+logged-answer : (fault : ℕ) (e e′ : Entry) → fault ≡ 0 → e ≡ e′ → answerReply (Logged e) ≡ replyOf fault (entryValues e′)
 logged-answer fault e e′ none is = rw (none, is)
 
 altered : (fault : ℕ) (r r′ r″ : List ℕ) → fault ≡ 0 → r″ ≡ r′ → r″ ≡ cond (eqb fault 0) r′ r
 altered fault r r′ r″ none is = rw none is
 
-pub finishing-refused : (fault n : ℕ) (b : Bool) → n ≡ fault → (n ≡ 0 → ⊥) → finishing.Refused n ≡ finishingOf fault b
-finishing-refused fault n b e some = rw (← e, ne-eqb n 0 some)
+pub finishing-refused : (fault n : ℕ) (vs : List ℕ) → n ≡ fault → (n ≡ 0 → ⊥) → finishingReply (finishing.Refused n) ≡ replyOf fault vs
+finishing-refused fault n vs e some = rw (← e, ne-eqb n 0 some)
 
-pub finishing-says : (fault : ℕ) (b b′ : Bool) → fault ≡ 0 → b ≡ b′ → finishing.Says b ≡ finishingOf fault b′
+pub finishing-says : (fault : ℕ) (b b′ : Bool) → fault ≡ 0 → b ≡ b′ → finishingReply (finishing.Says b) ≡ replyOf fault (cond b′ 1 0 ∷ [])
 finishing-says fault b b′ none is = rw (none, is)
+
+pub finishing-is : (q : Finishing) (fault : ℕ) (b : Bool) → finishingReply q ≡ replyOf fault (cond b 1 0 ∷ []) → q ≡ cond (eqb fault 0) (finishing.Says b) (finishing.Refused fault)
+finishing-is q fault b e = go q (eqb fault 0) b e
+  where
+    go : (q : Finishing) (none b : Bool) → finishingReply q ≡ cond none (values (cond b 1 0 ∷ [])) (refusal fault) → q ≡ cond none (finishing.Says b) (finishing.Refused fault)
+    go (finishing.Says true) true true e = refl
+    go (finishing.Says true) true false e = let z : _≡_ {A = ℕ} 0 1 = cc in absurd (omega arith)
+    go (finishing.Says false) true true e = let z : _≡_ {A = ℕ} 0 1 = cc in absurd (omega arith)
+    go (finishing.Says false) true false e = refl
+    go (finishing.Says a) false b e = let z : _≡_ {A = ℕ} 0 1 = cc in absurd (omega arith)
+    go (finishing.Refused n) true b e = let z : _≡_ {A = ℕ} 0 1 = cc in absurd (omega arith)
+    go (finishing.Refused n) false b e = cc
 
 -- by its fault
 pub refused-call : (x : Slices) (used room : ℕ) (line r : List ℕ) (n : ℕ) → n ≡ eventFault x r used room line → (n ≡ 0 → ⊥)
@@ -132,11 +147,27 @@ module _ (number probes links : ℕ) (needs lows highs costs : List ℕ) (used r
                   (is .1 ∙ ap (λ (k : Outcome). alterFleet t (f .to) k r) o);
             }
 
+-- the answer, by the fault found
+pub handled-answer : {x : Slices} {used room : ℕ} {line : List ℕ} {r : Answer} {before after : List ℕ} → Handled x used room line r before after
+    → r ≡ answerOf (eventFault x before used room line) (entryOf (tableOf x) (frameOf line .to) (outcomeOf (tableOf x) before (frameOf line)))
+handled-answer {x} {used} {room} {line} {r} {before} h =
+    answer-is r (eventFault x before used room line) (entryOf (tableOf x) (frameOf line .to) (outcomeOf (tableOf x) before (frameOf line))) (h .answer)
+
+pub handled-is : (x : Slices) (used room : ℕ) (line : List ℕ) (r : Answer) (before after : List ℕ)
+    → r ≡ answerOf (eventFault x before used room line) (entryOf (tableOf x) (frameOf line .to) (outcomeOf (tableOf x) before (frameOf line)))
+    → after ≡ cond (eqb (eventFault x before used room line) 0) (alteredBy (tableOf x) before (frameOf line)) before
+    → Handled x used room line r before after
+handled-is x used room line r before after e f =
+    record {
+      answer = answer-reply r (eventFault x before used room line) (entryOf (tableOf x) (frameOf line .to) (outcomeOf (tableOf x) before (frameOf line))) e;
+      record-after = f;
+    }
+
 -- a line handled is a step of the list of lines
 pub handled-next : (x : Slices) (room : ℕ) (s : State) (l : List ℕ) (r : Answer) (after : List ℕ) → Handled x (length (s .log)) room l r (s .bytes) after
     → (r ≡ answerTo x room s l) × (after ≡ next x room s l .bytes)
 unfolding next
-handled-next x room s l r after h = (h .answer, h .record-after ∙ go (eqb (faultOf x room s l) 0))
+handled-next x room s l r after h = (handled-answer h, h .record-after ∙ go (eqb (faultOf x room s l) 0))
   where
     go : (b : Bool) → cond b (alteredBy (tableOf x) (s .bytes) (frameOf l)) (s .bytes) ≡ (cond b (accepted x s l) s) .bytes
     go true = refl

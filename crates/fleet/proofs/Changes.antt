@@ -33,6 +33,7 @@ use Rattle.probe_rules.specs.Rules.{befalls, offer, whatOf, entryOf}
 use Rattle.fleet_theory.specs.Fleet.{outAt, inAt, own, fleetFault, eventFault, eventOf, outcomeOf, alterFleet, alteredBy, State, start, faultOf, answerTo, accepted, next, differs, linkChanges, changes, allChanges}
 use Rattle.table.specs.Slices.{Slices, tableOf, slicesFault}
 use Rattle.fleet_theory.proofs.Own.{out-reads, in-reads}
+use Rattle.fleet.proofs.Calls.{handled-answer, handled-is}
 use Rattle.probe_rules.specs.Within.{OwnLink, OwnOutcome}
 use Rattle.probe_record.proofs.SearchLaws.{dearest}
 use Rattle.fleet_theory.proofs.Events.{line-step}
@@ -193,7 +194,7 @@ module _ (x : Slices) (fine : slicesFault x ≡ 0) (room : ℕ) where
   -- an accepted line alters as many bytes as its entry says, and a refused one none
   pub line-changes : (r : List ℕ) → fleetFault t r ≡ 0 → (used : ℕ) (l : List ℕ) (answer : Answer) (after : List ℕ) → Handled x used room l answer r after
       → sum (x .links) (linkChanges r after) ≡ changesBy answer
-  line-changes r good used l answer after h = rw (h .answer, h .record-after) (go (ℕ-discrete (eventFault x r used room l) 0))
+  line-changes r good used l answer after h = rw (handled-answer h, h .record-after) (go (ℕ-discrete (eventFault x r used room l) 0))
     where
       f : Frame
       f = frameOf l
@@ -218,7 +219,7 @@ module _ (x : Slices) (fine : slicesFault x ≡ 0) (room : ℕ) where
   -- a step of the list of lines is a line handled
   next-handled : (s : State) (l : List ℕ) → Handled x (length (s .log)) room l (answerTo x room s l) (s .bytes) (next x room s l .bytes)
   unfolding next
-  next-handled s l = record { answer = refl; record-after = go (eqb (faultOf x room s l) 0) }
+  next-handled s l = handled-is x (length (s .log)) room l (answerTo x room s l) (s .bytes) (next x room s l .bytes) refl (go (eqb (faultOf x room s l) 0))
     where
       go : (b : Bool) → (cond b (accepted x s l) s) .bytes ≡ cond b (alteredBy t (s .bytes) (frameOf l)) (s .bytes)
       go true = refl

@@ -1,16 +1,17 @@
 -- What the calls of a fleet promise: the answer, and the record at exit.
 use Prim.Native.Nat.{ℕ, _+_}
 use mathlib.Core.Path.{_≡_}
-use mathlib.Core.Bool.{Bool, cond}
+use mathlib.Core.Bool.{cond}
 use mathlib.Core.List.{List, [], _∷_}
 use lib.Dec.{eqb}
 use Rattle.range.specs.First.{orElse}
+use Rattle.range.specs.Reply.{Reply, refusal, values, replyOf}
 use Rattle.probe_frame.specs.Frame.{frameOf}
 use Rattle.wake_log.specs.declared.Answer.{Answer}
 use Rattle.wake_log.specs.declared.Answer.the-variants as answer
 use Rattle.wake_log.specs.declared.What.{What}
 use Rattle.wake_log.specs.declared.What.the-variants.{Opened, NothingToOpen, Taken, TakenDisplacing, Refused, RefusalLearnt, NoChange}
-use Rattle.wake_log.specs.Entry.{answerOf}
+use Rattle.wake_log.specs.Entry.{entryValues, answerReply}
 use Rattle.probe_rules.specs.Rules.{entryOf}
 use Rattle.fleet.specs.declared.Finishing.{Finishing}
 use Rattle.fleet.specs.declared.Finishing.the-variants as finishing
@@ -19,7 +20,7 @@ use Rattle.table.specs.Slices.{Slices, tableOf, slicesFault}
 
 -- a line: the entry and the altered record, or the refusal alone and the record unchanged
 pub record Handled (x : Slices) (used room : ℕ) (line : List ℕ) (r : Answer) (before after : List ℕ) : Type 0 where
-  pub answer : r ≡ answerOf (eventFault x before used room line) (entryOf (tableOf x) (frameOf line .to) (outcomeOf (tableOf x) before (frameOf line)))
+  pub answer : answerReply r ≡ replyOf (eventFault x before used room line) (entryValues (entryOf (tableOf x) (frameOf line .to) (outcomeOf (tableOf x) before (frameOf line))))
   pub record-after : after ≡ cond (eqb (eventFault x before used room line) 0) (alteredBy (tableOf x) before (frameOf line)) before
 
 -- how many record bytes an event altered, by its entry
@@ -42,10 +43,11 @@ unfoldable pub changesIn : Slices → ℕ → State → List (List ℕ) → ℕ
 changesIn x room s [] = 0
 changesIn x room s (l ∷ ls) = changesBy (answerTo x room s l) + changesIn x room (next x room s l) ls
 
--- whether the fleet is finished, or the refusal
-abbrev pub finishingOf : ℕ → Bool → Finishing
-finishingOf fault b = cond (eqb fault 0) (finishing.Says b) (finishing.Refused fault)
+-- 1 where the fleet is finished, 0 where it is not
+abbrev pub finishingReply : Finishing → Reply
+finishingReply (finishing.Says b) = values (cond b 1 0 ∷ [])
+finishingReply (finishing.Refused n) = refusal n
 
 -- "Finished means .. that no opening and no sendable frame would alter a record byte by these rules"
-abbrev pub whetherFinished : Slices → List ℕ → Finishing
-whetherFinished x r = finishingOf (orElse (slicesFault x) (fleetFault (tableOf x) r)) (finished (tableOf x) r)
+abbrev pub whetherFinished : Slices → List ℕ → Reply
+whetherFinished x r = replyOf (orElse (slicesFault x) (fleetFault (tableOf x) r)) (cond (finished (tableOf x) r) 1 0 ∷ [])

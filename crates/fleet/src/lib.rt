@@ -1,7 +1,7 @@
 // A fleet of ends: its record, driven by lines. Links go by their place in the table. Beside the calls, laws on any record: it stays usable, and an event alters as many bytes as its entry says.
 ghost use mathlib.Core.Path.{_≡_};
 ghost use Rattle.table.specs.Slices.{slicesOf};
-ghost use Rattle.fleet.specs.Answers.{Handled, whetherFinished, changesOf};
+ghost use Rattle.fleet.specs.Answers.{Handled, finishingReply, whetherFinished, changesOf};
 
 pub mod line_checks;
 pub mod steps;
@@ -68,7 +68,7 @@ pub fn finished(
     rec: &[u8],
 ) -> Finishing
     ensures { λ r. let x = slicesOf number probes links (now (needs .entry)) (now (lows .entry)) (now (highs .entry)) (now (costs .entry)) in
-        ⌜ r ≡ whetherFinished x (now (rec .entry)) ⌝ }
+        ⌜ finishingReply r ≡ whetherFinished x (now (rec .entry)) ⌝ }
 {
     let fault = fleet_state::checks::state_fault(
         probes as usize,

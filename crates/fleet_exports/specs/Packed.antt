@@ -1,8 +1,7 @@
 -- What the functions of a fleet for C and Rust promise: the answer as one number, and the lent record as the functions that are called leave it.
 -- A refusal is its number; any other answer is `answerBase` or more.
-use Prim.Native.Nat.{ℕ, _+_}
+use Prim.Native.Nat.{ℕ}
 use mathlib.Core.Path.{_≡_}
-use mathlib.Core.Bool.{cond}
 use mathlib.Core.List.{List}
 use Rattle.wake_log.specs.Entry.{answerOf}
 use Rattle.probe_rules.specs.Rules.{entryOf}
@@ -10,14 +9,7 @@ use Rattle.probe_frame.specs.Frame.{frameOf}
 use Rattle.fleet_theory.specs.Fleet.{eventFault, outcomeOf}
 use Rattle.table.specs.Slices.{Slices, tableOf}
 use Rattle.fleet.specs.Answers.{Handled}
-use Rattle.packed_answers.specs.Packed.{answerBase, packedAnswer}
-use Rattle.fleet.specs.declared.Finishing.{Finishing}
-use Rattle.fleet.specs.declared.Finishing.the-variants.{Says, Refused as Unsaid}
-
--- 1 where the fleet is finished
-abbrev pub packedFinishing : Finishing → ℕ
-packedFinishing (Says finished) = answerBase + cond finished 1 0
-packedFinishing (Unsaid refusal) = refusal
+use Rattle.packed_answers.specs.Packed.{packedAnswer}
 
 pub record HandledPacked (x : Slices) (used room : ℕ) (line : List ℕ) (r : ℕ) (before after : List ℕ) : Type 0 where
   pub answer : r ≡ packedAnswer (answerOf (eventFault x before used room line) (entryOf (tableOf x) (frameOf line .to) (outcomeOf (tableOf x) before (frameOf line))))

@@ -1,14 +1,15 @@
 // The library of a fleet for C and Rust: one line, finished.
 ghost use mathlib.Core.Path.{_≡_};
 ghost use Rattle.table.specs.Slices.{slicesOf};
-ghost use Rattle.fleet.specs.Answers.{whetherFinished};
-ghost use Rattle.fleet_exports.specs.Packed.{packedFinishing, HandledPacked};
+ghost use Rattle.fleet.specs.Answers.{finishingReply, whetherFinished};
+ghost use Rattle.packed_answers.specs.Packed.{packedValue};
+ghost use Rattle.fleet_exports.specs.Packed.{HandledPacked};
 use fleet::Finishing;
 use packed_answers::ANSWER_BASE;
 use packed_answers::packed_answer;
 
 fn packed_finishing(r: Finishing) -> u64
-    ensures { λ n. ⌜ n ≡ packedFinishing r ⌝ }
+    ensures { λ n. ⌜ n ≡ packedValue (finishingReply r) ⌝ }
 {
     match r {
         Finishing::Says(finished) => {
@@ -68,7 +69,7 @@ pub extern "C" fn planner_fleet_finished(
     rec: &[u8],
 ) -> u64
     ensures { λ r. let x = slicesOf number probes links (now (needs .entry)) (now (lows .entry)) (now (highs .entry)) (now (costs .entry)) in
-        ⌜ r ≡ packedFinishing (whetherFinished x (now (rec .entry))) ⌝ }
+        ⌜ r ≡ packedValue (whetherFinished x (now (rec .entry))) ⌝ }
 {
     packed_finishing(fleet::finished(number, probes, links, needs, lows, highs, costs, rec))
 }

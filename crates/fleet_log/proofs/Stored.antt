@@ -8,6 +8,7 @@ use Rattle.wake_log.specs.declared.Entry.{Entry}
 use Rattle.probe_rules.specs.Rules.{entryOf}
 use Rattle.wake_log.specs.declared.storing.Told.{Told}
 use Rattle.wake_log.proofs.Stored as wake
+use Rattle.fleet.proofs.Calls.{handled-is}
 use Rattle.fleet_theory.specs.Fleet.{eventFault, outcomeOf}
 use Rattle.table.specs.Slices.{Slices, tableOf}
 use Rattle.fleet_log.specs.Logged.{ToldLine, LogsInFleet}
@@ -16,5 +17,6 @@ pub line-stored : (x : Slices) (used : ℕ) (line : List ℕ) (r : Told) (before
     → ToldLine x used (length log) line r before after → log′ ≡ set log (r .at) (r .entry)
     → LogsInFleet x used line (r .answer) before after log log′
 line-stored x used line r before after log log′ c s =
-    let is = wake.entry-stored (eventFault x before used (length log) line) used (entryOf (tableOf x) (frameOf line .to) (outcomeOf (tableOf x) before (frameOf line))) r log log′ (c .told) s in
-    record { handled = record { answer = is .0; record-after = c .record-after }; log-after = is .1 }
+    let fault = eventFault x before used (length log) line in
+    let is = wake.entry-stored fault used (entryOf (tableOf x) (frameOf line .to) (outcomeOf (tableOf x) before (frameOf line))) r log log′ (c .told) s in
+    record { handled = handled-is x used (length log) line (r .answer) before after (is .0) (c .record-after); log-after = is .1 }

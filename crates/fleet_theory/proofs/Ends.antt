@@ -34,6 +34,7 @@ use Rattle.probe_checks.specs.Checks as end
 use Rattle.probe_checks.specs.Checks.{toFault, probeFault, ownLinkFault, untriedFault, fullFault, heardFault, hearFault, openFault, linkCallFault}
 use Rattle.probe.specs.Answers.{Asks, askedEvent, askedFrame, askedLine}
 use Rattle.probe.proofs.Calls.{asked-event}
+use Rattle.probe.proofs.Answers.{asks-answer}
 use Rattle.fleet_theory.specs.Fleet.{own, eventKindFault, eventEndsFault, eventOf, outcomeOf, State, start, run}
 use Rattle.table.specs.Slices.{Slices, tableOf, slicesFault}
 use Rattle.fleet_theory.specs.Words.{IsFrame, MaySend}
@@ -206,10 +207,10 @@ module _ (x : Slices) (fine : slicesFault x ≡ 0) (s : State) (h : HoldsAfter (
           where
             go : (may ≡ true) ⊎ (may ≡ false) → answer ≡ asked.Written → may ≡ true
             go (inl m) w = m
-            go (inr m) w = absurd (true≢false (sym (ap isWritten w) ∙ ap isWritten (rw (none, m) at (q .answer))))
+            go (inr m) w = absurd (true≢false (sym (ap isWritten w) ∙ ap isWritten (rw (none, m) at (asks-answer q))))
 
             written : may ≡ true → (answer ≡ asked.Written) × (out′ ≡ sets out 0 (askedLine t p k i))
-            written m = (rw (none, m) at (q .answer), rw (none, m) at (q .line))
+            written m = (rw (none, m) at (asks-answer q), rw (none, m) at (q .line))
 
 own-start : (x : Slices) (p : ℕ) → own (tableOf x) p (start x .bytes) ≡ fresh (tableOf x)
 own-start x p =

@@ -4,7 +4,8 @@ use mathlib.Core.Path.{_≡_}
 use mathlib.Core.Bool.{cond}
 use mathlib.Core.List.{List}
 use lib.Dec.{eqb}
-use lib.ListN.{length}
+use lib.ListN.{length, getD}
+use Rattle.range.specs.Reply.{Reply, refusal, values}
 use Rattle.output.specs.Output.{Prints}
 use Rattle.output.specs.declared.Output.{Output}
 use Rattle.output.specs.declared.Output.the-variants.{Length as Printed, Refused as Unprinted}
@@ -20,14 +21,22 @@ answerBase = 2 ^ 48
 abbrev pub entryBase : ℕ
 entryBase = 2 ^ 63
 
+abbrev pub packedBy : (List ℕ → ℕ) → Reply → ℕ
+packedBy pack (refusal n) = n
+packedBy pack (values vs) = pack vs
+
+-- an answer of one value
+abbrev pub packedValue : Reply → ℕ
+packedValue = packedBy (λ vs. answerBase + getD vs 0 0)
+
 abbrev pub packedOutput : Output → ℕ
 packedOutput (Printed length) = answerBase + length
-packedOutput (Unprinted refusal) = refusal
+packedOutput (Unprinted n) = n
 
 -- an entry: the probe above its code, 8 bits, above the link's place and the displaced probe, 16 bits each
 abbrev pub packedAnswer : Answer → ℕ
 packedAnswer (Logged e) = entryBase + e .probe * 2 ^ 40 + codeOf (e .what) * 2 ^ 32 + linkOf (e .what) * 2 ^ 16 + displacedOf (e .what)
-packedAnswer (Unlogged refusal) = refusal
+packedAnswer (Unlogged n) = n
 
 -- the length of what is printed, or the refusal
 abbrev pub printedOf : ℕ → List ℕ → Output

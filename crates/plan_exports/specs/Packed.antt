@@ -3,30 +3,23 @@
 use Prim.Native.Nat.{ℕ, _+_, _*_, _^_}
 use mathlib.Core.Path.{_≡_}
 use mathlib.Core.List.{List}
-use lib.ListN.{length}
+use lib.ListN.{length, getD}
+use Rattle.range.specs.Reply.{Reply, replyOf}
 use Rattle.table.specs.Slices.{Slices, tableOf}
-use Rattle.plan_methods.specs.Planning.{planFault, turnsFault, planningOf, PlansBySlse, PlansByTurns}
-use Rattle.plan_methods.specs.declared.Planning.{Planning}
-use Rattle.plan_methods.specs.declared.Planning.the-variants.{Plan, Refused as Unplanned}
-use Rattle.packed_answers.specs.Packed.{answerBase}
+use Rattle.plan_methods.specs.Planning.{planFault, turnsFault, planValues, plannedOf, clearedOf}
+use Rattle.packed_answers.specs.Packed.{answerBase, packedBy}
 
 -- the kept count, 16 bits, above the cost, 32 bits
-abbrev pub packedPlanning : Planning → ℕ
-packedPlanning (Plan kept cost) = answerBase + kept * 2 ^ 32 + cost
-packedPlanning (Unplanned refusal) = refusal
+abbrev pub packedPlanning : Reply → ℕ
+packedPlanning = packedBy (λ vs. answerBase + getD vs 0 0 * 2 ^ 32 + getD vs 1 0)
 
--- the answers of `plan_by_slse` and `plan_by_turns`
-
-abbrev pub slseAnswer : Slices → List ℕ → Planning
-slseAnswer x before = planningOf (planFault 256 2048 x (length before)) (tableOf x)
-
-abbrev pub turnsAnswer : Slices → List ℕ → List ℕ → Planning
-turnsAnswer x before work = planningOf (turnsFault 256 2048 x (length before) (length work)) (tableOf x)
+-- `plan_by_slse` and `plan_by_turns` on the slices x
 
 pub record SlsePacked (x : Slices) (r : ℕ) (before after : List ℕ) : Type 0 where
-  pub answer : r ≡ packedPlanning (slseAnswer x before)
-  pub lent : PlansBySlse 256 2048 x (slseAnswer x before) before after
+  pub answer : r ≡ packedPlanning (replyOf (planFault 256 2048 x (length before)) (planValues (tableOf x)))
+  pub plan : after ≡ plannedOf (planFault 256 2048 x (length before)) (tableOf x) before
 
 pub record TurnsPacked (x : Slices) (r : ℕ) (before after work work′ : List ℕ) : Type 0 where
-  pub answer : r ≡ packedPlanning (turnsAnswer x before work)
-  pub lent : PlansByTurns 256 2048 x (turnsAnswer x before work) before after work work′
+  pub answer : r ≡ packedPlanning (replyOf (turnsFault 256 2048 x (length before) (length work)) (planValues (tableOf x)))
+  pub plan : after ≡ plannedOf (turnsFault 256 2048 x (length before) (length work)) (tableOf x) before
+  pub cleared : work′ ≡ clearedOf (turnsFault 256 2048 x (length before) (length work)) work

@@ -2,6 +2,7 @@
 ghost use mathlib.Core.Path.{_≡_};
 ghost use lib.ListN.{length};
 ghost use Rattle.table.specs.Slices.{slicesOf};
+ghost use Rattle.plan_methods.specs.Planning.{planningReply};
 ghost use Rattle.plan_exports.specs.Packed.{SlsePacked, TurnsPacked, packedPlanning};
 ghost use Rattle.output.specs.Output.{shortFault};
 ghost use Rattle.plan_output.specs.Output.{outputOf};
@@ -13,7 +14,7 @@ use plan_methods::plan_by_slse;
 use plan_methods::plan_by_turns;
 
 fn packed_planning(r: Planning) -> u64
-    ensures { λ n. ⌜ n ≡ packedPlanning r ⌝ }
+    ensures { λ n. ⌜ n ≡ packedPlanning (planningReply r) ⌝ }
 {
     match r {
         Planning::Plan { kept, cost } => ANSWER_BASE + (kept as u64) * 4294967296 + (cost as u64),

@@ -1,18 +1,20 @@
--- How the code comes to its answer.
+-- How the code comes to its answer, and what the answer then is.
 use Prim.Native.Nat.{ℕ, _≤_, _<_}
 use mathlib.Core.Path.{_≡_, refl, _∙_, ap}
-use mathlib.Core.Bool.{Bool, true, false}
+use mathlib.Core.Bool.{Bool, true, false, cond}
 use mathlib.Core.List.{List}
+use native.Mathlib.Omega.{arith}
 use lib.Dec.{eqb}
 use lib.ListN.{length, replicate}
 use borrow.Author.Tests.{ne-eqb}
 use Rattle.range.specs.Sum.{weigh, count}
 use Rattle.range.specs.Lists.{stored}
+use Rattle.range.specs.Reply.{refusal, values}
 use Rattle.range.proofs.Sums.{weigh-same}
 use Rattle.range.proofs.Lists.{stored-at}
 use Rattle.table.specs.Table.{Table, item, ofSlices, dearer}
-use Rattle.plan_theory.specs.Plan.{kept, rested, planByte}
-use Rattle.plan_methods.specs.Planning.{Plans, PlansAndClears}
+use Rattle.plan_theory.specs.Plan.{kept, rested, keptCount, costOf, planByte}
+use Rattle.plan_methods.specs.Planning.{planningReply, planValues, Plans, PlansAndClears}
 use Rattle.plan_methods.specs.declared.Planning.{Planning}
 use Rattle.plan_methods.specs.declared.Planning.the-variants.{Plan, Refused}
 
@@ -28,7 +30,7 @@ pub plans-made : (fault : ℕ) (t : Table) (r : Planning) (plan plan′ : List �
 plans-made fault t r plan plan′ z room p e =
     record {
       answer =
-          e
+          ap planningReply e
           ∙ rw (z, weigh-same (t .links) (λ i. eqb (item plan′ i) 1) (kept t) (λ i. 1) same, weigh-same (t .links) (λ i. eqb (item plan′ i) 1) (kept t) (t .cost) same);
       plan = rw z p;
     }
@@ -56,3 +58,13 @@ turns-refused fault r t plan work e n =
 pub turns-made : (fault : ℕ) (t : Table) (r : Planning) (plan plan′ work work′ : List ℕ) → fault ≡ 0 → Plans fault t r plan plan′ → work′ ≡ replicate (length work) 0
     → PlansAndClears fault t r plan plan′ work work′
 turns-made fault t r plan plan′ work work′ z p w = record { plans = p; cleared = rw z w }
+
+-- the answer, by the fault found
+pub plans-answer : {fault : ℕ} {t : Table} {r : Planning} {plan plan′ : List ℕ} → Plans fault t r plan plan′ → r ≡ cond (eqb fault 0) (Plan (keptCount t) (costOf t (kept t))) (Refused fault)
+plans-answer {fault} {t} {r} p = go r (eqb fault 0) (p .answer)
+  where
+    go : (r : Planning) (none : Bool) → planningReply r ≡ cond none (values (planValues t)) (refusal fault) → r ≡ cond none (Plan (keptCount t) (costOf t (kept t))) (Refused fault)
+    go (Plan k c) true e = cc
+    go (Plan k c) false e = let z : _≡_ {A = ℕ} 0 1 = cc in absurd (omega arith)
+    go (Refused n) true e = let z : _≡_ {A = ℕ} 0 1 = cc in absurd (omega arith)
+    go (Refused n) false e = cc

@@ -2,11 +2,12 @@
 use Prim.Native.Nat.{ℕ, _*_}
 use mathlib.Core.Path.{_≡_}
 use mathlib.Core.Bool.{cond}
-use mathlib.Core.List.{List}
+use mathlib.Core.List.{List, [], _∷_}
 use lib.Dec.{eqb}
 use lib.ListN.{length, replicate}
 use Rattle.range.specs.First.{orElse}
 use Rattle.range.specs.Lists.{stored}
+use Rattle.range.specs.Reply.{Reply, refusal, values, replyOf}
 use Rattle.table.specs.Table.{Table}
 use Rattle.table.specs.Legal.{lentFault}
 use Rattle.table.specs.Slices.{Slices, tableOf, sliceFault}
@@ -22,9 +23,14 @@ planFault pmax lmax x plan = orElse (lentFault plan (x .links)) (sliceFault pmax
 abbrev pub turnsFault : ℕ → ℕ → Slices → ℕ → ℕ → ℕ
 turnsFault pmax lmax x plan work = orElse (lentFault work (4 * x .links)) (planFault pmax lmax x plan)
 
--- "The answer holds the kept count and total cost, both fixed by that definition"; or the number of the refusal alone
-abbrev pub planningOf : ℕ → Table → Planning
-planningOf fault t = cond (eqb fault 0) (Plan (keptCount t) (costOf t (kept t))) (Refused fault)
+-- "The answer holds the kept count and total cost"
+abbrev pub planningReply : Planning → Reply
+planningReply (Plan kept cost) = values (kept ∷ cost ∷ [])
+planningReply (Refused n) = refusal n
+
+-- "both fixed by that definition"
+abbrev pub planValues : Table → List ℕ
+planValues t = keptCount t ∷ costOf t (kept t) ∷ []
 
 -- "Plan buffers have one byte a link, 1 kept and 0 rested; bytes beyond the links stay untouched."
 abbrev pub plannedOf : ℕ → Table → List ℕ → List ℕ
@@ -36,7 +42,7 @@ clearedOf fault d = cond (eqb fault 0) (replicate (length d) 0) d
 
 -- what a call answers, and what it leaves in the plan
 pub record Plans (fault : ℕ) (t : Table) (r : Planning) (before after : List ℕ) : Type 0 where
-  pub answer : r ≡ planningOf fault t
+  pub answer : planningReply r ≡ replyOf fault (planValues t)
   pub plan : after ≡ plannedOf fault t before
 
 -- and in the working bytes

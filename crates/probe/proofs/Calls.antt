@@ -5,7 +5,9 @@ use mathlib.Core.List.{List}
 use borrow.Author.Tests.{ne-eqb}
 use Rattle.table.specs.Table.{Table, ofSlices, other}
 use Rattle.table.specs.Legal.{Legal}
+use Rattle.range.specs.Reply.{values}
 use Rattle.wake_log.specs.declared.Entry.{Entry}
+use Rattle.wake_log.specs.Entry.{entryValues}
 use Rattle.wake_log.specs.declared.Answer.the-variants.{Logged, Refused}
 use Rattle.probe_rules.specs.declared.Event.{Event}
 use Rattle.probe_rules.specs.declared.Outcome.{Outcome}
@@ -33,7 +35,7 @@ accepted-call fault number probes links needs lows highs costs p event e entry a
     let plain = sym (entry-same 0 0 links needs lows highs costs p (befalls (ofSlices number probes links needs lows highs costs) p event e)) in
     let full = entry-same number probes links needs lows highs costs p (befalls (ofSlices number probes links needs lows highs costs) p event e) in
     record {
-      answer = rw none (ap Logged (is ∙ from ∙ plain ∙ full));
+      answer = rw none (ap (λ (d : Entry). values (entryValues d)) (is ∙ from ∙ plain ∙ full));
       record-after = rw none (bytes ∙ ap (λ (o : Outcome). alter o e) same);
     }
 

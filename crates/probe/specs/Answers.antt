@@ -1,18 +1,19 @@
 -- What the calls of one end promise: the answer, and the lent buffers at exit.
 use Prim.Native.Nat.{ℕ}
 use mathlib.Core.Path.{_≡_}
-use mathlib.Core.Bool.{Bool, cond, _&&_}
-use mathlib.Core.List.{List}
+use mathlib.Core.Bool.{cond, _&&_}
+use mathlib.Core.List.{List, [], _∷_}
 use lib.Dec.{eqb}
 use lib.Seq.{sets}
 use lib.ListN.{length}
 use Rattle.range.specs.First.{orElse}
+use Rattle.range.specs.Reply.{Reply, refusal, values, replyOf}
 use Rattle.table.specs.Table.{Table, other}
 use Rattle.table.specs.Legal.{lentFault}
 use Rattle.table.specs.Slices.{Slices, tableOf, slicesFault}
 use Rattle.probe_frame.specs.Frame.{Frame, frameOf, frameLine}
 use Rattle.wake_log.specs.declared.Answer.{Answer}
-use Rattle.wake_log.specs.Entry.{answerOf}
+use Rattle.wake_log.specs.Entry.{entryValues, answerReply}
 use Rattle.probe_rules.specs.declared.Event.{Event}
 use Rattle.probe_rules.specs.declared.Event.the-variants.{Opening, Offer, Refusal}
 use Rattle.probe_rules.specs.Rules.{befalls, alter, entryOf, sendable, rests}
@@ -27,7 +28,7 @@ use Rattle.probe.specs.declared.Resting.the-variants as resting
 
 -- an event at the probe p: its entry and the altered record, or the refusal alone and the record unchanged
 pub record Befallen (fault : ℕ) (t : Table) (p : ℕ) (event : Event) (r : Answer) (before after : List ℕ) : Type 0 where
-  pub answer : r ≡ answerOf fault (entryOf t p (befalls t p event before))
+  pub answer : answerReply r ≡ replyOf fault (entryValues (entryOf t p (befalls t p event before)))
   pub record-after : after ≡ cond (eqb fault 0) (alter (befalls t p event before) before) before
 
 -- a frame asked for: its kind's number, and what the other end would hear
@@ -46,14 +47,25 @@ askedFrame t p k i = record { kind = kindOf k; number = t .number; from = p; to 
 abbrev pub askedLine : Table → ℕ → Kind → ℕ → List ℕ
 askedLine t p k i = frameLine (askedFrame t p k i)
 
+-- the lent slice after asking
+abbrev pub askedOut : ℕ → Table → ℕ → Kind → ℕ → List ℕ → List ℕ → List ℕ
+askedOut fault t p k i e out = cond (eqb fault 0 && sendable (askedEvent k i) e) (sets out 0 (askedLine t p k i)) out
+
+-- 1 where the line is written, 0 where it may not be sent now
+abbrev pub askedReply : Asked → Reply
+askedReply asked.Written = values (1 ∷ [])
+askedReply asked.NotNow = values (0 ∷ [])
+askedReply (asked.Refused n) = refusal n
+
 -- "an end writes the frame's line at the start of a lent slice, or answers that it may not be sent now and writes nothing"
 pub record Asks (fault : ℕ) (t : Table) (p : ℕ) (k : Kind) (i : ℕ) (e : List ℕ) (r : Asked) (before after : List ℕ) : Type 0 where
-  pub answer : r ≡ cond (eqb fault 0) (cond (sendable (askedEvent k i) e) asked.Written asked.NotNow) (asked.Refused fault)
-  pub line : after ≡ cond (eqb fault 0 && sendable (askedEvent k i) e) (sets before 0 (askedLine t p k i)) before
+  pub answer : askedReply r ≡ replyOf fault (cond (sendable (askedEvent k i) e) 1 0 ∷ [])
+  pub line : after ≡ askedOut fault t p k i e before
 
--- whether the end rests the link, or the refusal
-abbrev pub restingOf : ℕ → Bool → Resting
-restingOf fault b = cond (eqb fault 0) (resting.Rests b) (resting.Refused fault)
+-- 1 where the end rests the link, 0 where it does not
+abbrev pub restingReply : Resting → Reply
+restingReply (resting.Rests b) = values (cond b 1 0 ∷ [])
+restingReply (resting.Refused n) = refusal n
 
 -- The calls of the end p, over the table in its slices.
 
@@ -74,5 +86,5 @@ abbrev pub AsksFor : Slices → ℕ → Kind → ℕ → List ℕ → Asked → 
 AsksFor x p k i e r before after = Asks (askFault x p i e before) (tableOf x) p k i e r before after
 
 -- "A probe rests a link when its own two bytes are both 1."
-abbrev pub whetherRests : Slices → ℕ → List ℕ → ℕ → Resting
-whetherRests x p e i = restingOf (linkCallFault (slicesFault x) (tableOf x) p e i) (rests e i)
+abbrev pub whetherRests : Slices → ℕ → List ℕ → ℕ → Reply
+whetherRests x p e i = replyOf (linkCallFault (slicesFault x) (tableOf x) p e i) (cond (rests e i) 1 0 ∷ [])

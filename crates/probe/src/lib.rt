@@ -1,7 +1,7 @@
 // One end of the bargaining, alone: it opens, hears frames, is asked for frames, and rests links. Links go by their place in the table.
 ghost use mathlib.Core.Path.{_≡_};
 ghost use Rattle.table.specs.Slices.{slicesOf};
-ghost use Rattle.probe.specs.Answers.{Opens, Hears, AsksFor, whetherRests};
+ghost use Rattle.probe.specs.Answers.{Opens, Hears, AsksFor, restingReply, whetherRests};
 
 pub mod steps;
 
@@ -162,7 +162,7 @@ pub fn rests(
     link: u16,
 ) -> Resting
     ensures { λ r. let x = slicesOf number probes links (now (needs .entry)) (now (lows .entry)) (now (highs .entry)) (now (costs .entry)) in
-        ⌜ r ≡ whetherRests x probe (now (rec .entry)) link ⌝ }
+        ⌜ restingReply r ≡ whetherRests x probe (now (rec .entry)) link ⌝ }
 {
     let fault = probe_checks::faults::link_call_fault(
         probes as usize,

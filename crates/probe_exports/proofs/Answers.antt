@@ -4,19 +4,27 @@ use mathlib.Core.Path.{_≡_, refl, _∙_, ap}
 use mathlib.Core.List.{List}
 use Rattle.table.specs.Table.{Table}
 use Rattle.wake_log.specs.declared.Answer.{Answer}
+use Rattle.wake_log.specs.Entry.{answerOf}
+use Rattle.wake_log.proofs.Answers.{answer-reply}
 use Rattle.probe_rules.specs.declared.Event.{Event}
-use Rattle.probe.specs.Answers.{Befallen, Asks}
+use Rattle.probe_rules.specs.Rules.{befalls, entryOf}
+use Rattle.probe.specs.Answers.{Befallen, askedReply, Asks}
+use Rattle.probe.proofs.Answers.{befallen-answer}
 use Rattle.probe.specs.declared.Kind.{Kind}
 use Rattle.probe.specs.declared.Asked.{Asked}
-use Rattle.packed_answers.specs.Packed.{packedAnswer}
-use Rattle.probe_exports.specs.Packed.{packedAsked, BefallenPacked, AsksPacked}
+use Rattle.packed_answers.specs.Packed.{packedValue, packedAnswer}
+use Rattle.probe_exports.specs.Packed.{BefallenPacked, AsksPacked}
 
 pub befallen-packed : (fault : ℕ) (t : Table) (p : ℕ) (event : Event) (a : Answer) (r : ℕ) (before after : List ℕ) → Befallen fault t p event a before after → r ≡ packedAnswer a
     → BefallenPacked fault t p event r before after
 befallen-packed fault t p event a r before after g e =
-    record { answer = e ∙ ap packedAnswer (g .answer); lent = record { answer = refl; record-after = g .record-after } }
+    let entry = entryOf t p (befalls t p event before) in
+    record {
+      answer = e ∙ ap packedAnswer (befallen-answer g);
+      lent = record { answer = answer-reply (answerOf fault entry) fault entry refl; record-after = g .record-after };
+    }
 
-pub asks-packed : (fault : ℕ) (t : Table) (p : ℕ) (k : Kind) (i : ℕ) (rec : List ℕ) (a : Asked) (r : ℕ) (before after : List ℕ) → Asks fault t p k i rec a before after → r ≡ packedAsked a
+pub asks-packed : (fault : ℕ) (t : Table) (p : ℕ) (k : Kind) (i : ℕ) (rec : List ℕ) (a : Asked) (r : ℕ) (before after : List ℕ) → Asks fault t p k i rec a before after → r ≡ packedValue (askedReply a)
     → AsksPacked fault t p k i rec r before after
 asks-packed fault t p k i rec a r before after g e =
-    record { answer = e ∙ ap packedAsked (g .answer); lent = record { answer = refl; line = g .line } }
+    record { answer = e ∙ ap packedValue (g .answer); line = g .line }

@@ -1,10 +1,10 @@
 -- What the functions of one end for C and Rust promise: the answer as one number, and the lent slices as the functions that are called leave them.
 -- A refusal is its number; any other answer is `answerBase` or more.
-use Prim.Native.Nat.{ℕ, _+_}
+use Prim.Native.Nat.{ℕ}
 use mathlib.Core.Path.{_≡_}
-use mathlib.Core.Bool.{Bool, cond}
-use mathlib.Core.List.{List}
-use lib.Dec.{eqb}
+use mathlib.Core.Bool.{cond}
+use mathlib.Core.List.{List, [], _∷_}
+use Rattle.range.specs.Reply.{replyOf}
 use Rattle.table.specs.Table.{Table}
 use Rattle.table.specs.Slices.{Slices, tableOf, slicesFault}
 use Rattle.probe_frame.specs.Frame.{frameOf}
@@ -14,36 +14,17 @@ use Rattle.probe_rules.specs.declared.Event.the-variants.{Opening}
 use Rattle.probe_rules.specs.Rules.{befalls, entryOf, sendable}
 use Rattle.probe_rules.specs.Frames.{heardOf}
 use Rattle.probe_checks.specs.Checks.{hearFault, openFault}
-use Rattle.probe.specs.Answers.{Befallen, Asks, askedEvent, askFault}
+use Rattle.probe.specs.Answers.{Befallen, askedEvent, askedOut, askFault}
 use Rattle.probe.specs.declared.Kind.{Kind}
-use Rattle.probe.specs.declared.Asked.{Asked}
-use Rattle.probe.specs.declared.Asked.the-variants.{Written, NotNow, Refused as Unasked}
-use Rattle.packed_answers.specs.Packed.{answerBase, packedAnswer}
-use Rattle.probe.specs.declared.Resting.{Resting}
-use Rattle.probe.specs.declared.Resting.the-variants.{Rests, Refused as Untold}
-
--- 1 where the line is written, 0 where it may not be sent now
-abbrev pub packedAsked : Asked → ℕ
-packedAsked Written = answerBase + 1
-packedAsked NotNow = answerBase
-packedAsked (Unasked refusal) = refusal
-
--- 1 where the link rests
-abbrev pub packedResting : Resting → ℕ
-packedResting (Rests rests) = answerBase + cond rests 1 0
-packedResting (Untold refusal) = refusal
-
--- the answer to asking by the fault found and whether the frame may be sent
-abbrev pub askedOf : ℕ → Bool → Asked
-askedOf fault sendable = cond (eqb fault 0) (cond sendable Written NotNow) (Unasked fault)
+use Rattle.packed_answers.specs.Packed.{packedValue, packedAnswer}
 
 pub record BefallenPacked (fault : ℕ) (t : Table) (p : ℕ) (event : Event) (r : ℕ) (before after : List ℕ) : Type 0 where
   pub answer : r ≡ packedAnswer (answerOf fault (entryOf t p (befalls t p event before)))
   pub lent : Befallen fault t p event (answerOf fault (entryOf t p (befalls t p event before))) before after
 
 pub record AsksPacked (fault : ℕ) (t : Table) (p : ℕ) (k : Kind) (i : ℕ) (e : List ℕ) (r : ℕ) (before after : List ℕ) : Type 0 where
-  pub answer : r ≡ packedAsked (askedOf fault (sendable (askedEvent k i) e))
-  pub lent : Asks fault t p k i e (askedOf fault (sendable (askedEvent k i) e)) before after
+  pub answer : r ≡ packedValue (replyOf fault (cond (sendable (askedEvent k i) e) 1 0 ∷ []))
+  pub line : after ≡ askedOut fault t p k i e before
 
 -- The calls of the end p, over the table in its slices: as `Opens`, `Hears` and `AsksFor`, the answer packed.
 

@@ -2,8 +2,9 @@
 ghost use mathlib.Core.Path.{_≡_};
 ghost use Rattle.table.specs.Slices.{slicesOf};
 ghost use Rattle.probe.specs.declared.Kind.the-variants.{Offer, Refusal};
-ghost use Rattle.probe.specs.Answers.{whetherRests};
-ghost use Rattle.probe_exports.specs.Packed.{packedAsked, packedResting, OpensPacked, HearsPacked, AsksForPacked};
+ghost use Rattle.probe.specs.Answers.{askedReply, restingReply, whetherRests};
+ghost use Rattle.packed_answers.specs.Packed.{packedValue};
+ghost use Rattle.probe_exports.specs.Packed.{OpensPacked, HearsPacked, AsksForPacked};
 use packed_answers::ANSWER_BASE;
 use packed_answers::packed_answer;
 use probe::Asked;
@@ -11,7 +12,7 @@ use probe::Kind;
 use probe::Resting;
 
 fn packed_asked(r: Asked) -> u64
-    ensures { λ n. ⌜ n ≡ packedAsked r ⌝ }
+    ensures { λ n. ⌜ n ≡ packedValue (askedReply r) ⌝ }
 {
     match r {
         Asked::Written => ANSWER_BASE + 1,
@@ -21,7 +22,7 @@ fn packed_asked(r: Asked) -> u64
 }
 
 fn packed_resting(r: Resting) -> u64
-    ensures { λ n. ⌜ n ≡ packedResting r ⌝ }
+    ensures { λ n. ⌜ n ≡ packedValue (restingReply r) ⌝ }
 {
     match r {
         Resting::Rests(rests) => {
@@ -181,7 +182,7 @@ pub extern "C" fn planner_probe_rests(
     link: u16,
 ) -> u64
     ensures { λ r. let x = slicesOf number probes links (now (needs .entry)) (now (lows .entry)) (now (highs .entry)) (now (costs .entry)) in
-        ⌜ r ≡ packedResting (whetherRests x probe (now (rec .entry)) link) ⌝ }
+        ⌜ r ≡ packedValue (whetherRests x probe (now (rec .entry)) link) ⌝ }
 {
     packed_resting(probe::rests(
         number,

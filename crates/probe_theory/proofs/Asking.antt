@@ -27,6 +27,7 @@ use Rattle.probe.specs.declared.Asked.{Asked}
 use Rattle.probe_checks.specs.Checks.{frameKindFault, toFault, heardFault}
 use Rattle.probe.specs.Answers.{Asks, kindOf, askedEvent, askedFrame, askedLine}
 use Rattle.probe.proofs.Calls.{asked-event}
+use Rattle.probe.proofs.Answers.{asks-answer}
 
 -- a list stored twice at the start
 sets-again : (l xs : List ℕ) → length xs ≤ length l → sets (sets l 0 xs) 0 xs ≡ sets l 0 xs
@@ -74,7 +75,7 @@ module _ (t : Table) (p : ℕ) (k : Kind) (i : ℕ) (e : List ℕ) (rest : ℕ) 
       → (r′ ≡ r) × (out″ ≡ out′)
   asks-again r r′ out out′ out″ a b =
       let long = ap length (a .line) ∙ same-length out in
-      (b .answer ∙ rw long (sym (a .answer)), b .line ∙ ap lent (a .line) ∙ lent-again out ∙ sym (a .line))
+      (asks-answer b ∙ rw long (sym (asks-answer a)), b .line ∙ ap lent (a .line) ∙ lent-again out ∙ sym (a .line))
 
 -- an end that is asked for a frame, and the other end of the link
 module _ (t : Table) (legal : Legal t) (digits : t .number < 65536) (p i : ℕ) (a : OwnLink t p i) where

@@ -27,6 +27,7 @@ use Rattle.fleet_theory.proofs.Events.{unsentOf}
 use Rattle.fleet.specs.Answers.{Handled, changesBy}
 use Rattle.fleet.proofs.Checks.{line-frame}
 use Rattle.fleet.proofs.Passing.{passed-line}
+use Rattle.fleet.proofs.Calls.{handled-answer}
 use Rattle.fleet.proofs.Changes.{line-changes}
 use Rattle.script_lines.proofs.Lines.{length-entry}
 use Rattle.script_theory.specs.Script.{answerLine, afterLine}
@@ -86,11 +87,11 @@ module _ (x : Slices) (fine : slicesFault x ≡ 0) (p : Progress) (room at : ℕ
   line-buffered answer next used changed h o n u c =
       record {
         bytes = h .record-after;
-        used = u ∙ ap (λ (a : Answer). p .used + acceptedBy a) (h .answer) ∙ ap (λ (k : ℕ). p .used + k) (taken x (p .used) room l rec);
+        used = u ∙ ap (λ (a : Answer). p .used + acceptedBy a) (handled-answer h) ∙ ap (λ (k : ℕ). p .used + k) (taken x (p .used) room l rec);
         changed = c ∙ ap (λ (k : ℕ). (p .changed + k) % 4294967296)
             (sym (line-changes x fine room rec good (p .used) l answer rec′ h) ∙ ap (λ (r : List ℕ). sum (x .links) (linkChanges rec r)) (h .record-after));
         held = refl;
         kept = refl;
-        at = n ∙ ap (λ (a : Answer). at + length (answerLine a)) (h .answer);
-        printed = o ∙ ap (λ (a : Answer). sets out at (answerLine a)) (h .answer);
+        at = n ∙ ap (λ (a : Answer). at + length (answerLine a)) (handled-answer h);
+        printed = o ∙ ap (λ (a : Answer). sets out at (answerLine a)) (handled-answer h);
       }

@@ -1,6 +1,6 @@
 -- What it means that a table's checks find no fault.
 use Prim.Native.Nat.{ℕ, _-_, _≤_, _<_}
-use mathlib.Core.Path.{_≡_, sym, _∙_}
+use mathlib.Core.Path.{_≡_, _∙_}
 use mathlib.Core.Bool.{cond, not, _&&_, _||_}
 use native.Mathlib.Omega.{arith}
 use lib.Dec.{ltb, eqb}
@@ -8,8 +8,6 @@ use borrow.Author.Tests.{ltb-true, ltb-false, eqb-true, eqb-false, not-false, eq
 use Rattle.range.specs.First.{first}
 use Rattle.range.proofs.Bools.{and-left, and-right, or-false-left, or-false-right, unless-none, when-none}
 use Rattle.range.proofs.Faults.{or-left, or-here, or-next, first-all}
-use Rattle.table.specs.Checking.{checkingOf}
-use Rattle.table.specs.declared.Checking.the-variants.{Fine, Refused}
 use Rattle.table.specs.Legal.{endsFault, orderFault, linkFault, sizeFault, roomFault, Ends, Size, Room}
 
 pub ends-good : (probes low high : ℕ) → endsFault probes low high ≡ 0 → Ends probes low high
@@ -81,10 +79,3 @@ module _ (probes : ℕ) (low high : ℕ → ℕ) (i l h r : ℕ) (el : l ≡ low
   pub link-after : r ≡ 0 → (i ≡ 0 → ⊥) → (l₀ h₀ q : ℕ) → l₀ ≡ low (i - 1) → h₀ ≡ high (i - 1) → q ≡ orderFault l₀ h₀ l h → q ≡ linkFault probes low high i
   unfolding linkFault
   link-after z k l₀ h₀ q el₀ eh₀ f = or-next r (endsFault probes (low i) (high i)) order q ends z (f ∙ rw (el₀, eh₀, el, eh, ne-eqb i 0 k))
-
--- How the code comes to an answer.
-pub checking-fine : (r fault : ℕ) → r ≡ fault → r ≡ 0 → Fine ≡ checkingOf fault
-checking-fine r fault e z = rw (eq-eqb fault 0 (sym e ∙ z))
-
-pub checking-refused : (r fault : ℕ) → r ≡ fault → (r ≡ 0 → ⊥) → Refused r ≡ checkingOf fault
-checking-refused r fault e n = rw (e, ne-eqb fault 0 (λ z. n (e ∙ z)))

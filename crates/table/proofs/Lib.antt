@@ -5,3 +5,4 @@ pub mod Accepted
 pub mod Lengths
 pub mod LegalLaws
 pub mod Slices
+pub mod Answers

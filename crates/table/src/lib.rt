@@ -1,7 +1,9 @@
 // A table in slices: whether it is legal.
 ghost use mathlib.Core.Path.{_≡_};
+ghost use mathlib.Core.List.{[]};
+ghost use Rattle.range.specs.Reply.{replyOf};
 ghost use Rattle.table.specs.Slices.{slicesFault, slicesOf};
-ghost use Rattle.table.specs.Checking.{checkingOf};
+ghost use Rattle.table.specs.Checking.{checkingReply};
 
 pub mod checks;
 pub mod degrees;
@@ -41,7 +43,7 @@ pub fn check_table(
     costs: &[u16],
 ) -> Checking
     ensures { λ r. let x = slicesOf number probes links (now (needs .entry)) (now (lows .entry)) (now (highs .entry)) (now (costs .entry)) in
-        ⌜ r ≡ checkingOf (slicesFault x) ⌝ }
+        ⌜ checkingReply r ≡ replyOf (slicesFault x) [] ⌝ }
 {
     let fault = checks::slice_fault(
         256,

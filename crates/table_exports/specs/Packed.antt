@@ -3,39 +3,29 @@
 use Prim.Native.Nat.{ℕ, _+_, _*_, _^_}
 use mathlib.Core.Path.{_≡_}
 use mathlib.Core.Bool.{Bool}
-use mathlib.Core.List.{List}
-use lib.ListN.{length}
+use mathlib.Core.List.{List, [], _∷_}
+use lib.ListN.{length, getD}
+use Rattle.range.specs.Reply.{Reply, replyOf}
 use Rattle.table.specs.Slices.{Slices, tableOf}
-use Rattle.table.specs.Text.{ofText}
-use Rattle.table_read.specs.Reading.{Lent, readingFault, readingOf, ReadsTable}
-use Rattle.table_write.specs.Writing.{writeFault, writingOf, WritesTable}
-use Rattle.table_read.specs.declared.Reading.{Reading}
-use Rattle.table_read.specs.declared.Reading.the-variants.{Table, Refused as Unread}
-use Rattle.table_write.specs.declared.Writing.{Writing}
-use Rattle.table_write.specs.declared.Writing.the-variants.{Length, Refused as Unwritten}
-use Rattle.packed_answers.specs.Packed.{answerBase}
+use Rattle.table.specs.Text.{ofText, textEnd}
+use Rattle.table_read.specs.Reading.{Lent, readingFault, readValues, Filled}
+use Rattle.table_write.specs.Writing.{writeFault, writtenOf}
+use Rattle.packed_answers.specs.Packed.{answerBase, packedBy, packedValue}
+
+-- 0 where the table is fine
+abbrev pub packedChecking : Reply → ℕ
+packedChecking = packedBy (λ vs. 0)
 
 -- the table's number, probe count and link count, 16 bits each, the link count lowest
-abbrev pub packedReading : Reading → ℕ
-packedReading (Table number probes links rest) = answerBase + number * 2 ^ 32 + probes * 2 ^ 16 + links
-packedReading (Unread refusal) = refusal
+abbrev pub packedReading : Reply → ℕ
+packedReading = packedBy (λ vs. answerBase + getD vs 0 0 * 2 ^ 32 + getD vs 1 0 * 2 ^ 16 + getD vs 2 0)
 
-abbrev pub packedWriting : Writing → ℕ
-packedWriting (Length length) = answerBase + length
-packedWriting (Unwritten refusal) = refusal
-
--- the answers of `read_table` (with `more`: `read_table_prefix`) and `write_table`
-
-abbrev pub readAnswer : Bool → List ℕ → Lent → Reading
-readAnswer more s before = readingOf (readingFault 256 2048 more s before) (ofText s)
-
-abbrev pub writeAnswer : Slices → List ℕ → Writing
-writeAnswer x before = writingOf (writeFault 256 2048 x (length before)) (tableOf x)
-
+-- `read_table`, or with `more` `read_table_prefix`, on the text s
 pub record ReadsPacked (more : Bool) (s : List ℕ) (r : ℕ) (before after : Lent) : Type 0 where
-  pub answer : r ≡ packedReading (readAnswer more s before)
-  pub lent : ReadsTable 256 2048 more s (readAnswer more s before) before after
+  pub answer : r ≡ packedReading (replyOf (readingFault 256 2048 more s before) (readValues (ofText s)))
+  pub lent : Filled (readingFault 256 2048 more s before) (ofText s) before after
 
+-- `write_table` on the slices x
 pub record WritesPacked (x : Slices) (r : ℕ) (before after : List ℕ) : Type 0 where
-  pub answer : r ≡ packedWriting (writeAnswer x before)
-  pub lent : WritesTable 256 2048 x (writeAnswer x before) before after
+  pub answer : r ≡ packedValue (replyOf (writeFault 256 2048 x (length before)) (textEnd (tableOf x) ∷ []))
+  pub out : after ≡ writtenOf (writeFault 256 2048 x (length before)) (tableOf x) before

@@ -4,19 +4,19 @@ ghost use mathlib.Core.Bool.{true, false};
 ghost use Prim.Native.Nat.{_+_, _*_, ℕ, _<_};
 ghost use lib.ListN.{length};
 ghost use Rattle.table.specs.Slices.{slicesFault, slicesOf};
-ghost use Rattle.table.specs.Checking.{checkingOf, refusalOf};
-ghost use Rattle.table_read.specs.Reading.{lentOf};
-ghost use Rattle.packed_answers.specs.Packed.{answerBase};
-ghost use Rattle.table_exports.specs.Packed.{ReadsPacked, WritesPacked, packedReading, packedWriting};
+ghost use Rattle.table.specs.Checking.{checkingReply};
+ghost use Rattle.table_read.specs.Reading.{lentOf, readingReply};
+ghost use Rattle.table_write.specs.Writing.{writingReply};
+ghost use Rattle.packed_answers.specs.Packed.{answerBase, packedValue};
+ghost use Rattle.table_exports.specs.Packed.{ReadsPacked, WritesPacked, packedChecking, packedReading};
 ghost use Rattle.table_write.specs.declared.Writing.the-variants.{Length};
 use packed_answers::ANSWER_BASE;
 use table::Checking;
 use table_read::Reading;
 use table_write::Writing;
 
-// `table::Checking` as its refusal, 0 where the table is fine.
-fn refusal_of(r: Checking) -> u8
-    ensures { λ n. ⌜ n ≡ refusalOf r ⌝ }
+fn packed_checking(r: Checking) -> u8
+    ensures { λ n. ⌜ n ≡ packedChecking (checkingReply r) ⌝ }
 {
     match r {
         Checking::Fine => 0,
@@ -25,7 +25,7 @@ fn refusal_of(r: Checking) -> u8
 }
 
 fn packed_reading(r: Reading) -> u64
-    ensures { λ n. ⌜ n ≡ packedReading r ⌝ }
+    ensures { λ n. ⌜ n ≡ packedReading (readingReply r) ⌝ }
 {
     match r {
         Reading::Table {
@@ -40,7 +40,7 @@ fn packed_reading(r: Reading) -> u64
 
 fn packed_writing(r: Writing) -> u64
     requires { ⌜ ((length : ℕ) → r ≡ Length length → length < answerBase) ⌝ }
-    ensures { λ n. ⌜ n ≡ packedWriting r ⌝ }
+    ensures { λ n. ⌜ n ≡ packedValue (writingReply r) ⌝ }
 {
     match r {
         Writing::Length(length) => length as u64 + ANSWER_BASE,
@@ -60,9 +60,9 @@ pub extern "C" fn planner_check_table(
     costs: &[u16],
 ) -> u8
     ensures { λ r. let x = slicesOf number probes links (now (needs .entry)) (now (lows .entry)) (now (highs .entry)) (now (costs .entry)) in
-        ⌜ r ≡ refusalOf (checkingOf (slicesFault x)) ⌝ }
+        ⌜ r ≡ slicesFault x ⌝ }
 {
-    refusal_of(table::check_table(number, probes, links, needs, lows, highs, costs))
+    packed_checking(table::check_table(number, probes, links, needs, lows, highs, costs))
 }
 
 // `table_read::read_table`, its answer packed.

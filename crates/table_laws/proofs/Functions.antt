@@ -21,6 +21,8 @@ use Rattle.table.specs.Same.{Same}
 use Rattle.table.specs.Slices.{Slices, tableOf}
 use Rattle.table_read.specs.Reading.{Lent, readingFault}
 use Rattle.table_write.specs.Writing.{writeFault}
+use Rattle.table_read.proofs.Answers.{reads-answer}
+use Rattle.table_write.proofs.Answers.{writes-answer}
 use Rattle.table_laws.specs.Functions.{lentSlices, HoldsTable, ReadTable, ReadThenWrite, WriteThenRead}
 use Rattle.table_laws.proofs.Tables.{same-text}
 use Rattle.table.proofs.Same.{same-fault}
@@ -55,7 +57,7 @@ read-then-write s out out′ a b number probes links rest w read enough write =
     let legal = same-fault u t same 256 2048 ∙ text-legal 256 2048 false s good in
     let fault = writing-none (t .number) (t .probes) (t .links) b (length out) (omega arith) (holds false s _ a b read none) legal in
     let written = rw (n .0, n .1, n .2) at write in
-    (written .answer ∙ rw (fault, end), written .out ∙ rw (fault, text))
+    (writes-answer written ∙ rw (fault, end), written .out ∙ rw (fault, text))
 
 -- A text without a fault that has the entries of the table t, read into slices that hold them.
 module _ (s : List ℕ) (t : Table) (r : Reading) (b b′ : Lent) (none : textFault 256 2048 false s ≡ 0) (same : Same (ofText s) t)
@@ -65,7 +67,7 @@ module _ (s : List ℕ) (t : Table) (r : Reading) (b b′ : Lent) (none : textFa
   fault-none = or-none (textFault 256 2048 false s) _ none ∙ rw (same .probes, same .links) (room-none (t .probes) (t .links) b enough)
 
   back-answer : r ≡ Read (t .number) (t .probes) (t .links) (textEnd t)
-  back-answer = read .answer ∙ rw (fault-none, same .number, same .probes, same .links)
+  back-answer = reads-answer read ∙ rw (fault-none, same .number, same .probes, same .links)
 
   back-entries : Same (tableOf (lentSlices (t .number) (t .probes) (t .links) b′)) t
   back-entries =
@@ -86,7 +88,7 @@ pub write-then-read : WriteThenRead
 write-then-read x n b b′ out out′ r fits write enough read =
     let t = tableOf x in
     let fault = writeFault 256 2048 x (length out) in
-    let w = answer-written (eqb fault 0) fault n t (write .answer) in
+    let w = answer-written (eqb fault 0) fault n t (writes-answer write) in
     let none = eqb-true fault 0 (w .0) in
     let legal = writing-legal x (length out) none in
     let text : take n out′ ≡ textOf t = rw (rw none at (write .out)) (take-at (textOf t) (drop (length (textOf t)) out) n (length-text t ∙ sym (w .1))) in

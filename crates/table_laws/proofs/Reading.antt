@@ -19,7 +19,7 @@ use Rattle.table_text.proofs.Good.{text-head}
 use Rattle.table_read.specs.Reading.{Lent, readingFault, filledOf, ReadsTable}
 use Rattle.table_read.specs.declared.Reading.{Reading}
 use Rattle.table_read.specs.declared.Reading.the-variants.{Table as Read, Refused as Unread}
-use Rattle.table_read.proofs.Answers.{read-text, read-room}
+use Rattle.table_read.proofs.Answers.{reads-answer, read-text, read-room}
 use Rattle.table.specs.Same.{Same}
 use Rattle.table.specs.Slices.{tableOf}
 use Rattle.table_laws.specs.Functions.{lentSlices, HoldsTable}
@@ -68,30 +68,33 @@ module _ (more : Bool) (s : List ℕ) (r : Reading) (a b : Lent) (read : ReadsTa
           number = refl;
           probes = refl;
           links = refl;
-          need = entry (t .need) (t .probes) (a .needs) (b .needs) (read .need) (omega arith);
-          low = entry (t .low) (t .links) (a .lows) (b .lows) (read .low) (omega arith);
-          high = entry (t .high) (t .links) (a .highs) (b .highs) (read .high) (omega arith);
-          cost = entry (t .cost) (t .links) (a .costs) (b .costs) (read .cost) (omega arith);
+          need = entry (t .need) (t .probes) (a .needs) (b .needs) (read .lent .need) (omega arith);
+          low = entry (t .low) (t .links) (a .lows) (b .lows) (read .lent .low) (omega arith);
+          high = entry (t .high) (t .links) (a .highs) (b .highs) (read .lent .high) (omega arith);
+          cost = entry (t .cost) (t .links) (a .costs) (b .costs) (read .lent .cost) (omega arith);
         }
 
     -- and the lengths that they had
     pub holds : HoldsTable (t .probes) (t .links) b
     holds =
         let g = room in
-        let needs = same-length (t .need) (t .probes) (a .needs) (b .needs) (rw none at (read .need)) in
-        let lows = same-length (t .low) (t .links) (a .lows) (b .lows) (rw none at (read .low)) in
-        let highs = same-length (t .high) (t .links) (a .highs) (b .highs) (rw none at (read .high)) in
-        let costs = same-length (t .cost) (t .links) (a .costs) (b .costs) (rw none at (read .cost)) in
+        let needs = same-length (t .need) (t .probes) (a .needs) (b .needs) (rw none at (read .lent .need)) in
+        let lows = same-length (t .low) (t .links) (a .lows) (b .lows) (rw none at (read .lent .low)) in
+        let highs = same-length (t .high) (t .links) (a .highs) (b .highs) (rw none at (read .lent .high)) in
+        let costs = same-length (t .cost) (t .links) (a .costs) (b .costs) (rw none at (read .lent .cost)) in
         record { needed = omega arith; linked = omega arith; equal = omega arith; equal₂ = omega arith }
+
+  answer-is : r ≡ cond (eqb fault 0) (Read (t .number) (t .probes) (t .links) (textEnd t)) (Unread fault)
+  answer-is = reads-answer read
 
   pub refusal-is : (refusal : ℕ) → r ≡ Unread refusal → (refusal ≡ fault) × (fault ≡ 0 → ⊥)
   refusal-is refusal e =
-      let n = answer-unread (eqb fault 0) fault refusal t (sym e ∙ read .answer) in
+      let n = answer-unread (eqb fault 0) fault refusal t (sym e ∙ answer-is) in
       (n .1, eqb-false fault 0 (n .0))
 
   module _ (number probes links rest : ℕ) (e : r ≡ Read number probes links rest) where
     said : (eqb fault 0 ≡ true) × (number ≡ t .number) × (probes ≡ t .probes) × (links ≡ t .links) × (rest ≡ textEnd t)
-    said = answer-read (eqb fault 0) fault number probes links rest t (sym e ∙ read .answer)
+    said = answer-read (eqb fault 0) fault number probes links rest t (sym e ∙ answer-is)
 
     pub read-none : fault ≡ 0
     read-none = eqb-true fault 0 (said .0)

@@ -45,11 +45,11 @@ pub calls-are : Calls
 unfolding readFault textFault lineFault lineAt untilFeed first numberAt valueOf linkFault begins sum stored textOf joined digits digitOf
 calls-are =
     record {
-      read = record { answer = refl; need = refl; low = refl; high = refl; cost = refl };
+      read = record { answer = refl; lent = record { need = refl; low = refl; high = refl; cost = refl } };
       enough = omega arith;
       write = record { answer = refl; out = refl };
       holds = record { needed = omega arith; linked = omega arith; equal = refl; equal₂ = refl };
-      again = record { answer = refl; need = refl; low = refl; high = refl; cost = refl };
+      again = record { answer = refl; lent = record { need = refl; low = refl; high = refl; cost = refl } };
     }
 
 pub refusals-are : TextRefusals

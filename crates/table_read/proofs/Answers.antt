@@ -1,25 +1,39 @@
--- How the code comes to its answer.
+-- How the code comes to its answer, and what the answer then is.
 use Prim.Native.Nat.{ℕ}
 use mathlib.Core.Path.{_≡_, _∙_}
-use mathlib.Core.Bool.{Bool}
+use mathlib.Core.Bool.{Bool, true, false, cond}
 use mathlib.Core.List.{List}
+use native.Mathlib.Omega.{arith}
+use lib.Dec.{eqb}
 use borrow.Author.Tests.{ne-eqb}
+use Rattle.range.specs.Reply.{refusal, values}
 use Rattle.range.proofs.Faults.{or-left, or-right}
 use Rattle.table.specs.Table.{Table}
 use Rattle.table.specs.Legal.{roomFault}
-use Rattle.table.specs.Text.{ofText, textFault, readFault}
-use Rattle.table_read.specs.Reading.{Lent, readingOf, Filled, Reads}
+use Rattle.table.specs.Text.{ofText, textEnd, textFault, readFault}
+use Rattle.table_read.specs.Reading.{Lent, readingReply, readValues, Filled, Reads}
 use Rattle.table_read.specs.declared.Reading.{Reading}
-use Rattle.table_read.specs.declared.Reading.the-variants.{Refused}
+use Rattle.table_read.specs.declared.Reading.the-variants.{Table as Read, Refused}
 
 pub reads-refused : (fault r : ℕ) (t : Table) (a : Lent) → r ≡ fault → (r ≡ 0 → ⊥) → Reads fault t (Refused r) a a
 reads-refused fault r t a e n =
     let k = ne-eqb fault 0 (λ z. n (e ∙ z)) in
-    record { answer = rw (e, k); need = rw k; low = rw k; high = rw k; cost = rw k }
+    record { answer = rw (e, k); lent = record { need = rw k; low = rw k; high = rw k; cost = rw k } }
 
-pub reads-table : (fault : ℕ) (t : Table) (r : Reading) (before after : Lent) → fault ≡ 0 → r ≡ readingOf 0 t → Filled t before after → Reads fault t r before after
-reads-table fault t r before after e a f =
-    record { answer = rw e a; need = rw e (f .need); low = rw e (f .low); high = rw e (f .high); cost = rw e (f .cost) }
+pub reads-table : (fault : ℕ) (t : Table) (r : Reading) (before after : Lent) → fault ≡ 0 → readingReply r ≡ values (readValues t) → Filled 0 t before after → Reads fault t r before after
+reads-table fault t r before after e a f = record { answer = rw e a; lent = rw e f }
+
+-- the answer, by the fault found
+pub reads-answer : {fault : ℕ} {t : Table} {r : Reading} {before after : Lent} → Reads fault t r before after
+    → r ≡ cond (eqb fault 0) (Read (t .number) (t .probes) (t .links) (textEnd t)) (Refused fault)
+reads-answer {fault} {t} {r} w = go r (eqb fault 0) (w .answer)
+  where
+    go : (r : Reading) (none : Bool) → readingReply r ≡ cond none (values (readValues t)) (refusal fault)
+        → r ≡ cond none (Read (t .number) (t .probes) (t .links) (textEnd t)) (Refused fault)
+    go (Read a b c d) true e = cc
+    go (Read a b c d) false e = let z : _≡_ {A = ℕ} 0 1 = cc in absurd (omega arith)
+    go (Refused n) true e = let z : _≡_ {A = ℕ} 0 1 = cc in absurd (omega arith)
+    go (Refused n) false e = cc
 
 module _ (pmax lmax : ℕ) (more : Bool) (s : List ℕ) (needs lows highs costs : ℕ) (e : readFault pmax lmax more s needs lows highs costs ≡ 0) where
   abbrev room : ℕ

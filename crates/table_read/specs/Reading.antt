@@ -2,10 +2,11 @@
 use Prim.Native.Nat.{ℕ}
 use mathlib.Core.Path.{_≡_}
 use mathlib.Core.Bool.{Bool, cond}
-use mathlib.Core.List.{List}
+use mathlib.Core.List.{List, [], _∷_}
 use lib.Dec.{eqb}
 use lib.ListN.{length}
 use Rattle.range.specs.Lists.{stored}
+use Rattle.range.specs.Reply.{Reply, refusal, values, replyOf}
 use Rattle.table.specs.Table.{Table}
 use Rattle.table.specs.Text.{ofText, textEnd, readFault}
 use Rattle.table_read.specs.declared.Reading.{Reading}
@@ -26,27 +27,28 @@ lentOf needs lows highs costs = record { needs = needs; lows = lows; highs = hig
 abbrev pub readingFault : ℕ → ℕ → Bool → List ℕ → Lent → ℕ
 readingFault pmax lmax more s a = readFault pmax lmax more s (length (a .needs)) (length (a .lows)) (length (a .highs)) (length (a .costs))
 
--- the answer by the fault found: the table's three numbers and where the rest of the text starts, or the number of the refusal alone
-abbrev pub readingOf : ℕ → Table → Reading
-readingOf fault t = cond (eqb fault 0) (Read (t .number) (t .probes) (t .links) (textEnd t)) (Refused fault)
+-- the answer's values: the table's three numbers, and where the rest of the text starts
+abbrev pub readingReply : Reading → Reply
+readingReply (Read number probes links rest) = values (number ∷ probes ∷ links ∷ rest ∷ [])
+readingReply (Refused n) = refusal n
 
--- the slices of a table that is read: "entries beyond the table's own stay untouched"
-pub record Filled (t : Table) (before after : Lent) : Type 0 where
-  pub need : after .needs ≡ stored (t .need) (t .probes) (before .needs)
-  pub low : after .lows ≡ stored (t .low) (t .links) (before .lows)
-  pub high : after .highs ≡ stored (t .high) (t .links) (before .highs)
-  pub cost : after .costs ≡ stored (t .cost) (t .links) (before .costs)
+-- for a text of the table t
+abbrev pub readValues : Table → List ℕ
+readValues t = t .number ∷ t .probes ∷ t .links ∷ textEnd t ∷ []
 
--- a slice at exit: filled, or as it was where there is a fault; "a refused call changes no lent buffer"
+-- a slice at exit: filled, "entries beyond the table's own stay untouched"; or as it was where there is a fault, "a refused call changes no lent buffer"
 abbrev pub filledOf : ℕ → (ℕ → ℕ) → ℕ → List ℕ → List ℕ
 filledOf fault f n d = cond (eqb fault 0) (stored f n d) d
 
-pub record Reads (fault : ℕ) (t : Table) (r : Reading) (before after : Lent) : Type 0 where
-  pub answer : r ≡ readingOf fault t
+pub record Filled (fault : ℕ) (t : Table) (before after : Lent) : Type 0 where
   pub need : after .needs ≡ filledOf fault (t .need) (t .probes) (before .needs)
   pub low : after .lows ≡ filledOf fault (t .low) (t .links) (before .lows)
   pub high : after .highs ≡ filledOf fault (t .high) (t .links) (before .highs)
   pub cost : after .costs ≡ filledOf fault (t .cost) (t .links) (before .costs)
+
+pub record Reads (fault : ℕ) (t : Table) (r : Reading) (before after : Lent) : Type 0 where
+  pub answer : readingReply r ≡ replyOf fault (readValues t)
+  pub lent : Filled fault t before after
 
 -- `read_table` on the text s, or with `more` `read_table_prefix`, within limits: it answers r and leaves the lent slices `before` as `after`
 abbrev pub ReadsTable : ℕ → ℕ → Bool → List ℕ → Reading → Lent → Lent → Type 0

@@ -10,9 +10,10 @@ ghost use mathlib.Core.Path.{_≡_};
 ghost use mathlib.Core.Bool.{true};
 ghost use Prim.Native.Nat.{_+_, _*_, _≤_};
 ghost use lib.ListN.{length};
+ghost use Rattle.range.specs.Reply.{values};
 ghost use Rattle.table.specs.Legal.{roomFault};
 ghost use Rattle.table.specs.Text.{ofText, textFault, readFault};
-ghost use Rattle.table_read.specs.Reading.{lentOf, readingOf, Filled, ReadsTable};
+ghost use Rattle.table_read.specs.Reading.{lentOf, readingReply, readValues, Filled, ReadsTable};
 
 // 1 to 8, by the lengths of the lent needs, lows, highs and costs.
 fn read_fault(
@@ -45,7 +46,7 @@ fn read_fault(
 // The answer for a text that has no fault.
 fn answer(text: &[u8]) -> Reading
     requires { ⌜ textFault 256 2048 true (now text) ≡ 0 ⌝ }
-    ensures { λ r. ⌜ r ≡ readingOf 0 (ofText (now (text .entry))) ⌝ }
+    ensures { λ r. ⌜ readingReply r ≡ values (readValues (ofText (now (text .entry)))) ⌝ }
 {
     let number = hex::fields::number(text, 0, 4);
     let probes = hex::fields::number(text, 4, 4);
@@ -71,7 +72,7 @@ fn fill_table(
         × (roomFault (t .probes) (t .links) (length (now needs)) (length (now lows)) (length (now highs)) (length (now costs)) ≡ 0) ⌝ }
     ensures { λ _. let before = lentOf (now (needs .entry)) (now (lows .entry)) (now (highs .entry)) (now (costs .entry)) in
         let after = lentOf (now (needs .exit)) (now (lows .exit)) (now (highs .exit)) (now (costs .exit)) in
-        ⌜ Filled (ofText (now (text .entry))) before after ⌝ }
+        ⌜ Filled 0 (ofText (now (text .entry))) before after ⌝ }
 {
     let probes = hex::fields::number(text, 4, 4);
     let links = hex::fields::number(text, 8, 4);

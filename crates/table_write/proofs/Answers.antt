@@ -1,17 +1,19 @@
--- How the code comes to an answer of writing.
+-- How the code comes to an answer of writing, and what the answer then is.
 use Prim.Native.Nat.{ℕ, _≤_, _<_}
 use mathlib.Core.Path.{_≡_, _∙_}
-use mathlib.Core.Bool.{cond}
-use mathlib.Core.List.{List}
-use lib.Dec.{ltb}
+use mathlib.Core.Bool.{Bool, true, false, cond}
+use mathlib.Core.List.{List, [], _∷_}
+use lib.Dec.{ltb, eqb}
 use lib.ListN.{length}
 use lib.Seq.{sets}
 use borrow.Author.Tests.{lt-ltb, le-ltb, eq-eqb, ne-eqb}
 use native.Mathlib.Omega.{arith}
 use Rattle.range.specs.First.{orElse}
+use Rattle.range.specs.Reply.{refusal, values}
 use Rattle.table.specs.Table.{Table}
 use Rattle.table.specs.Text.{textOf, textEnd}
-use Rattle.table_write.specs.Writing.{Writes}
+use Rattle.table_write.specs.Writing.{writingReply, Writes}
+use Rattle.table_write.specs.declared.Writing.{Writing}
 use Rattle.table_write.specs.declared.Writing.the-variants.{Length, Refused}
 use Rattle.table.proofs.Lengths.{length-text}
 use Rattle.range.proofs.Sets.{sets-start}
@@ -32,3 +34,13 @@ writes-text fault t d after e room w =
     let l = length-text t in
     let none = eq-eqb fault 0 e in
     record { answer = rw none; out = rw none (w ∙ sets-start d (textOf t) (omega arith)) }
+
+-- the answer, by the fault found
+pub writes-answer : {fault : ℕ} {t : Table} {r : Writing} {d after : List ℕ} → Writes fault t r d after → r ≡ cond (eqb fault 0) (Length (textEnd t)) (Refused fault)
+writes-answer {fault} {t} {r} w = go r (eqb fault 0) (w .answer)
+  where
+    go : (r : Writing) (none : Bool) → writingReply r ≡ cond none (values (textEnd t ∷ [])) (refusal fault) → r ≡ cond none (Length (textEnd t)) (Refused fault)
+    go (Length m) true e = cc
+    go (Length m) false e = let z : _≡_ {A = ℕ} 0 1 = cc in absurd (omega arith)
+    go (Refused m) true e = let z : _≡_ {A = ℕ} 0 1 = cc in absurd (omega arith)
+    go (Refused m) false e = cc

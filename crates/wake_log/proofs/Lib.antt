@@ -1,3 +1,4 @@
 pub mod Call
 pub mod Stored
+pub mod Answers
 mod Walk

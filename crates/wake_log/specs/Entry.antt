@@ -1,7 +1,9 @@
 -- The entries of the wake log: document 01, "The ends and their frames". For each case 01's code, and its values.
 use Prim.Native.Nat.{ℕ}
 use mathlib.Core.Bool.{cond}
+use mathlib.Core.List.{List, [], _∷_}
 use lib.Dec.{eqb}
+use Rattle.range.specs.Reply.{Reply, refusal, values}
 use Rattle.wake_log.specs.declared.Entry.{Entry}
 use Rattle.wake_log.specs.declared.Answer.{Answer}
 use Rattle.wake_log.specs.declared.Answer.the-variants as answer
@@ -41,6 +43,14 @@ displacedOf (TakenDisplacing link displaced) = displaced
 displacedOf (Refused link) = absent
 displacedOf (RefusalLearnt link) = absent
 displacedOf (NoChange link) = absent
+
+-- "the entry: probe, what .., link's place in the table from 0, displaced probe"
+abbrev pub entryValues : Entry → List ℕ
+entryValues e = e .probe ∷ codeOf (e .what) ∷ linkOf (e .what) ∷ displacedOf (e .what) ∷ []
+
+abbrev pub answerReply : Answer → Reply
+answerReply (answer.Logged e) = values (entryValues e)
+answerReply (answer.Refused n) = refusal n
 
 -- the answer to an event by the fault found: its entry, or the number of the refusal alone
 abbrev pub answerOf : ℕ → Entry → Answer

@@ -3,7 +3,7 @@ use borrow.Author.Needs.{needs}
 use Rattle.fleet_exports.proofs.planner_fleet_finished.Statement.{statement}
 use Rattle.fleet_exports.proofs.planner_fleet_finished.Tie as tie
 use mathlib.Core.Path.{_∙_, ap}
-use Rattle.fleet_exports.specs.Packed.{packedFinishing}
+use Rattle.packed_answers.specs.Packed.{packedValue}
 
 finished-requires : tie.Need-finished-requires
 finished-requires c κs = search needs
@@ -12,7 +12,7 @@ packed-finishing-requires : tie.Need-packed-finishing-requires
 packed-finishing-requires c κs = search needs
 
 returns : tie.Need-returns
-returns c = c .packed-finishing .ensures ∙ ap packedFinishing (c .before .finished .ensures)
+returns c = c .packed-finishing .ensures ∙ ap packedValue (c .before .finished .ensures)
 
 pub planner-fleet-finished-spec : {M : Type 1} → statement M
 planner-fleet-finished-spec = tie.close (tie.spec finished-requires packed-finishing-requires returns)

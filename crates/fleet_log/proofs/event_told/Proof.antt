@@ -4,6 +4,7 @@ use Rattle.fleet_log.proofs.event_told.Statement.{statement}
 use Rattle.fleet_log.proofs.event_told.Tie as tie
 use mathlib.Core.Path.{_∙_, ap}
 use Rattle.wake_log.specs.Log.{toldOf}
+use Rattle.fleet.proofs.Calls.{handled-answer}
 
 event-requires : tie.Need-event-requires
 event-requires c κs = search needs
@@ -20,7 +21,7 @@ returns c =
     let at-start = at-event .before .before .before .before .before .before .before .before in
     let a = at-start .args in
     let b = at-event .event .ensures in
-    record { told = c .tell .ensures ∙ ap (toldOf (a .used) (a .room)) (b .answer); record-after = b .record-after }
+    record { told = c .tell .ensures ∙ ap (toldOf (a .used) (a .room)) (handled-answer b); record-after = b .record-after }
 
 pub event-told-spec : {M : Type 1} → statement M
 event-told-spec = tie.close (tie.spec event-requires tell-requires same-length returns)

@@ -2,7 +2,7 @@
 use borrow.Author.Needs.{needs}
 use Rattle.table.proofs.check_table.Statement.{statement}
 use Rattle.table.proofs.check_table.Tie as tie
-use Rattle.table.proofs.Faults.{checking-fine, checking-refused}
+use Rattle.table.proofs.Answers.{checking-fine, checking-refused}
 
 slice-fault-requires : tie.Need-slice-fault-requires
 slice-fault-requires c κs = search needs

@@ -4,6 +4,7 @@ use Rattle.script_steps.proofs.pieces.answer_line.Statement.{statement}
 use Rattle.script_steps.proofs.pieces.answer_line.Tie as tie
 use native.Mathlib.Omega.{arith}
 use Rattle.table.specs.Slices.{slicesOf}
+use Rattle.fleet.proofs.Calls.{handled-answer}
 use Rattle.script_steps.proofs.Printing.{answer-short, used-within, line-buffered}
 
 cast-handle-line : tie.Need-cast-handle-line
@@ -20,7 +21,7 @@ put-answer-requires c κs =
     let x = slicesOf (a .number) (a .probes) (a .links) (a .needs .now) (a .lows .now) (a .highs .now) (a .costs .now) in
     let h = at-handle-line .handle-line .ensures in
     let short = answer-short x (a .place .progress .used) 1024 (a .line .now) (a .rec .now) (s .pre .3) in
-    rw (h .answer) (omega (arith, s .pre .2))
+    rw (handled-answer h) (omega (arith, s .pre .2))
 
 add-used-requires : tie.Need-add-used-requires
 add-used-requires c κs =
@@ -30,7 +31,7 @@ add-used-requires c κs =
     let a = s .args in
     let x = slicesOf (a .number) (a .probes) (a .links) (a .needs .now) (a .lows .now) (a .highs .now) (a .costs .now) in
     let h = at-handle-line .handle-line .ensures in
-    rw (h .answer) (used-within x (a .place .progress .used) 1024 (a .line .now) (a .rec .now) (omega (arith, at-struct-known .struct-known .given .0 .fits)) (omega arith))
+    rw (handled-answer h) (used-within x (a .place .progress .used) 1024 (a .line .now) (a .rec .now) (omega (arith, at-struct-known .struct-known .given .0 .fits)) (omega arith))
 
 add-changes-requires : tie.Need-add-changes-requires
 add-changes-requires c κs = search needs

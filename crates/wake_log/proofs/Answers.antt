@@ -1,0 +1,58 @@
+-- An answer and its values: the values of an entry tell the entry.
+use Prim.Native.Nat.{ℕ}
+use mathlib.Core.Path.{_≡_, refl, sym, _∙_, ap}
+use mathlib.Core.Bool.{Bool, true, false, cond}
+use native.Mathlib.Omega.{arith}
+use lib.Dec.{eqb}
+use Rattle.range.specs.Reply.{refusal, values, replyOf}
+use Rattle.wake_log.specs.declared.Entry.{Entry}
+use Rattle.wake_log.specs.declared.What.{What}
+use Rattle.wake_log.specs.declared.What.the-variants as what
+use Rattle.wake_log.specs.declared.Answer.{Answer}
+use Rattle.wake_log.specs.declared.Answer.the-variants.{Logged, Refused}
+use Rattle.wake_log.specs.Entry.{codeOf, linkOf, displacedOf, entryValues, answerReply, answerOf}
+
+-- what befell, by its code, link and displaced probe
+abbrev fromCode : ℕ → ℕ → ℕ → What
+fromCode code link displaced =
+    cond (eqb code 0) (what.Opened link)
+    (cond (eqb code 1) what.NothingToOpen
+    (cond (eqb code 2) (what.Taken link)
+    (cond (eqb code 3) (what.TakenDisplacing link displaced)
+    (cond (eqb code 4) (what.Refused link) (cond (eqb code 5) (what.RefusalLearnt link) (what.NoChange link))))))
+
+what-is : (w : What) → fromCode (codeOf w) (linkOf w) (displacedOf w) ≡ w
+what-is (what.Opened link) = refl
+what-is what.NothingToOpen = refl
+what-is (what.Taken link) = refl
+what-is (what.TakenDisplacing link displaced) = refl
+what-is (what.Refused link) = refl
+what-is (what.RefusalLearnt link) = refl
+what-is (what.NoChange link) = refl
+
+pub same-entry : (e e′ : Entry) → entryValues e ≡ entryValues e′ → e ≡ e′
+same-entry e e′ s =
+    let probe : e .probe ≡ e′ .probe = cc in
+    let code : codeOf (e .what) ≡ codeOf (e′ .what) = cc in
+    let link : linkOf (e .what) ≡ linkOf (e′ .what) = cc in
+    let displaced : displacedOf (e .what) ≡ displacedOf (e′ .what) = cc in
+    let befell : e .what ≡ e′ .what = sym (what-is (e .what)) ∙ rw (code, link, displaced) (what-is (e′ .what)) in
+    ap (λ (p : ℕ). record { probe = p; what = e .what }) probe ∙ ap (λ (w : What). record { probe = e′ .probe; what = w }) befell
+
+-- the answer, by the fault found
+pub answer-is : (r : Answer) (fault : ℕ) (e : Entry) → answerReply r ≡ replyOf fault (entryValues e) → r ≡ answerOf fault e
+answer-is r fault e s = go r (eqb fault 0) s
+  where
+    go : (r : Answer) (none : Bool) → answerReply r ≡ cond none (values (entryValues e)) (refusal fault) → r ≡ cond none (Logged e) (Refused fault)
+    go (Logged d) true s = ap Logged (same-entry d e (cc))
+    go (Logged d) false s = let z : _≡_ {A = ℕ} 0 1 = cc in absurd (omega arith)
+    go (Refused n) true s = let z : _≡_ {A = ℕ} 0 1 = cc in absurd (omega arith)
+    go (Refused n) false s = cc
+
+-- and back
+pub answer-reply : (r : Answer) (fault : ℕ) (e : Entry) → r ≡ answerOf fault e → answerReply r ≡ replyOf fault (entryValues e)
+answer-reply r fault e is = ap answerReply is ∙ go (eqb fault 0)
+  where
+    go : (none : Bool) → answerReply (cond none (Logged e) (Refused fault)) ≡ cond none (values (entryValues e)) (refusal fault)
+    go true = refl
+    go false = refl
