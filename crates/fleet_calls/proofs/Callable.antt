@@ -11,7 +11,7 @@ use Rattle.wake_log.specs.Entry.{answerOf}
 use Rattle.probe_rules.specs.Rules.{entryOf}
 use Rattle.fleet_theory.specs.Fleet.{eventFault, outcomeOf, alteredBy}
 use Rattle.fleet_calls.specs.Calls.{SameTable, LoggedCall, LoggedLeft, leftByLogged, KeptLogged, LoggedCalls, loggedGiven, EventCall, EventLeft, leftByEvent, KeptEvent, EventCalls, eventGiven, GivenLines}
-use Rattle.fleet_calls.proofs.Promises.{handled-is}
+use Rattle.fleet.proofs.Calls.{handled-is}
 
 -- the call of a line that does what `event_logged` promises
 abbrev pub madeLogged : LoggedLeft → Slices → List ℕ → LoggedCall

@@ -7,6 +7,7 @@ use mathlib.Core.List.{List, [], _∷_, _++_}
 use native.Mathlib.Omega.{arith}
 use lib.ListN.{length, take, drop, replicate, length-append, length-replicate, take-append-drop}
 use lib.Seq.{take-append-seam}
+use Rattle.range.specs.First.{orElse}
 use Rattle.table.specs.Table.{Table, touches}
 use Rattle.table.specs.Slices.{Slices, tableOf, slicesFault}
 use Rattle.probe_frame.specs.Frame.{frameOf}
@@ -19,8 +20,8 @@ use Rattle.fleet_theory.specs.ClaimsOfRun.{moments, ClaimsOfRun}
 use Rattle.fleet_theory.proofs.ClaimsOfRun.{claims-of-run}
 use Rattle.fleet.specs.declared.Finishing.{Finishing}
 use Rattle.fleet.specs.declared.Finishing.the-variants.{Says}
-use Rattle.fleet.specs.Answers.{whetherFinished}
-use Rattle.fleet.proofs.Calls.{handled-next}
+use Rattle.fleet.specs.Answers.{finishingReply, whetherFinished}
+use Rattle.fleet.proofs.Calls.{finishing-is, handled-next}
 use Rattle.fleet_calls.specs.Calls.{SameTable, LoggedCall, LoggedLeft, freshLogged, KeptLogged, LoggedCalls, leftAfterLogged, loggedLines}
 use Rattle.fleet_calls.specs.Demand3.{recordsOver, LeadsToFinish, Demand3}
 use Rattle.fleet_calls.proofs.Same.{same-own, same-fleet, same-finished}
@@ -106,10 +107,11 @@ module _ (x : Slices) (fine : slicesFault x ≡ 0) (digits : x .number < 65536) 
     passes-after : fleetFault t (after .bytes) ≡ 0
     passes-after = rw (f .bytes) (all .passes)
 
-    says-whether : (y : Slices) → SameTable y x → (q : Finishing) → q ≡ whetherFinished y (after .bytes) → q ≡ Says (finished t (after .bytes))
+    says-whether : (y : Slices) → SameTable y x → (q : Finishing) → finishingReply q ≡ whetherFinished y (after .bytes) → q ≡ Says (finished t (after .bytes))
     says-whether y same q is =
         let passes : fleetFault (tableOf y) (after .bytes) ≡ 0 = same-fleet (tableOf y) t (same .same) (after .bytes) ∙ passes-after in
-        is ∙ rw (same-fine x y fine same, passes) (ap Says (same-finished (tableOf y) t (same .same) (after .bytes)))
+        finishing-is q (orElse (slicesFault y) (fleetFault (tableOf y) (after .bytes))) (finished (tableOf y) (after .bytes)) is
+        ∙ rw (same-fine x y fine same, passes) (ap Says (same-finished (tableOf y) t (same .same) (after .bytes)))
 
     -- the further list, by whichever calls
     further : (log′ : List Entry) → take (after .used) log′ ≡ take (after .used) (after .log) → after .used + length (all .goes-on .0) ≤ length log′

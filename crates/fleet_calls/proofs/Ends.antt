@@ -11,6 +11,7 @@ use lib.ListN.{length}
 use lib.Seq.{sets}
 use borrow.Author.Tests.{ltb-true, ne-eqb}
 use Rattle.range.specs.First.{orElse, first}
+use Rattle.range.specs.Reply.{replyOf}
 use Rattle.range.proofs.Faults.{or-same, first-same}
 use Rattle.table.specs.Table.{Table, touches}
 use Rattle.table.specs.Legal.{Legal, lentFault}
@@ -34,7 +35,7 @@ use Rattle.probe_rules.proofs.OutcomeLaws.{befalls-within}
 use Rattle.probe_checks.specs.Checks.{frameKindFault, toFault, probeFault, ownLinkFault, untriedFault, fullFault, heardFault, hearFault, openFault, linkCallFault}
 use Rattle.probe.specs.declared.Kind.{Kind}
 use Rattle.probe.specs.declared.Asked.{Asked}
-use Rattle.probe.specs.declared.Asked.the-variants as asked
+use Rattle.probe.proofs.Answers.{befallen-answer}
 use Rattle.probe.specs.Answers.{Befallen, Asks, Opens, Hears, AsksFor, askFault, askedEvent, askedFrame, askedLine}
 use Rattle.fleet_theory.specs.Fleet.{own, eventLineFault, eventOf, State, start, faultOf, answerTo, next, run}
 use Rattle.fleet_theory.specs.Words.{IsFrame, MaySend}
@@ -49,10 +50,6 @@ use Rattle.fleet_calls.proofs.Same.{and-under, same-between, same-heard
 use Rattle.fleet_calls.proofs.Promises.{same-fine}
 use Rattle.fleet_calls.proofs.Calls.{FollowsRun, entryTo, step-follows, kept-logs}
 use Rattle.fleet_calls.proofs.Places.{calls-before, call-at, left-follows}
-
--- the parts of an end's promise, and the promise of its parts
-befallen-answer : (fault : ℕ) (t : Table) (p : ℕ) (v : Event) (a : Answer) (e e′ : List ℕ) → Befallen fault t p v a e e′ → a ≡ answerOf fault (entryOf t p (befalls t p v e))
-befallen-answer fault t p v a e e′ h = h .answer
 
 -- two tables with the same own entries
 module _ (t u : Table) (same : Same t u) (p : ℕ) (l : p < t .probes) (e : List ℕ) where
@@ -108,7 +105,7 @@ module _ (t u : Table) (same : Same t u) (p : ℕ) (l : p < t .probes) (e : List
     befallen-same : Befallen n t p v a e e′ → (a ≡ answerOf m (entryOf u p (befalls u p w e))) × (e′ ≡ cond (eqb m 0) (alter (befalls u p w e) e) e)
     befallen-same h =
         let entry = same-entry t u same p (befalls t p v e) (befalls-within t p v e within) ∙ ap (entryOf u p) outcomes in (
-          befallen-answer n t p v a e e′ h ∙ ap (answerOf n) entry ∙ ap (λ (k : ℕ). answerOf k (entryOf u p (befalls u p w e))) is,
+          befallen-answer h ∙ ap (answerOf n) entry ∙ ap (λ (k : ℕ). answerOf k (entryOf u p (befalls u p w e))) is,
           h .record-after ∙ ap (λ (o : Outcome). cond (eqb n 0) (alter o e) e) outcomes ∙ ap (λ (k : ℕ). cond (eqb k 0) (alter (befalls u p w e) e) e) is,
         )
 
@@ -120,7 +117,7 @@ module _ (t u : Table) (same : Same t u) (p : ℕ) (l : p < t .probes) (e : List
   asks-same n m is k i b a out out′ h =
       let may = sendable (askedEvent k i) e in
       record {
-        answer = h .answer ∙ ap (λ (j : ℕ). cond (eqb j 0) (cond may asked.Written asked.NotNow) (asked.Refused j)) is;
+        answer = h .answer ∙ ap (λ (j : ℕ). replyOf j (cond may 1 0 ∷ [])) is;
         line = h .line
             ∙ ap (λ (j : ℕ). cond (eqb j 0 && may) (sets out 0 (askedLine t p k i)) out) is
             ∙ ap (λ (line : List ℕ). cond (eqb m 0 && may) (sets out 0 line) out) (same-asked k i b);
@@ -183,7 +180,7 @@ module _ (x : Slices) (fine : slicesFault x ≡ 0) (log : List Entry) where
     same-as-fleet v fault h a own′ q =
         let own-before = own t p (s .bytes) in
         let own-after = own t p (next x room s l .bytes) in (
-          q .0 ∙ sym (befallen-answer fault t p v (answerTo x room s l) own-before own-after (h .promised)) ∙ sym (stepped .0),
+          q .0 ∙ sym (befallen-answer (h .promised)) ∙ sym (stepped .0),
           q .1 ∙ sym (h .promised .record-after) ∙ ap (own t p) (sym (stepped .1 .bytes)),
         )
 

@@ -26,6 +26,7 @@ use Rattle.probe_rules.proofs.OutcomeLaws.{befalls-within}
 use Rattle.fleet_theory.specs.Fleet.{own, eventLineFault, eventOf, eventFault, outcomeOf, alterFleet, alteredBy}
 use Rattle.fleet_theory.proofs.Run.{slices-legal}
 use Rattle.fleet.specs.Answers.{Handled}
+use Rattle.fleet.proofs.Calls.{handled-answer, handled-is}
 use Rattle.fleet.proofs.Checks.{line-to, line-within}
 use Rattle.fleet.proofs.Passing.{passed-line}
 use Rattle.fleet_log.specs.Logged.{LogsInFleet}
@@ -39,17 +40,6 @@ same-fine x y fine k =
 
 pub fine-room : (x : Slices) → slicesFault x ≡ 0 → slicesRoomFault x ≡ 0
 fine-room x fine = or-left (slicesRoomFault x) (tableFault 256 2048 (tableOf x)) fine
-
--- the parts of a promise, and the promise of its parts
-pub handled-answer : (x : Slices) (used room : ℕ) (l : List ℕ) (a : Answer) (r r′ : List ℕ) → Handled x used room l a r r′
-    → a ≡ answerOf (eventFault x r used room l) (entryOf (tableOf x) (frameOf l .to) (outcomeOf (tableOf x) r (frameOf l)))
-handled-answer x used room l a r r′ h = h .answer
-
-pub handled-is : (x : Slices) (used room : ℕ) (l : List ℕ) (a : Answer) (r r′ : List ℕ)
-    → a ≡ answerOf (eventFault x r used room l) (entryOf (tableOf x) (frameOf l .to) (outcomeOf (tableOf x) r (frameOf l)))
-    → r′ ≡ cond (eqb (eventFault x r used room l) 0) (alteredBy (tableOf x) r (frameOf l)) r
-    → Handled x used room l a r r′
-handled-is x used room l a r r′ e f = record { answer = e; record-after = f }
 
 -- two values that are taken where a fault is 0, and are equal there
 where-none : {A : Type 0} (n m : ℕ) (a b c : A) → n ≡ m → (n ≡ 0 → a ≡ b) → cond (eqb n 0) a c ≡ cond (eqb m 0) b c
@@ -111,7 +101,7 @@ module _ (x y : Slices) (same : Same (tableOf x) (tableOf y)) (fine : slicesFaul
     same-record-after = where-none (fault x) (fault y) (alteredBy t r f) (alteredBy u r f) r same-event-fault bytes-same
 
     pub handled-same : (a : Answer) (r′ : List ℕ) → Handled x used room l a r r′ → Handled y used room l a r r′
-    handled-same a r′ h = handled-is y used room l a r r′ (handled-answer x used room l a r r′ h ∙ same-answer) (h .record-after ∙ same-record-after)
+    handled-same a r′ h = handled-is y used room l a r r′ (handled-answer h ∙ same-answer) (h .record-after ∙ same-record-after)
 
   pub logs-same : (used : ℕ) (l : List ℕ) (a : Answer) (r r′ : List ℕ) (log log′ : List Entry) → LogsInFleet x used l a r r′ log log′ → LogsInFleet y used l a r r′ log log′
   logs-same used l a r r′ log log′ h =

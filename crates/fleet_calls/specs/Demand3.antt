@@ -15,7 +15,7 @@ use Rattle.fleet_theory.specs.Fleet.{start, fleetFault, eventLineFault, linkCha
 use Rattle.fleet_theory.specs.Words.{IsFrame, MaySend, TrulySent, RefusedIn, endRests, IsOpening, TrulySentLine, Usable}
 use Rattle.fleet.specs.declared.Finishing.{Finishing}
 use Rattle.fleet.specs.declared.Finishing.the-variants.{Says}
-use Rattle.fleet.specs.Answers.{whetherFinished}
+use Rattle.fleet.specs.Answers.{finishingReply, whetherFinished}
 use Rattle.fleet_calls.specs.Calls.{SameTable, LoggedCall, LoggedLeft, freshLogged, KeptLogged, LoggedCalls, leftAfterLogged, loggedLines}
 
 -- "Changes: for each accepted event, the record bytes whose value after it differs from that before; a link's are those in its own four bytes": from the record r on. A refused call alters none.
@@ -68,7 +68,7 @@ module _ (x : Slices) (log : List Entry) (cs : List LoggedCall) where
     -- 20 to 22 let the record pass at every moment; so `finished`, called on it in any slices of the table, says whether the fleet is finished, and refuses nothing
     pub passes : (before later : List LoggedCall) → cs ≡ before ++ later → fleetFault t (leftAt before .bytes) ≡ 0
     pub says : (before later : List LoggedCall) → cs ≡ before ++ later → (y : Slices) → SameTable y x
-        → (q : Finishing) → q ≡ whetherFinished y (leftAt before .bytes) → q ≡ Says (finished t (leftAt before .bytes))
+        → (q : Finishing) → finishingReply q ≡ whetherFinished y (leftAt before .bytes) → q ≡ Says (finished t (leftAt before .bytes))
     -- "after it no link has had more than eight changes", and not more than four
     pub eight : (i : ℕ) → i < x .links → changesOver (start x .bytes) cs i ≤ 8
     pub four : (i : ℕ) → i < x .links → changesOver (start x .bytes) cs i ≤ 4

@@ -4,7 +4,7 @@ use mathlib.Core.Path.{_≡_, refl, sym, _∙_}
 use mathlib.Core.Logic.{_⊎_, inl, inr}
 use mathlib.Core.Bool.{Bool, true, false, cond}
 use mathlib.Core.List.{List}
-use lib.Dec.{ltb}
+use lib.Dec.{ltb, eqb}
 use lib.ListN.{length}
 use borrow.Author.Tests.{le-ltb, lt-ltb}
 use Rattle.range.specs.First.{orElse}
@@ -19,19 +19,21 @@ use Rattle.table.proofs.Slices.{legal-slices}
 use Rattle.table_write.specs.Writing.{writeFault}
 use Rattle.table_write.specs.declared.Writing.the-variants.{Length}
 use Rattle.table_laws.proofs.Functions.{read-then-write, write-then-read}
-use Rattle.plan_theory.specs.Plan.{kept, planByte}
+use Rattle.plan_theory.specs.Plan.{kept, keptCount, costOf, planByte}
 use Rattle.plan_theory.proofs.Plan.{plan-rule, only-by-rule, plan-criterion, plan-unique}
 use Rattle.plan_theory.proofs.Settled.{settled-is-plan}
 use Rattle.plan_theory.proofs.Slse.{slse-is-plan}
-use Rattle.plan_methods.specs.Planning.{planFault, turnsFault, planningOf, Plans}
+use Rattle.plan_methods.specs.Planning.{planFault, turnsFault, Plans}
 use Rattle.plan_methods.specs.declared.Planning.{Planning}
-use Rattle.plan_methods.specs.declared.Planning.the-variants.{Refused}
+use Rattle.plan_methods.specs.declared.Planning.the-variants.{Plan, Refused}
+use Rattle.plan_methods.proofs.Answers.{plans-answer}
+use Rattle.table_write.proofs.Answers.{writes-answer}
 use Rattle.plan_laws.specs.Demand2.{LeavesPlan, Demand2}
 
 -- what a call leaves, by its fault
 module _ (fault : ℕ) (t : Table) (r : Planning) (before after : List ℕ) (p : Plans fault t r before after) where
-  answered : r ≡ planningOf fault t
-  answered = p .answer
+  answered : r ≡ cond (eqb fault 0) (Plan (keptCount t) (costOf t (kept t))) (Refused fault)
+  answered = plans-answer p
 
   plans-none : fault ≡ 0 → t .links ≤ length before → LeavesPlan t r before after
   plans-none z room =
@@ -98,7 +100,7 @@ demand-2 x fine fits =
       read-written = read-then-write;
       written-read = λ w out out′ r b b′ write enough holds read.
           let none : writeFault 256 2048 x (length out) ≡ 0 = rw (le-ltb (length out) (textEnd t) enough) fine in
-          let whole : w ≡ Length (textEnd t) = write .answer ∙ rw none in
+          let whole : w ≡ Length (textEnd t) = writes-answer write ∙ rw none in
           let back = write-then-read x (textEnd t) b b′ out out′ r fits (rw whole at write) holds read in
           (whole, back .0, back .1);
     }
