@@ -17,18 +17,21 @@ pub fn text_in(input: &[u8], length: usize, random: &mut Random) -> Result<Vec<u
     written("script text", length, random, library, reference)
 }
 
-/// The whole output, with a slice that is long enough.
+/// The whole output, with a slice that is long enough for any; one time in eight also with slices
+/// that just hold it, and that are one byte too short.
 #[track_caller]
 pub fn text(input: &[u8], random: &mut Random) -> Vec<u8> {
     let length = script::room_for(input.len()) + random.below(3);
-    text_in(input, length, random).expect("the slice is long enough")
+    let output = text_in(input, length, random).expect("the slice is long enough");
+    if random.one_in(8) {
+        assert!(text_in(input, output.len(), random).as_ref() == Ok(&output));
+        assert_eq!(text_in(input, output.len() - 1, random), Err(8));
+    }
+    output
 }
 
-/// The refusal of a piece or of the end: 8 also where one of the other slices is too short.
-pub fn state_fault(given: Slices, record: &[u8], short: bool) -> Option<u8> {
-    if short {
-        return Some(8);
-    }
+/// The refusal of a piece or of the end by the table and the record.
+pub fn state_fault(given: Slices, record: &[u8]) -> Option<u8> {
     let checked = Site::of(given).and_then(|site| site.check_record(record));
     checked.err()
 }
@@ -159,7 +162,8 @@ fn printed(answer: u64, out: &Buffer<u8>, untouched: &Buffer<u8>) -> Result<Vec<
     }
 }
 
-/// Handles the script in these pieces and compares after each; hands back all that is printed.
+/// Handles the script in these pieces and compares after each; hands back all that is printed. The
+/// slices just hold what is printed, are longer, or are first too short by a byte.
 #[track_caller]
 pub fn in_pieces<'a>(
     table: &Table,
@@ -170,15 +174,22 @@ pub fn in_pieces<'a>(
     let mut by_reference = Script::fresh(table.clone());
     let mut all = Vec::new();
     for piece in pieces {
-        let length = by_library.enough(piece) + random.below(3);
+        by_reference.piece(piece);
+        let exact = by_reference.printed.len() - all.len();
+        if exact > 0 && random.one_in(4) {
+            assert_eq!(by_library.piece(piece, exact - 1, random), Err(8));
+        }
+        let length = random.pick(&[exact, exact + 1, by_library.enough(piece)]);
         let printed = by_library.piece(piece, length, random);
         all.extend(printed.expect("a piece of a legal script"));
-        by_reference.piece(piece);
         by_library.assert_like(&by_reference);
         assert!(all == by_reference.printed);
     }
-    let end = by_library.end(END + random.below(3), random);
+    let whole = by_reference.end();
+    let exact = whole.len() - all.len();
+    assert_eq!(by_library.end(exact - 1, random), Err(8));
+    let end = by_library.end(random.pick(&[exact, exact + 1, END]), random);
     all.extend(end.expect("the end of a legal script"));
-    assert!(all == by_reference.end());
+    assert!(all == whole);
     all
 }

@@ -89,16 +89,13 @@ pub fn output(input: &[u8]) -> Vec<u8> {
     }
 }
 
-/// The bytes that are enough for any output.
+/// Bytes that are enough for any output of an input of so many.
 pub fn room_for(input: usize) -> usize {
     5 * input + 5
 }
 
 /// Fills `out` from its start with the output and answers the length; 8 where `out` is shorter
-/// than the bytes that are enough for any.
+/// than the output.
 pub fn text(input: &[u8], out: &mut [u8]) -> Result<usize, u8> {
-    if out.len() < room_for(input.len()) {
-        return Err(8);
-    }
     put_text(&output(input), out)
 }

@@ -1,7 +1,9 @@
 // The library of scripts for C and Rust: whole, in pieces, and the end.
+ghost use lib.ListN.{length};
 ghost use Rattle.table.specs.Slices.{slicesOf};
+ghost use Rattle.output.specs.Output.{shortFault};
 ghost use Rattle.script_theory.specs.Script.{endText, scriptOutput};
-ghost use Rattle.script_output.specs.Handling.{endCallFault, textCallFault};
+ghost use Rattle.script_output.specs.Handling.{endCallFault};
 ghost use Rattle.packed_answers.specs.Packed.{PrintsPacked};
 ghost use Rattle.script_exports.specs.Packed.{HandlesPiecePacked};
 use packed_answers::ANSWER_BASE;
@@ -12,7 +14,8 @@ use script_steps::Progress;
 // `script_output::script_text`, its answer packed.
 #[no_mangle]
 pub extern "C" fn planner_script_text(text: &[u8], out: &mut [u8]) -> u64
-    ensures { λ r. ⌜ PrintsPacked (textCallFault (now (text .entry)) (now (out .entry))) (scriptOutput (now (text .entry))) r (now (out .entry)) (now (out .exit)) ⌝ }
+    ensures { λ r. let printed = scriptOutput (now (text .entry)) in
+        ⌜ PrintsPacked (shortFault (length (now (out .entry))) printed) printed r (now (out .entry)) (now (out .exit)) ⌝ }
 {
     packed_output(script_output::script_text(text, out))
 }
@@ -89,7 +92,8 @@ pub extern "C" fn planner_script_end(
     out: &mut [u8],
 ) -> u64
     ensures { λ r. let x = slicesOf number probes links (now (needs .entry)) (now (lows .entry)) (now (highs .entry)) (now (costs .entry)) in
-        ⌜ PrintsPacked (endCallFault x (now (rec .entry)) (now (out .entry))) (endText x (now (rec .entry)) held changed) r (now (out .entry)) (now (out .exit)) ⌝ }
+        let printed = endText x (now (rec .entry)) held changed in
+        ⌜ PrintsPacked (endCallFault x (now (rec .entry)) printed (now (out .entry))) printed r (now (out .entry)) (now (out .exit)) ⌝ }
 {
     let progress = Progress {
         used: 0,

@@ -1,4 +1,4 @@
-// The lines that the script program prints, stored within the bounds that these functions ask.
+// The lines that the script program prints, stored within the bounds that these functions ask, or where they fit.
 ghost use mathlib.Core.Path.{_≡_};
 ghost use mathlib.Core.Bool.{cond};
 ghost use mathlib.Core.List.{[]};
@@ -8,6 +8,20 @@ ghost use lib.ListN.{length};
 ghost use lib.Seq.{sets};
 ghost use Rattle.output.specs.Output.{refusalLine};
 ghost use Rattle.script_theory.specs.Script.{entryLine, answerLine, lastLine};
+ghost use Rattle.script_lines.specs.Fitting.{capped, storedWithin};
+
+// No slice has so many bytes.
+const MOST_BYTES: usize = 9223372036854775808;
+
+// A length, counted as far as a slice can be long.
+pub fn cap(length: usize) -> usize
+    ensures { λ r. ⌜ r ≡ capped length ⌝ }
+{
+    if length < MOST_BYTES {
+        return length;
+    }
+    MOST_BYTES
+}
 
 // An entry's line.
 pub fn put_entry(out: &mut [u8], at: usize, e: wake_log::Entry)
@@ -27,19 +41,33 @@ pub fn put_entry(out: &mut [u8], at: usize, e: wake_log::Entry)
     out[at + 14] = b'\n';
 }
 
-// An answer's line. Answers where the next line starts.
-pub fn put_answer(out: &mut [u8], at: usize, answer: wake_log::Answer) -> usize
-    requires { ⌜ at + length (answerLine answer) ≤ length (now out) ⌝ }
-    ensures { λ r. ⌜ (now (out .exit) ≡ sets (now (out .entry)) at (answerLine answer)) × (r ≡ at + length (answerLine answer)) ⌝ }
+// The length of an answer's line.
+fn answer_length(answer: wake_log::Answer) -> usize
+    ensures { λ r. ⌜ r ≡ length (answerLine answer) ⌝ }
 {
+    match answer {
+        wake_log::Answer::Logged(_) => 15,
+        wake_log::Answer::Refused(_) => 5,
+    }
+}
+
+// An answer's line, where it fits. Answers where the next line starts.
+pub fn put_answer(out: &mut [u8], at: usize, answer: wake_log::Answer) -> usize
+    requires { ⌜ at ≤ 9223372036854775808 ⌝ }
+    ensures { λ r. ⌜ (now (out .exit) ≡ storedWithin (now (out .entry)) at (answerLine answer)) × (r ≡ capped (at + length (answerLine answer))) ⌝ }
+{
+    let next = at + answer_length(answer);
+    if out.len() < next {
+        return cap(next);
+    }
     match answer {
         wake_log::Answer::Logged(e) => {
             put_entry(out, at, e);
-            at + 15
+            next
         }
         wake_log::Answer::Refused(fault) => {
             output::refusals::put_refusal(out, at, fault);
-            at + 5
+            next
         }
     }
 }

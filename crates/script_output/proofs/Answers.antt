@@ -1,5 +1,5 @@
 -- How the code's answers come to what is promised.
-use Prim.Native.Nat.{ℕ, _+_, _*_, _≤_, _<_}
+use Prim.Native.Nat.{ℕ, _+_, _≤_, _<_}
 use mathlib.Core.Path.{_≡_, sym, _∙_, ap}
 use mathlib.Core.Bool.{Bool, true, false, cond}
 use mathlib.Core.List.{List, _++_}
@@ -7,22 +7,27 @@ use native.Mathlib.Omega.{arith}
 use native.Mathlib.Decide.{decLt}
 use lib.Dec.{eqb, ltb}
 use lib.ListN.{length, take, drop}
-use lib.Seq.{sets, take-take, take-all, take-at, length-take-le}
+use lib.Seq.{sets, take-take, take-all, length-take-le}
 use borrow.Author.Tests.{eq-eqb, ne-eqb, lt-ltb, le-ltb, ltb-false}
 use Rattle.range.specs.First.{orElse}
 use Rattle.range.proofs.Bools.{when-none}
-use Rattle.range.proofs.Faults.{or-left, or-right}
+use Rattle.range.proofs.Faults.{or-left, or-right, or-here, or-next}
 use Rattle.range.proofs.Sets.{sets-start}
+use Rattle.output.specs.Output.{shortFault, Prints}
+use Rattle.output.specs.declared.Output.the-variants.{Refused}
 use Rattle.output.proofs.Printing.{filled-within}
 use Rattle.fleet_theory.specs.Fleet.{fleetFault}
+use Rattle.table.specs.Legal.{lentFault}
 use Rattle.table.specs.Slices.{Slices, tableOf, slicesFault}
-use Rattle.script_theory.specs.Script.{Script}
+use Rattle.script_lines.proofs.Fitting.{capped-below}
+use Rattle.script_theory.specs.Script.{Script, afterPiece}
 use Rattle.script_steps.specs.declared.Progress.{Progress}
 use Rattle.script_steps.specs.declared.pieces.Place.{Place}
 use Rattle.script_steps.specs.Within.{underWay, Buffered}
+use Rattle.script_steps.proofs.PieceLaws.{copied-part}
 use Rattle.script_output.specs.declared.Handling.{Handling}
 use Rattle.script_output.specs.declared.Handling.the-variants as handling
-use Rattle.script_output.specs.Handling.{callFault, pieceFault, before, Handles}
+use Rattle.script_output.specs.Handling.{siteFault, pieceFault, before, Handles}
 
 pub unhandled : (fault n : ℕ) (q : Script) (rec line out : List ℕ) → n ≡ fault → (n ≡ 0 → ⊥) → Handles fault q (handling.Refused n) rec rec line line out out
 unhandled fault n q rec line out e some =
@@ -30,25 +35,25 @@ unhandled fault n q rec line out e some =
     record { answer = rw f (ap handling.Refused e); record-after = rw f; line-after = rw f; out-after = rw f }
 
 pub handled-all : (fault : ℕ) (q : Script) (r : Place) (rec rec′ line line′ buffer out out′ : List ℕ) → fault ≡ 0 → Buffered q 0 r rec′ buffer out out′
-    → line′ ≡ sets line 0 (take (r .progress .held) buffer) → r .progress .held ≤ length line → r .at ≤ length out
+    → line′ ≡ sets line 0 (take (r .progress .held) buffer) → r .progress .held ≤ length line → length (q .out) ≤ length out → length out < 9223372036854775808
     → Handles fault q (handling.Printed (r .at) (r .progress)) rec rec′ line line′ out out′
-handled-all fault q r rec rec′ line line′ buffer out out′ f b s l m =
+handled-all fault q r rec rec′ line line′ buffer out out′ f b s l fits most =
     let none = eq-eqb fault 0 f in
     let k = b .held in
-    let n = b .at in
+    let e = b .at ∙ capped-below (0 + length (q .out)) (omega arith) in
     let z : r .at ≡ length (q .out) = omega arith in
     record {
       answer = rw (none, b .used, b .held, b .changed, z);
       record-after = rw none (b .bytes);
       line-after = rw none (s ∙ ap (sets line 0) (b .kept) ∙ sets-start line (q .held) (omega arith));
-      out-after = rw none (b .printed ∙ sets-start out (q .out) (omega arith));
+      out-after = rw none (b .printed (omega arith) ∙ sets-start out (q .out) fits);
     }
 
 -- of an unfinished line at most 16 bytes are held
-abbrev most : ℕ → ℕ
+abbrev pub most : ℕ → ℕ
 most h = cond (ltb h 16) h 16
 
-most-few : (h : ℕ) → most h ≤ 16
+pub most-few : (h : ℕ) → most h ≤ 16
 most-few h = go (decLt h 16)
   where
     go : Dec (h < 16) → most h ≤ 16
@@ -64,9 +69,6 @@ held-part line h long = go (decLt h 16)
         let n = length-take-le 16 line long in
         rw (le-ltb h 16 (omega arith)) (sym (take-all h (take 16 line) (omega arith)))
 
-held-length : (line : List ℕ) (h : ℕ) → 16 ≤ length line → most h ≡ length (take h (take 16 line))
-held-length line h long = sym (ap length (sym (held-part line h long)) ∙ length-take-le (most h) line (let k = most-few h in omega arith))
-
 -- copied into a buffer, they are the same
 pub copied-same : (b p : Progress) (rec line buffer buffer′ : List ℕ) → (b .used ≡ p .used) × (b .held ≡ most (p .held)) × (b .changed ≡ p .changed)
     → 16 ≤ length line → 16 ≤ length buffer → buffer′ ≡ sets buffer 0 (take (b .held) line) → underWay b rec buffer′ ≡ before p rec line
@@ -74,47 +76,60 @@ copied-same b p rec line buffer buffer′ e long l s =
     let n = b .held in
     let few = most-few (p .held) in
     let k = e .1 in
-    let m = length-take-le n line (omega arith) in
-    let c : take n buffer′ ≡ take n line =
-    ap (take n) (s ∙ sets-start buffer (take n line) (omega arith)) ∙ take-at (take n line) (drop (length (take n line)) buffer) n m in
+    let c = copied-part buffer buffer′ line n s (omega arith) (omega arith) in
     rw (c, e .0, e .1, e .2) (rw (held-part line (p .held) long))
 
+-- The faults of a piece, one after the other.
+module _ (x : Slices) (p : Script) (piece : List ℕ) (line room state : ℕ) (long : 16 ≤ line) (f : state ≡ siteFault x (p .bytes)) where
+  abbrev printed : List ℕ
+  printed = afterPiece x 1024 p piece .out
+
+  pub fault-site : (state ≡ 0 → ⊥) → state ≡ pieceFault x p piece line room
+  fault-site some = rw (le-ltb line 16 long) (or-here state (siteFault x (p .bytes)) (shortFault room printed) f some)
+
+  pub fault-short : (n : ℕ) → state ≡ 0 → n ≡ shortFault room printed → n ≡ pieceFault x p piece line room
+  fault-short n none e = rw (le-ltb line 16 long) (or-next state (siteFault x (p .bytes)) (shortFault room printed) n f none e)
+
+-- refused after nothing was stored
+pub prints-kept : (fault n : ℕ) (printed out out′ : List ℕ) → n ≡ fault → (n ≡ 0 → ⊥) → out′ ≡ out → Prints fault printed (Refused n) out out′
+prints-kept fault n printed out out′ e some same = let f = ne-eqb fault 0 (λ z. some (e ∙ z)) in record { answer = rw f (ap Refused e); out = rw f same }
+
 -- what a piece's call has found, where it found no fault
-pub record Given (x : Slices) (rec line : List ℕ) (held out piece : ℕ) : Type 0 where
+pub record Given (x : Slices) (q : Script) (rec line : List ℕ) (held room : ℕ) : Type 0 where
   pub few : held ≤ 16
   pub long : 16 ≤ length line
-  pub room : 5 * (held + piece) ≤ out
   pub fine : slicesFault x ≡ 0
   pub good : fleetFault (tableOf x) rec ≡ 0
+  pub fits : length (q .out) ≤ room
 
 -- The fault of a piece's call, as the code finds it.
-module _ (x : Slices) (rec line : List ℕ) (h held out piece short fault : ℕ) (m : held ≡ most h) (s : short ≡ pieceFault (length line) out held piece)
-    (f : fault ≡ callFault short x rec) where
-  same-short : pieceFault (length line) out held piece ≡ pieceFault (length line) out (length (take h (take 16 line))) piece
-  same-short = go (decLt (length line) 16)
+module _ (x : Slices) (b p : Progress) (piece rec line : List ℕ) (room fault : ℕ)
+    (e : (b .used ≡ p .used) × (b .held ≡ most (p .held)) × (b .changed ≡ p .changed))
+    (f : fault ≡ pieceFault x (underWay b rec line) piece (length line) room) where
+  pub call-is : fault ≡ pieceFault x (before p rec line) piece (length line) room
+  call-is = f ∙ go (decLt (length line) 16)
     where
-      go : Dec (length line < 16) → pieceFault (length line) out held piece ≡ pieceFault (length line) out (length (take h (take 16 line))) piece
+      go : Dec (length line < 16) → pieceFault x (underWay b rec line) piece (length line) room ≡ pieceFault x (before p rec line) piece (length line) room
       go (yes l) = rw (lt-ltb (length line) 16 l)
-      go (no d) = ap (λ (k : ℕ). pieceFault (length line) out k piece) (m ∙ held-length line h (omega arith))
+      go (no d) =
+          let same : underWay b rec line ≡ before p rec line = rw (e .0, e .1, e .2, held-part line (p .held) (omega arith)) in
+          ap (λ (q : Script). pieceFault x q piece (length line) room) same
 
-  pub call-is : fault ≡ callFault (pieceFault (length line) out (length (take h (take 16 line))) piece) x rec
-  call-is = f ∙ ap (λ (k : ℕ). callFault k x rec) (s ∙ same-short)
-
-  pub call-given : fault ≡ 0 → Given x rec line held out piece
+  pub call-given : fault ≡ 0 → Given x (afterPiece x 1024 (before p rec line) piece) rec line (b .held) room
   call-given none =
+      let printed = afterPiece x 1024 (before p rec line) piece .out in
+      let short = lentFault (length line) 16 in
       let state = orElse (slicesFault x) (fleetFault (tableOf x) rec) in
-      let z = or-left short state (sym f ∙ none) in
-      let y = or-right short state (sym f ∙ none) in
-      let w = sym s ∙ z in
-      let few = most-few h in
+      let last = shortFault room printed in
+      let z = sym call-is ∙ none in
+      let rest = or-right short (orElse state last) z in
+      let good = or-left state last rest in
       record {
-        few = omega arith;
-        long = ltb-false (length line) 16 (when-none (ltb (length line) 16) 7 (or-left (cond (ltb (length line) 16) 8 0) (cond (ltb out (5 * (held + piece))) 8 0) w));
-        room =
-            ltb-false out (5 * (held + piece))
-            (when-none (ltb out (5 * (held + piece))) 7 (or-right (cond (ltb (length line) 16) 8 0) (cond (ltb out (5 * (held + piece))) 8 0) w));
-        fine = or-left (slicesFault x) (fleetFault (tableOf x) rec) y;
-        good = or-right (slicesFault x) (fleetFault (tableOf x) rec) y;
+        few = (let k = e .1 in let few = most-few (p .held) in omega arith);
+        long = ltb-false (length line) 16 (when-none (ltb (length line) 16) 7 (or-left short (orElse state last) z));
+        fine = or-left (slicesFault x) (fleetFault (tableOf x) rec) good;
+        good = or-right (slicesFault x) (fleetFault (tableOf x) rec) good;
+        fits = ltb-false room (length printed) (when-none (ltb room (length printed)) 7 (or-right state last rest));
       }
 
 -- What is answered as printed stands within the lent slice.

@@ -1,12 +1,12 @@
 -- What reading a table before a script gives.
 use Prim.Native.Nat.{ℕ, _-_, _≤_}
-use mathlib.Core.Path.{_≡_, refl, sym, _∙_, ap}
+use mathlib.Core.Path.{_≡_, sym, _∙_, ap, subst}
 use mathlib.Core.Bool.{true}
 use mathlib.Core.List.{List}
 use native.Mathlib.Omega.{arith}
 use native.Mathlib.Decide.{ℕ-discrete}
 use lib.ListN.{length, take, drop, length-drop}
-use lib.Seq.{sets, take-all}
+use lib.Seq.{take-all}
 use borrow.Author.Tests.{ne-eqb}
 use Rattle.range.proofs.Faults.{or-none}
 use Rattle.table.specs.Legal.{roomFault}
@@ -19,8 +19,6 @@ use Rattle.table_laws.proofs.Round.{text-within}
 use Rattle.table_laws.proofs.Reading.{blank, blank-found, accepted, refusal-is, read-none, read-numbers, read-legal, read-held}
 use Rattle.output.specs.Output.{refusalLine, shortFault, Prints}
 use Rattle.output.specs.declared.Output.{Output}
-use Rattle.output.specs.declared.Output.the-variants.{Length}
-use Rattle.output.proofs.Printing.{prints-done, long-enough}
 use Rattle.table.specs.Slices.{Slices, slicesFault, slicesOf}
 use Rattle.script_theory.specs.Script.{inSlices, scriptText, scriptOutput}
 use Rattle.script_steps.proofs.Ends.{links-within}
@@ -43,12 +41,11 @@ module _ (s : List ℕ) (r : Reading) (needs lows highs costs : List ℕ)
   abbrev b : Lent
   b = lentOf needs lows highs costs
 
-  pub refusal-printed : (n : ℕ) (o : Output) (out out′ : List ℕ) → r ≡ Unread n → 5 ≤ length out → Prints (shortFault (length out) (refusalLine n)) (refusalLine n) o out out′
-      → Prints 0 (scriptOutput s) o out out′
-  refusal-printed n o out out′ e l p =
+  pub refusal-printed : (n : ℕ) (o : Output) (out out′ : List ℕ) → r ≡ Unread n → Prints (shortFault (length out) (refusalLine n)) (refusalLine n) o out out′
+      → Prints (shortFault (length out) (scriptOutput s)) (scriptOutput s) o out out′
+  refusal-printed n o out out′ e p =
       let u = refusal-is true s r blank b read n e in
-      rw (ne-eqb (textFault 256 2048 true s) 0 (λ z. u .1 (blank-found true s ∙ z)), ← u .0 ∙ blank-found true s)
-      (rw (long-enough (length out) (refusalLine n) l) at p)
+      rw (ne-eqb (textFault 256 2048 true s) 0 (λ z. u .1 (blank-found true s ∙ z)), ← u .0 ∙ blank-found true s) p
 
   module _ (number probes links rest : ℕ) (e : r ≡ Read number probes links rest) where
     none : readFault 256 2048 true s 256 2048 2048 2048 ≡ 0
@@ -78,16 +75,13 @@ module _ (s : List ℕ) (r : Reading) (needs lows highs costs : List ℕ)
     behind-is : behind ≡ drop rest s
     behind-is = take-all (length s - rest) (drop rest s) (let n = length-drop rest s in omega arith)
 
-    pub behind-length : length behind ≡ length s - rest
-    behind-length = ap length behind-is ∙ length-drop rest s
-
-    pub script-printed : (n : ℕ) (out out′ : List ℕ) → out′ ≡ sets out 0 (scriptText (slicesOf number probes links needs lows highs costs) 1024 behind)
-        → n ≡ length (scriptText (slicesOf number probes links needs lows highs costs) 1024 behind) → n ≤ length out → Prints 0 (scriptOutput s) (Length n) out out′
-    script-printed n out out′ o k l =
-        let text = scriptText (slicesOf number probes links needs lows highs costs) 1024 behind in
-        let same : text ≡ scriptOutput s =
+    pub script-printed : (o : Output) (out out′ : List ℕ)
+        → (let text = scriptText (slicesOf number probes links needs lows highs costs) 1024 behind in Prints (shortFault (length out) text) text o out out′)
+        → Prints (shortFault (length out) (scriptOutput s)) (scriptOutput s) o out out′
+    script-printed o out out′ p =
+        let same : scriptText (slicesOf number probes links needs lows highs costs) 1024 behind ≡ scriptOutput s =
         ap (λ (x : Slices). scriptText x 1024 behind) slices-are
         ∙ ap (λ (z : List ℕ). scriptText (inSlices (ofText s)) 1024 z) behind-is
         ∙ ap (λ (m : ℕ). scriptText (inSlices (ofText s)) 1024 (drop m s)) (is .3)
         ∙ sym (output-read s (accepted true s r blank b read none)) in
-        prints-done 0 n (scriptOutput s) out out′ refl (k ∙ ap length same) l (o ∙ ap (sets out 0) same)
+        subst (λ (z : List ℕ). Prints (shortFault (length out) z) z o out out′) same p

@@ -1,5 +1,5 @@
 -- What the calls of a script promise: the answer, and every lent slice at exit.
-use Prim.Native.Nat.{ℕ, _+_, _*_}
+use Prim.Native.Nat.{ℕ}
 use mathlib.Core.Path.{_≡_}
 use mathlib.Core.Bool.{cond}
 use mathlib.Core.List.{List, [], _++_}
@@ -9,22 +9,24 @@ use Rattle.range.specs.First.{orElse}
 use Rattle.fleet_theory.specs.Fleet.{fleetFault}
 use Rattle.table.specs.Legal.{lentFault}
 use Rattle.table.specs.Slices.{Slices, tableOf, slicesFault}
+use Rattle.output.specs.Output.{shortFault}
 use Rattle.script_theory.specs.Script.{Script, afterPiece}
 use Rattle.script_steps.specs.declared.Progress.{Progress}
 use Rattle.script_output.specs.declared.Handling.{Handling}
 use Rattle.script_output.specs.declared.Handling.the-variants as handling
 
--- the table's checks, then 20, 21, 22; 8 of the lent slices comes first
-abbrev pub callFault : ℕ → Slices → List ℕ → ℕ
-callFault lent x rec = orElse lent (orElse (slicesFault x) (fleetFault (tableOf x) rec))
-
--- 8: a slice of 16 bytes holds an unfinished line; five bytes for each byte that is held or given are enough for what is printed
-abbrev pub pieceFault : ℕ → ℕ → ℕ → ℕ → ℕ
-pieceFault line out held piece = orElse (lentFault line 16) (lentFault out (5 * (held + piece)))
-
 -- the script under way before a call: of an unfinished line at most 16 bytes are held
 abbrev pub before : Progress → List ℕ → List ℕ → Script
 before p rec line = record { bytes = rec; used = p .used; changed = p .changed; held = take (p .held) (take 16 line); out = [] }
+
+-- the table's checks, then 20, 21, 22
+abbrev pub siteFault : Slices → List ℕ → ℕ
+siteFault x rec = orElse (slicesFault x) (fleetFault (tableOf x) rec)
+
+-- the fault of a piece behind the script p, with so many bytes for an unfinished line and so many for what is printed
+-- 8 for fewer than 16 bytes for an unfinished line comes first; 8 for what is printed comes last, exactly where it is longer than its slice
+abbrev pub pieceFault : Slices → Script → List ℕ → ℕ → ℕ → ℕ
+pieceFault x p piece line room = orElse (lentFault line 16) (orElse (siteFault x (p .bytes)) (shortFault room (afterPiece x 1024 p piece .out)))
 
 -- a piece handled: the script q after it, or the refusal alone and every slice unchanged
 pub record Handles (fault : ℕ) (q : Script) (r : Handling) (rec rec′ line line′ out out′ : List ℕ) : Type 0 where
@@ -34,15 +36,12 @@ pub record Handles (fault : ℕ) (q : Script) (r : Handling) (rec rec′ line li
   pub line-after : line′ ≡ cond (eqb fault 0) (q .held ++ drop (length (q .held)) line) line
   pub out-after : out′ ≡ cond (eqb fault 0) (q .out ++ drop (length (q .out)) out) out
 
--- the checks of a piece behind the script p, of the text's end, and of a whole text
+-- the faults of a piece and of the text's end
 abbrev pub pieceCallFault : Slices → Progress → List ℕ → List ℕ → List ℕ → List ℕ → ℕ
-pieceCallFault x p piece rec line out = callFault (pieceFault (length line) (length out) (length (before p rec line .held)) (length piece)) x rec
+pieceCallFault x p piece rec line out = pieceFault x (before p rec line) piece (length line) (length out)
 
-abbrev pub endCallFault : Slices → List ℕ → List ℕ → ℕ
-endCallFault x rec out = callFault (lentFault (length out) 16) x rec
-
-abbrev pub textCallFault : List ℕ → List ℕ → ℕ
-textCallFault text out = lentFault (length out) (5 * length text + 5)
+abbrev pub endCallFault : Slices → List ℕ → List ℕ → List ℕ → ℕ
+endCallFault x rec printed out = orElse (siteFault x rec) (shortFault (length out) printed)
 
 -- "For each it prints the entry .. A refused line prints its refusal and the script goes on." "Its log has 1,024 entries."
 abbrev pub HandlesPiece : Slices → Progress → List ℕ → Handling → List ℕ → List ℕ → List ℕ → List ℕ → List ℕ → List ℕ → Type 0

@@ -3,13 +3,14 @@ use output::Output;
 use script_steps::Progress;
 ghost use mathlib.Core.Path.{_≡_};
 ghost use mathlib.Core.Bool.{cond};
-ghost use Prim.Native.Nat.{ℕ};
+ghost use Prim.Native.Nat.{_≤_, _<_};
 ghost use lib.Dec.{ltb};
 ghost use lib.ListN.{length};
-ghost use Rattle.output.specs.Output.{Prints};
+ghost use Rattle.output.specs.Output.{shortFault, Prints};
 ghost use Rattle.table.specs.Slices.{slicesOf};
 ghost use Rattle.script_theory.specs.Script.{endText, scriptOutput};
-ghost use Rattle.script_output.specs.Handling.{callFault, pieceFault, HandlesPiece, endCallFault, textCallFault};
+ghost use Rattle.script_steps.specs.Within.{underWay};
+ghost use Rattle.script_output.specs.Handling.{pieceFault, HandlesPiece, endCallFault};
 
 // A piece's answer: the length printed and how far the script has come, or the number of the refusal.
 pub enum Handling {
@@ -31,22 +32,10 @@ fn begun(progress: Progress) -> Progress
     }
 }
 
-// 8 for a slice that is too short, for the bytes of a piece and those held before it.
-fn piece_fault(line: usize, out: usize, held: u32, piece: &[u8]) -> u8
-    ensures { λ r. ⌜ r ≡ pieceFault line out held (length (now (piece .entry))) ⌝ }
-{
-    if line < 16 {
-        return 8;
-    }
-    if out / 5 < held as usize + piece.len() {
-        return 8;
-    }
-    0
-}
-
-// 8 for a slice that is too short, then the table's own, then 20, 21, 22. The table's number does not bear on it.
-fn call_fault(
-    short: u8,
+// The fault of a piece: 8 for fewer than 16 bytes of `line`, the table's own, 20 to 22, and 8 where the output slice, of length `room`, does not hold what is printed.
+// Five bytes for each byte held or given hold any output; else it is counted, on copies.
+fn piece_fault(
+    number: u16,
     probes: u16,
     links: u16,
     needs: &[u16],
@@ -54,22 +43,52 @@ fn call_fault(
     highs: &[u16],
     costs: &[u16],
     rec: &[u8],
+    line: &[u8],
+    begun: Progress,
+    piece: &[u8],
+    room: usize,
 ) -> u8
-    ensures { λ r. ⌜ ((number : ℕ) → r ≡ callFault short
-        (slicesOf number probes links (now (needs .entry)) (now (lows .entry)) (now (highs .entry)) (now (costs .entry))) (now (rec .entry))) ⌝ }
+    requires { ⌜ (begun .held ≤ 16) × (room < 9223372036854775808) ⌝ }
+    ensures { λ r. let x = slicesOf number probes links (now (needs .entry)) (now (lows .entry)) (now (highs .entry)) (now (costs .entry)) in
+        ⌜ r ≡ pieceFault x (underWay begun (now (rec .entry)) (now (line .entry))) (now (piece .entry)) (length (now (line .entry))) room ⌝ }
 {
-    if short != 0 {
-        return short;
+    if line.len() < 16 {
+        return 8;
     }
-    fleet_state::checks::state_fault(
-        probes as usize,
-        links as usize,
+    let probe_count = probes as usize;
+    let link_count = links as usize;
+    let fault = fleet_state::checks::state_fault(
+        probe_count,
+        link_count,
         needs,
         lows,
         highs,
         costs,
         rec,
-    )
+    );
+    if fault != 0 {
+        return fault;
+    }
+    if begun.held as usize + piece.len() <= room / 5 {
+        return 0;
+    }
+    let length = script_steps::pieces::count_piece(
+        number,
+        probe_count,
+        link_count,
+        needs,
+        lows,
+        highs,
+        costs,
+        rec,
+        line,
+        begun,
+        piece,
+    );
+    if room < length {
+        return 8;
+    }
+    0
 }
 
 // Handles a piece of the text behind a table. `line` keeps an unfinished line from one piece to the next, in 16 bytes.
@@ -91,8 +110,20 @@ pub fn script_piece(
         ⌜ HandlesPiece x progress (now (piece .entry)) r (now (rec .entry)) (now (rec .exit)) (now (line .entry)) (now (line .exit)) (now (out .entry)) (now (out .exit)) ⌝ }
 {
     let begun = begun(progress);
-    let short = piece_fault(line.len(), out.len(), begun.held, piece);
-    let fault = call_fault(short, probes, links, needs, lows, highs, costs, rec);
+    let fault = piece_fault(
+        number,
+        probes,
+        links,
+        needs,
+        lows,
+        highs,
+        costs,
+        rec,
+        line,
+        begun,
+        piece,
+        out.len(),
+    );
     if fault != 0 {
         return Handling::Refused(fault);
     }
@@ -134,18 +165,26 @@ pub fn script_end(
     out: &mut [u8],
 ) -> Output
     ensures { λ r. let x = slicesOf number probes links (now (needs .entry)) (now (lows .entry)) (now (highs .entry)) (now (costs .entry)) in
-        ⌜ Prints (endCallFault x (now (rec .entry)) (now (out .entry))) (endText x (now (rec .entry)) (progress .held) (progress .changed)) r (now (out .entry)) (now (out .exit)) ⌝ }
+        let printed = endText x (now (rec .entry)) (progress .held) (progress .changed) in
+        ⌜ Prints (endCallFault x (now (rec .entry)) printed (now (out .entry))) printed r (now (out .entry)) (now (out .exit)) ⌝ }
 {
-    if out.len() < 16 {
-        return Output::Refused(8);
-    }
-    let fault = call_fault(0, probes, links, needs, lows, highs, costs, rec);
+    let probe_count = probes as usize;
+    let link_count = links as usize;
+    let fault = fleet_state::checks::state_fault(
+        probe_count,
+        link_count,
+        needs,
+        lows,
+        highs,
+        costs,
+        rec,
+    );
     if fault != 0 {
         return Output::Refused(fault);
     }
-    Output::Length(script_steps::pieces::put_end(
-        probes as usize,
-        links as usize,
+    let length = script_steps::pieces::put_end(
+        probe_count,
+        link_count,
         needs,
         lows,
         highs,
@@ -154,16 +193,18 @@ pub fn script_end(
         progress.changed,
         out,
         0,
-    ))
+    );
+    if out.len() < length {
+        return Output::Refused(8);
+    }
+    Output::Length(length)
 }
 
 // Prints what a whole text prints: a table and, behind its closing line, the script.
 pub fn script_text(text: &[u8], out: &mut [u8]) -> Output
-    ensures { λ r. ⌜ Prints (textCallFault (now (text .entry)) (now (out .entry))) (scriptOutput (now (text .entry))) r (now (out .entry)) (now (out .exit)) ⌝ }
+    ensures { λ r. let printed = scriptOutput (now (text .entry)) in
+        ⌜ Prints (shortFault (length (now (out .entry))) printed) printed r (now (out .entry)) (now (out .exit)) ⌝ }
 {
-    if out.len() / 5 < text.len() + 1 {
-        return Output::Refused(8);
-    }
     let mut needs = [0u16; 256];
     let mut lows = [0u16; 2048];
     let mut highs = [0u16; 2048];
@@ -175,7 +216,7 @@ pub fn script_text(text: &[u8], out: &mut [u8]) -> Output
             probes,
             links,
             rest,
-        } => Output::Length(script_steps::pieces::print_script(
+        } => script_steps::pieces::print_script(
             number,
             probes as usize,
             links as usize,
@@ -185,7 +226,7 @@ pub fn script_text(text: &[u8], out: &mut [u8]) -> Output
             &costs,
             &text[rest..],
             out,
-        )),
+        ),
         table_read::Reading::Refused(fault) => output::refusals::print_refusal(out, fault),
     }
 }

@@ -1,8 +1,9 @@
 -- A byte of the script in the buffers.
 use Prim.Native.Nat.{ℕ, suc, _+_, _≤_, _<_}
-use mathlib.Core.Path.{_≡_, refl, sym, _∙_}
+use mathlib.Core.Path.{_≡_, refl, sym, _∙_, ap}
 use mathlib.Core.Bool.{cond}
 use mathlib.Core.List.{List, [], _∷_, _++_}
+use native.Mathlib.Nat.{add-zero}
 use native.Mathlib.Omega.{arith}
 use native.Mathlib.Decide.{decLt}
 use lib.Dec.{ltb}
@@ -10,6 +11,8 @@ use lib.ListN.{length, take, set, length-append}
 use lib.Seq.{take-suc-set, take-set-le, take-all, take-append-le, take-take, length-take-le}
 use borrow.Author.Tests.{eq-eqb, ne-eqb, lt-ltb, le-ltb}
 use Rattle.table.specs.Slices.{Slices}
+use Rattle.script_lines.specs.Fitting.{capped}
+use Rattle.script_lines.proofs.Fitting.{capped-is}
 use Rattle.script_theory.specs.Script.{afterLine, afterByte}
 use Rattle.script_steps.specs.Within.{underWay, Buffered}
 use Rattle.script_steps.specs.declared.Progress.{Progress}
@@ -56,9 +59,9 @@ module _ (x : Slices) (room : ℕ) (p : Progress) (b at : ℕ) (rec rec′ line 
       record { bytes = h .bytes; used = h .used; changed = h .changed; held = h .held; kept = rw (h .held); at = h .at; printed = h .printed }
 
   -- any other byte
-  pub byte-held : (n : ℕ) → (b ≡ 10 → ⊥) → p .held ≤ 16 → length line ≡ 17 → line′ ≡ set line (p .held) b → n ≡ cond (ltb (p .held) 16) (p .held + 1) (p .held)
+  pub byte-held : (n : ℕ) → (b ≡ 10 → ⊥) → at ≤ 9223372036854775808 → p .held ≤ 16 → length line ≡ 17 → line′ ≡ set line (p .held) b → n ≡ cond (ltb (p .held) 16) (p .held + 1) (p .held)
       → Buffered (afterByte x room (underWay p rec line) b) at (record { at = at; progress = record { used = p .used; held = n; changed = p .changed } }) rec line′ out out
-  byte-held n d few long s e =
+  byte-held n d counted few long s e =
       rw (ne-eqb b 10 d)
       record {
         bytes = refl;
@@ -66,6 +69,6 @@ module _ (x : Slices) (room : ℕ) (p : Progress) (b at : ℕ) (rec rec′ line 
         changed = refl;
         held = e ∙ held-count line (p .held) b few long;
         kept = rw (s, e) (held-bytes line (p .held) b few long);
-        at = omega arith;
-        printed = refl;
+        at = sym (ap capped (add-zero at) ∙ capped-is at counted);
+        printed = λ fits. refl;
       }

@@ -1,5 +1,5 @@
 -- The text's end in the buffer, and a script from its start.
-use Prim.Native.Nat.{ℕ, zero, suc, _+_, _*_, _≤_}
+use Prim.Native.Nat.{ℕ, zero, suc, _+_, _*_, _≤_, _<_}
 use mathlib.Core.Path.{_≡_, refl, sym, _∙_, ap}
 use mathlib.Core.Bool.{Bool, true, false, cond}
 use mathlib.Core.List.{List, [], _∷_}
@@ -7,15 +7,19 @@ use native.Mathlib.Omega.{arith}
 use lib.Dec.{eqb}
 use lib.ListN.{length, take, replicate, length-append}
 use lib.Seq.{sets}
+use borrow.Author.Tests.{ne-eqb}
 use Rattle.range.proofs.Sets.{sets-then}
 use Rattle.output.specs.Output.{refusalLine}
 use Rattle.fleet_theory.specs.Fleet.{fleetFault, start, finished}
 use Rattle.table.specs.Slices.{Slices, tableOf, slicesFault}
 use Rattle.fleet_theory.proofs.Run.{slices-legal, start-holds, fleet-passes}
 use Rattle.table.proofs.LegalLaws.{legal-table}
+use Rattle.script_lines.specs.Fitting.{capped, storedWithin}
 use Rattle.script_lines.proofs.Lines.{length-last}
+use Rattle.script_lines.proofs.Fitting.{capped-below, capped-add, stored-fits}
 use Rattle.script_theory.specs.Script.{Script, lastLine, endText, scriptText, afterPiece, begun}
 use Rattle.script_theory.proofs.Pieces.{whole}
+use Rattle.script_steps.proofs.PieceLaws.{piece-short}
 use Rattle.script_steps.specs.Within.{underWay, Buffered}
 use Rattle.script_steps.specs.declared.Progress.{Progress}
 use Rattle.script_steps.specs.declared.pieces.Place.{Place}
@@ -49,6 +53,11 @@ module _ (x : Slices) (bytes : List ℕ) (held changed : ℕ) where
       go true u l = omega arith
       go false u l = omega arith
 
+-- an unfinished line, which prints five bytes more, has a byte
+end-few : (held : ℕ) → cond (eqb held 0) 11 16 ≤ 5 * held + 11
+end-few zero = omega arith
+end-few (suc held) = rw (ne-eqb (suc held) 0 (λ e. omega arith)) (omega arith)
+
 pub end-most : (b : Bool) → cond b 11 16 ≤ 16
 end-most true = omega arith
 end-most false = omega arith
@@ -80,21 +89,42 @@ module _ (x : Slices) (fine : slicesFault x ≡ 0) (within : 4 * x .links ≤ 81
     from-start = rw (none .0, none .1, none .2, zeros-are)
 
     -- all pieces, then the end
-    pub all-printed : Buffered (afterPiece x 1024 (underWay p zeros line) text) 0 r rec line′ out out₁
-        → out₂ ≡ sets out₁ (r .at) (endText x rec (r .progress .held) (r .progress .changed)) → out₂ ≡ sets out 0 (scriptText x 1024 text)
-    all-printed b e =
-        let h = rw from-start at b in
-        rw (← whole x 1024 fine text)
-        (sets-then out out₁ out₂ 0 (r .at) (q .out) (endText x (q .bytes) (length (q .held)) (q .changed)) (h .printed) (h .at)
-        (rw (← h .bytes, ← h .held, ← h .changed) e))
+    module _ (b : Buffered (afterPiece x 1024 (underWay p zeros line) text) 0 r rec line′ out out₁) where
+      h : Buffered q 0 r rec line′ out out₁
+      h = rw from-start at b
 
-    pub all-length : Buffered (afterPiece x 1024 (underWay p zeros line) text) 0 r rec line′ out out₁
-        → r .at + cond (eqb (r .progress .held) 0) 11 16 ≡ length (scriptText x 1024 text)
-    all-length b =
-        let h = rw from-start at b in
-        rw (← whole x 1024 fine text)
-        (let n = length-append (q .out) (endText x (q .bytes) (length (q .held)) (q .changed)) in
-        let m = length-end x (q .bytes) (length (q .held)) (q .changed) in
-        let a = h .at in
-        let k : _≡_ {A = ℕ} (cond (eqb (r .progress .held) 0) 11 16) (cond (eqb (length (q .held)) 0) 11 16) = rw (h .held) in
-        omega arith)
+      lengths : 0 + length (q .out) + cond (eqb (r .progress .held) 0) 11 16 ≡ length (scriptText x 1024 text)
+      lengths =
+          let n = length-append (q .out) (endText x (q .bytes) (length (q .held)) (q .changed)) in
+          let m = length-end x (q .bytes) (length (q .held)) (q .changed) in
+          let k : _≡_ {A = ℕ} (cond (eqb (r .progress .held) 0) 11 16) (cond (eqb (length (q .held)) 0) 11 16) = rw (h .held) in
+          let w = ap length (whole x 1024 fine text) in
+          omega arith
+
+      pub all-length : (n : ℕ) → n ≡ capped (r .at + cond (eqb (r .progress .held) 0) 11 16) → n ≡ capped (length (scriptText x 1024 text))
+      all-length n e =
+          let last : ℕ = cond (eqb (r .progress .held) 0) 11 16 in
+          e ∙ ap (λ (k : ℕ). capped (k + last)) (h .at) ∙ capped-add (0 + length (q .out)) last ∙ ap capped lengths
+
+      pub all-printed : length out₁ ≡ length out → length out < 9223372036854775808 → out₂ ≡ storedWithin out₁ (r .at) (endText x rec (r .progress .held) (r .progress .changed))
+          → length (scriptText x 1024 text) ≤ length out → out₂ ≡ sets out 0 (scriptText x 1024 text)
+      all-printed long most e fits =
+          let last = endText x rec (r .progress .held) (r .progress .changed) in
+          let n = lengths in
+          let m = length-end x rec (r .progress .held) (r .progress .changed) in
+          let exact = h .at ∙ capped-below (0 + length (q .out)) (omega arith) in
+          let s : out₂ ≡ sets out₁ (r .at) last = e ∙ stored-fits out₁ (r .at) last (omega arith) in
+          rw (← whole x 1024 fine text)
+          (sets-then out out₁ out₂ 0 (r .at) (q .out) (endText x (q .bytes) (length (q .held)) (q .changed)) (h .printed (omega arith)) exact
+          (rw (← h .bytes, ← h .held, ← h .changed) s))
+
+  -- five bytes for each byte, and 11, hold all that is printed
+  pub script-short : (text : List ℕ) → length (scriptText x 1024 text) ≤ 5 * length text + 11
+  script-short text =
+      let q = afterPiece x 1024 (begun x) text in
+      let n = length-append (q .out) (endText x (q .bytes) (length (q .held)) (q .changed)) in
+      let m = length-end x (q .bytes) (length (q .held)) (q .changed) in
+      let w = ap length (whole x 1024 fine text) in
+      let s = piece-short x 1024 (begun x) text in
+      let k = end-few (length (q .held)) in
+      omega arith

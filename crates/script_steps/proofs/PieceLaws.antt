@@ -7,15 +7,17 @@ use mathlib.Core.List.{List, [], _∷_, _++_}
 use native.Mathlib.Omega.{arith}
 use native.Mathlib.Decide.{ℕ-discrete, decLe}
 use lib.Dec.{eqb}
-use lib.ListN.{length, take, getD, length-append}
-use lib.Seq.{take-suc, take-all, length-take-le}
+use lib.ListN.{length, take, drop, getD, length-append}
+use lib.Seq.{sets, take-suc, take-all, take-at, length-take-le}
 use borrow.Author.Tests.{ne-eqb}
 use Rattle.range.proofs.Bools.{decided}
-use Rattle.range.proofs.Sets.{sets-then}
+use Rattle.range.proofs.Sets.{sets-then, sets-start}
 use Rattle.fleet_theory.specs.Fleet.{fleetFault, eventFault}
 use Rattle.table.specs.Slices.{Slices, tableOf, slicesFault}
 use Rattle.fleet.proofs.Passing.{passed-line, record-stays}
-use Rattle.script_theory.specs.Script.{Script, bytesAfter, afterByte, afterPiece, carried}
+use Rattle.script_lines.specs.Fitting.{capped}
+use Rattle.script_lines.proofs.Fitting.{capped-below, capped-is, capped-most, capped-add}
+use Rattle.script_theory.specs.Script.{Script, answerLine, answered, bytesAfter, afterByte, afterPiece, carried}
 use Rattle.script_theory.proofs.Pieces.{in-pieces, onto, byte-onto, carried-onto}
 use Rattle.script_steps.specs.Within.{underWay, Buffered}
 use Rattle.script_steps.specs.declared.Progress.{Progress}
@@ -42,13 +44,13 @@ module _ (x : Slices) (room : ℕ) where
       rw (e, take-suc piece i 0 l)
       (in-pieces x room p (take i piece) (b ∷ []) ∙ ap (λ (s : Script). afterByte x room s b) (sym (carried-onto x room q)) ∙ byte-onto x room (q .out) (carried q) b)
 
-  module _ (fine : slicesFault x ≡ 0) (p : Script) (b : ℕ) where
+  module _ (p : Script) (b : ℕ) where
     abbrev q : Script
     q = afterByte x room p b
 
     -- the record stays usable
-    usable-after : fleetFault (tableOf x) (p .bytes) ≡ 0 → fleetFault (tableOf x) (q .bytes) ≡ 0
-    usable-after good = go (decided (eqb b 10))
+    pub usable-after : slicesFault x ≡ 0 → fleetFault (tableOf x) (p .bytes) ≡ 0 → fleetFault (tableOf x) (q .bytes) ≡ 0
+    usable-after fine good = go (decided (eqb b 10))
       where
         l : List ℕ
         l = p .held ++ (b ∷ [])
@@ -64,8 +66,8 @@ module _ (x : Slices) (room : ℕ) where
         go (inr e) = rw e good
 
     -- five bytes are printed for each byte at most
-    few-printed : p .out ≡ [] → (length (q .out) + 5 * length (q .held) ≤ 5 * (length (p .held) + 1)) × (length (q .held) ≤ 16)
-    few-printed none = go (decided (eqb b 10))
+    few-printed : (length (q .out) + 5 * length (q .held) ≤ length (p .out) + 5 * (length (p .held) + 1)) × (length (q .held) ≤ 16)
+    few-printed = go (decided (eqb b 10))
       where
         l : List ℕ
         l = p .held ++ (b ∷ [])
@@ -73,22 +75,41 @@ module _ (x : Slices) (room : ℕ) where
         n : length l ≡ length (p .held) + 1
         n = length-append (p .held) (b ∷ [])
 
-        go : (eqb b 10 ≡ true) ⊎ (eqb b 10 ≡ false) → (length (q .out) + 5 * length (q .held) ≤ 5 * (length (p .held) + 1)) × (length (q .held) ≤ 16)
+        go : (eqb b 10 ≡ true) ⊎ (eqb b 10 ≡ false) → (length (q .out) + 5 * length (q .held) ≤ length (p .out) + 5 * (length (p .held) + 1)) × (length (q .held) ≤ 16)
         go (inl e) =
             let k = n in
             let s = answer-short x (p .used) room l (p .bytes) (omega arith) in
-            rw (e, none) (omega arith, omega arith)
+            let m = length-append (p .out) (answerLine (answered x room p l)) in
+            rw e (omega arith, omega arith)
         go (inr e) =
             let k = n in
             let s = short-take l in
-            rw (e, none) (omega (arith, s .0), s .1)
+            rw e (omega (arith, s .0), s .1)
+
+  -- and so by a piece
+  pub piece-short : (p : Script) (a : List ℕ) → (let q = afterPiece x room p a in length (q .out) + 5 * length (q .held) ≤ length (p .out) + 5 * (length (p .held) + length a))
+  unfolding afterPiece
+  piece-short p [] = omega arith
+  piece-short p (b ∷ a) =
+      let f = few-printed p b in
+      let i = piece-short (afterByte x room p b) a in
+      omega (arith, f .0)
 
 -- the buffers after i bytes of a piece
 pub record Taken (x : Slices) (room : ℕ) (p : Script) (piece out₀ : List ℕ) (i : ℕ) (r : Place) (rec line out : List ℕ) : Type 0 where
   pub buffered : Buffered (afterPiece x room p (take i piece)) 0 r rec line out₀ out
   pub usable : fleetFault (tableOf x) rec ≡ 0
-  pub short : r .at + 5 * r .progress .held ≤ 5 * (length (p .held) + i)
   pub few : r .progress .held ≤ 16
+
+-- where the next byte is printed is counted
+pub at-most : (q : Script) (from : ℕ) (r : Place) (rec line out₀ out : List ℕ) → Buffered q from r rec line out₀ out → r .at ≤ 9223372036854775808
+at-most q from r rec line out₀ out b = let e = b .at in let m = capped-most (from + length (q .out)) in omega arith
+
+-- the first n bytes of a copy
+pub copied-part : (to to′ from : List ℕ) (n : ℕ) → to′ ≡ sets to 0 (take n from) → n ≤ length to → n ≤ length from → take n to′ ≡ take n from
+copied-part to to′ from n e l k =
+    let m = length-take-le n from k in
+    ap (take n) (e ∙ sets-start to (take n from) (omega arith)) ∙ take-at (take n from) (drop (length (take n from)) to) n m
 
 bare-is : (q : Script) (r : Place) (rec line out₀ out : List ℕ) (x : Slices) (room : ℕ) → Buffered q 0 r rec line out₀ out → underWay (r .progress) rec line ≡ carried q
 bare-is q r rec line out₀ out x room h = rw (h .bytes, h .used, h .changed, h .kept)
@@ -99,22 +120,24 @@ unfolding afterPiece
 taken-none x room pr piece rec line out good few long =
     let n = length-take-le (pr .held) line (omega arith) in
     record {
-      buffered = record { bytes = refl; used = refl; changed = refl; held = sym n; kept = refl; at = refl; printed = refl };
+      buffered = record { bytes = refl; used = refl; changed = refl; held = sym n; kept = refl; at = sym (capped-is 0 (omega arith)); printed = λ fits. refl };
       usable = good;
-      short = omega arith;
       few = few;
     }
 
 module _ (x : Slices) (room : ℕ) (fine : slicesFault x ≡ 0) (p : Script) (piece out₀ : List ℕ) where
-  pub taken-next : (i : ℕ) (r r′ : Place) (rec rec′ line line′ out out′ : List ℕ) → i < length piece → Taken x room p piece out₀ i r rec line out
+  pub taken-next : (i : ℕ) (r r′ : Place) (rec rec′ line line′ out out′ : List ℕ) → i < length piece → length out ≡ length out₀ → length out₀ < 9223372036854775808
+      → Taken x room p piece out₀ i r rec line out
       → Buffered (afterByte x room (underWay (r .progress) rec line) (getD piece i 0)) (r .at) r′ rec′ line′ out out′ → Taken x room p piece out₀ (i + 1) r′ rec′ line′ out′
-  taken-next i r r′ rec rec′ line line′ out out′ l t h =
+  taken-next i r r′ rec rec′ line line′ out out′ l long most t h =
       let q = afterPiece x room p (take i piece) in
       let u = underWay (r .progress) rec line in
       let w = afterByte x room u (getD piece i 0) in
       let same = bare-is q r rec line out₀ out x room (t .buffered) in
       let is = next-byte x room p piece i l ∙ ap (λ (s : Script). onto x room (q .out) (afterByte x room s (getD piece i 0))) (sym same) in
-      let f = few-printed x room fine u (getD piece i 0) refl in
+      let f = few-printed x room u (getD piece i 0) in
+      let n = length-append (q .out) (w .out) in
+      let m : 0 + length (q .out) + length (w .out) ≡ 0 + length (q .out ++ w .out) = omega arith in
       record {
         buffered = rw is record {
           bytes = h .bytes;
@@ -122,11 +145,12 @@ module _ (x : Slices) (room : ℕ) (fine : slicesFault x ≡ 0) (p : Script) (pi
           changed = h .changed;
           held = h .held;
           kept = h .kept;
-          at = h .at ∙ (let a = t .buffered .at in let n = length-append (q .out) (w .out) in omega arith);
-          printed = sets-then out₀ out out′ 0 (r .at) (q .out) (w .out) (t .buffered .printed) (t .buffered .at) (h .printed);
+          at = h .at ∙ ap (λ (k : ℕ). capped (k + length (w .out))) (t .buffered .at) ∙ capped-add (0 + length (q .out)) (length (w .out)) ∙ ap capped m;
+          printed = λ fits.
+              let e = t .buffered .at ∙ capped-below (0 + length (q .out)) (omega arith) in
+              sets-then out₀ out out′ 0 (r .at) (q .out) (w .out) (t .buffered .printed (omega arith)) e (h .printed (omega arith));
         };
-        usable = rw (h .bytes) (usable-after x room fine u (getD piece i 0) (t .usable));
-        short = (let a = h .at in let b = h .held in let c = t .short in let d = t .buffered .held in let e = t .buffered .kept in omega (arith, f .0, ap length e));
+        usable = rw (h .bytes) (usable-after x room u (getD piece i 0) fine (t .usable));
         few = (let b = h .held in omega (arith, f .1));
       }
 

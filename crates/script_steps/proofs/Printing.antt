@@ -7,7 +7,6 @@ use native.Mathlib.Omega.{arith}
 use native.Mathlib.Decide.{ℕ-discrete}
 use lib.Dec.{eqb, ltb}
 use lib.ListN.{length}
-use lib.Seq.{sets}
 use borrow.Author.Tests.{ne-eqb, ltb-true}
 use Rattle.range.specs.Sum.{sum}
 use Rattle.range.specs.First.{orElse}
@@ -29,8 +28,10 @@ use Rattle.fleet.proofs.Checks.{line-frame}
 use Rattle.fleet.proofs.Passing.{passed-line}
 use Rattle.fleet.proofs.Calls.{handled-answer}
 use Rattle.fleet.proofs.Changes.{line-changes}
+use Rattle.script_lines.specs.Fitting.{capped, storedWithin}
 use Rattle.script_lines.proofs.Lines.{length-entry}
-use Rattle.script_theory.specs.Script.{answerLine, afterLine}
+use Rattle.script_lines.proofs.Fitting.{stored-fits}
+use Rattle.script_theory.specs.Script.{answerLine, answered, afterLine}
 use Rattle.script_steps.specs.Within.{acceptedBy, underWay, Buffered}
 use Rattle.script_steps.specs.declared.Progress.{Progress}
 
@@ -81,8 +82,8 @@ module _ (x : Slices) (used room : ℕ) (l r : List ℕ) where
 
 -- a line handled and its answer printed
 module _ (x : Slices) (fine : slicesFault x ≡ 0) (p : Progress) (room at : ℕ) (l rec rec′ out out′ : List ℕ) (good : fleetFault (tableOf x) rec ≡ 0) where
-  pub line-buffered : (answer : Answer) (next used changed : ℕ) → Handled x (p .used) room l answer rec rec′ → out′ ≡ sets out at (answerLine answer)
-      → next ≡ at + length (answerLine answer) → used ≡ p .used + acceptedBy answer → changed ≡ (p .changed + changesBy answer) % 4294967296
+  pub line-buffered : (answer : Answer) (next used changed : ℕ) → Handled x (p .used) room l answer rec rec′ → out′ ≡ storedWithin out at (answerLine answer)
+      → next ≡ capped (at + length (answerLine answer)) → used ≡ p .used + acceptedBy answer → changed ≡ (p .changed + changesBy answer) % 4294967296
       → Buffered (afterLine x room (underWay p rec []) l) at (record { at = next; progress = record { used = used; held = 0; changed = changed } }) rec′ [] out out′
   line-buffered answer next used changed h o n u c =
       record {
@@ -92,6 +93,6 @@ module _ (x : Slices) (fine : slicesFault x ≡ 0) (p : Progress) (room at : ℕ
             (sym (line-changes x fine room rec good (p .used) l answer rec′ h) ∙ ap (λ (r : List ℕ). sum (x .links) (linkChanges rec r)) (h .record-after));
         held = refl;
         kept = refl;
-        at = n ∙ ap (λ (a : Answer). at + length (answerLine a)) (handled-answer h);
-        printed = o ∙ ap (λ (a : Answer). sets out at (answerLine a)) (handled-answer h);
+        at = n ∙ ap (λ (a : Answer). capped (at + length (answerLine a))) (handled-answer h);
+        printed = λ fits. o ∙ ap (λ (a : Answer). storedWithin out at (answerLine a)) (handled-answer h) ∙ stored-fits out at (answerLine (answered x room (underWay p rec []) l)) fits;
       }

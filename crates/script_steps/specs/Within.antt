@@ -1,11 +1,12 @@
 -- What the functions of `pieces` promise: a byte, and the bytes of a piece, taken into buffers.
-use Prim.Native.Nat.{ℕ, _+_}
+use Prim.Native.Nat.{ℕ, _+_, _≤_}
 use mathlib.Core.Path.{_≡_}
 use mathlib.Core.List.{List, []}
 use lib.ListN.{length, take}
 use lib.Seq.{sets}
 use Rattle.wake_log.specs.declared.Answer.{Answer}
 use Rattle.wake_log.specs.declared.Answer.the-variants.{Logged, Refused}
+use Rattle.script_lines.specs.Fitting.{capped}
 use Rattle.script_theory.specs.Script.{Script}
 use Rattle.script_steps.specs.declared.Progress.{Progress}
 use Rattle.script_steps.specs.declared.pieces.Place.{Place}
@@ -19,12 +20,12 @@ acceptedBy (Refused n) = 0
 abbrev pub underWay : Progress → List ℕ → List ℕ → Script
 underWay p rec line = record { bytes = rec; used = p .used; changed = p .changed; held = take (p .held) line; out = [] }
 
--- the script q in the buffers: what it printed stands from an offset on
+-- the script q in the buffers: what it printed stands from an offset on where it fits, and its length is counted
 pub record Buffered (q : Script) (from : ℕ) (r : Place) (rec line out out′ : List ℕ) : Type 0 where
   pub bytes : rec ≡ q .bytes
   pub used : r .progress .used ≡ q .used
   pub changed : r .progress .changed ≡ q .changed
   pub held : r .progress .held ≡ length (q .held)
   pub kept : take (r .progress .held) line ≡ q .held
-  pub at : r .at ≡ from + length (q .out)
-  pub printed : out′ ≡ sets out from (q .out)
+  pub at : r .at ≡ capped (from + length (q .out))
+  pub printed : from + length (q .out) ≤ length out → out′ ≡ sets out from (q .out)

@@ -1,16 +1,19 @@
 // The steps of a script, on buffers that hold an unfinished line and what is printed. The functions of `script_output` call these, within the bounds that they ask.
 use super::Progress;
+use output::Output;
 ghost use mathlib.Core.Path.{_≡_};
 ghost use mathlib.Core.Bool.{cond};
 ghost use mathlib.Core.List.{List, []};
-ghost use Prim.Native.Nat.{ℕ, _+_, _*_, _%_, _≤_};
-ghost use lib.Dec.{ltb, eqb};
+ghost use Prim.Native.Nat.{ℕ, _+_, _*_, _%_, _≤_, _<_};
+ghost use lib.Dec.{ltb, leb, eqb};
 ghost use lib.ListN.{length, take};
 ghost use lib.Seq.{sets};
 ghost use Rattle.fleet_theory.specs.Fleet.{fleetFault};
 ghost use Rattle.table.specs.Slices.{slicesFault, tableOf, slicesOf};
 ghost use Rattle.fleet_state.specs.Within.{LegalWithoutCosts};
 ghost use Rattle.fleet.specs.Answers.{changesBy};
+ghost use Rattle.output.specs.Output.{shortFault, Prints};
+ghost use Rattle.script_lines.specs.Fitting.{capped, storedWithin};
 ghost use Rattle.script_theory.specs.Script.{endText, scriptText, afterLine, afterByte, afterPiece};
 ghost use Rattle.script_steps.specs.Within.{acceptedBy, underWay, Buffered};
 
@@ -45,7 +48,7 @@ fn add_changes(changed: u32, answer: wake_log::Answer) -> u32
     }
 }
 
-// A line, closed by its line feed, of a fleet whose table and record are already checked; its answer is printed from an offset on.
+// A line, closed by its line feed, of a fleet whose table and record are already checked; its answer is printed from an offset on, where it fits.
 fn answer_line(
     number: u16,
     probes: usize,
@@ -60,8 +63,7 @@ fn answer_line(
     place: Place,
 ) -> Place
     requires { let x = slicesOf number probes links (now needs) (now lows) (now highs) (now costs) in
-        ⌜ (slicesFault x ≡ 0) × (fleetFault (tableOf x) (now rec) ≡ 0)
-        × (place .at + 5 * length (now line) ≤ length (now out)) × (5 ≤ 5 * length (now line)) ⌝ }
+        ⌜ (slicesFault x ≡ 0) × (fleetFault (tableOf x) (now rec) ≡ 0) × (place .at ≤ 9223372036854775808) ⌝ }
     ensures { λ r. let x = slicesOf number probes links (now (needs .entry)) (now (lows .entry)) (now (highs .entry)) (now (costs .entry)) in
         ⌜ Buffered (afterLine x 1024 (underWay (place .progress) (now (rec .entry)) []) (now (line .entry)))
         (place .at) r (now (rec .exit)) [] (now (out .entry)) (now (out .exit)) ⌝ }
@@ -117,7 +119,7 @@ fn take_byte(
 ) -> Place
     requires { let x = slicesOf number probes links (now needs) (now lows) (now highs) (now costs) in
         ⌜ (slicesFault x ≡ 0) × (fleetFault (tableOf x) (now rec) ≡ 0)
-        × (place .progress .held ≤ 16) × (length (now line) ≡ 17) × (place .at + 5 * (place .progress .held + 1) ≤ length (now out)) ⌝ }
+        × (place .progress .held ≤ 16) × (length (now line) ≡ 17) × (place .at ≤ 9223372036854775808) ⌝ }
     ensures { λ r. let x = slicesOf number probes links (now (needs .entry)) (now (lows .entry)) (now (highs .entry)) (now (costs .entry)) in
         ⌜ Buffered (afterByte x 1024 (underWay (place .progress) (now (rec .entry)) (now (line .entry))) byte)
         (place .at) r (now (rec .exit)) (now (line .exit)) (now (out .entry)) (now (out .exit)) ⌝ }
@@ -150,7 +152,7 @@ fn take_byte(
     }
 }
 
-// A piece of the script, from the start of the buffer for what is printed.
+// A piece of the script, printed from the start of the buffer as far as it fits, and counted beyond.
 pub fn take_piece(
     number: u16,
     probes: usize,
@@ -167,11 +169,10 @@ pub fn take_piece(
 ) -> Place
     requires { let x = slicesOf number probes links (now needs) (now lows) (now highs) (now costs) in
         ⌜ (slicesFault x ≡ 0) × (fleetFault (tableOf x) (now rec) ≡ 0)
-        × (progress .held ≤ 16) × (length (now line) ≡ 17) × (5 * (progress .held + length (now piece)) ≤ length (now out)) ⌝ }
+        × (progress .held ≤ 16) × (length (now line) ≡ 17) ⌝ }
     ensures { λ r. let x = slicesOf number probes links (now (needs .entry)) (now (lows .entry)) (now (highs .entry)) (now (costs .entry)) in
         ⌜ Buffered (afterPiece x 1024 (underWay progress (now (rec .entry)) (now (line .entry))) (now (piece .entry)))
-        0 r (now (rec .exit)) (now (line .exit)) (now (out .entry)) (now (out .exit))
-        × (r .at + 5 * r .progress .held ≤ 5 * (progress .held + length (now (piece .entry)))) × (r .progress .held ≤ 16) ⌝ }
+        0 r (now (rec .exit)) (now (line .exit)) (now (out .entry)) (now (out .exit)) × (r .progress .held ≤ 16) ⌝ }
 {
     let mut place = Place { at: 0, progress };
     let mut i = 0;
@@ -195,7 +196,17 @@ pub fn take_piece(
     place
 }
 
-// What the text's end prints, from an offset on. Answers where it ends. The table's number and costs do not bear on it.
+// The length of what the text's end prints.
+fn end_length(held: u32) -> usize
+    ensures { λ r. ⌜ r ≡ cond (eqb held 0) 11 16 ⌝ }
+{
+    if held == 0 {
+        return 11;
+    }
+    16
+}
+
+// What the text's end prints, from an offset on, where it fits. Answers where it ends. The table's number and costs do not bear on it.
 pub fn put_end(
     probes: usize,
     links: usize,
@@ -208,15 +219,19 @@ pub fn put_end(
     out: &mut [u8],
     at: usize,
 ) -> usize
-    requires { ⌜ LegalWithoutCosts probes links (now needs) (now lows) (now highs) × (4 * links ≤ length (now rec)) × (at + 16 ≤ length (now out)) ⌝ }
-    ensures { λ r. ⌜ ((number : ℕ) (costs : List ℕ) → (now (out .exit) ≡ sets (now (out .entry)) at
+    requires { ⌜ LegalWithoutCosts probes links (now needs) (now lows) (now highs) × (4 * links ≤ length (now rec)) × (at ≤ 9223372036854775808) ⌝ }
+    ensures { λ r. ⌜ ((number : ℕ) (costs : List ℕ) → (now (out .exit) ≡ storedWithin (now (out .entry)) at
         (endText (slicesOf number probes links (now (needs .entry)) (now (lows .entry)) (now (highs .entry)) costs) (now (rec .entry)) held changed)))
-        × (r ≡ at + cond (eqb held 0) 11 16) ⌝ }
+        × (r ≡ capped (at + cond (eqb held 0) 11 16)) ⌝ }
 {
+    let end = at + end_length(held);
+    if out.len() < end {
+        return script_lines::answers::cap(end);
+    }
     let next = script_lines::answers::put_unclosed(out, at, held);
     let done = fleet_state::finishing::is_finished(probes, links, needs, lows, highs, rec);
     script_lines::answers::put_last(out, next, done, changed);
-    next + 11
+    end
 }
 
 // The first n bytes, copied.
@@ -231,8 +246,50 @@ pub fn copy(to: &mut [u8], from: &[u8], n: usize)
     }
 }
 
-// The lines behind a table, all of them.
-pub fn print_script(
+// The length of what a piece prints, on copies of the record and the unfinished line.
+pub fn count_piece(
+    number: u16,
+    probes: usize,
+    links: usize,
+    needs: &[u16],
+    lows: &[u16],
+    highs: &[u16],
+    costs: &[u16],
+    rec: &[u8],
+    line: &[u8],
+    progress: Progress,
+    piece: &[u8],
+) -> usize
+    requires { let x = slicesOf number probes links (now needs) (now lows) (now highs) (now costs) in
+        ⌜ (slicesFault x ≡ 0) × (fleetFault (tableOf x) (now rec) ≡ 0) × (progress .held ≤ 16) × (progress .held ≤ length (now line)) ⌝ }
+    ensures { λ r. let x = slicesOf number probes links (now (needs .entry)) (now (lows .entry)) (now (highs .entry)) (now (costs .entry)) in
+        ⌜ r ≡ capped (length (afterPiece x 1024 (underWay progress (now (rec .entry)) (now (line .entry))) (now (piece .entry)) .out)) ⌝ }
+{
+    let mut bytes = [0u8; 8192];
+    let mut buffer = [0u8; 17];
+    let mut none = [0u8; 1];
+    let length = rec.len();
+    copy(&mut bytes, rec, length);
+    copy(&mut buffer, line, progress.held as usize);
+    let place = take_piece(
+        number,
+        probes,
+        links,
+        needs,
+        lows,
+        highs,
+        costs,
+        &mut bytes[..length],
+        &mut buffer,
+        progress,
+        piece,
+        &mut none[..0],
+    );
+    place.at
+}
+
+// The lines behind a table, all of them, and the end, printed as far as they fit. Answers their length.
+fn put_script(
     number: u16,
     probes: usize,
     links: usize,
@@ -243,11 +300,10 @@ pub fn print_script(
     text: &[u8],
     out: &mut [u8],
 ) -> usize
-    requires { let x = slicesOf number probes links (now needs) (now lows) (now highs) (now costs) in
-        ⌜ (slicesFault x ≡ 0) × (5 * length (now text) + 16 ≤ length (now out)) ⌝ }
+    requires { ⌜ slicesFault (slicesOf number probes links (now needs) (now lows) (now highs) (now costs)) ≡ 0 ⌝ }
     ensures { λ r. let x = slicesOf number probes links (now (needs .entry)) (now (lows .entry)) (now (highs .entry)) (now (costs .entry)) in
         let printed = scriptText x 1024 (now (text .entry)) in
-        ⌜ (now (out .exit) ≡ sets (now (out .entry)) 0 printed) × (r ≡ length printed) × (r ≤ length (now (out .entry))) ⌝ }
+        ⌜ (r ≡ capped (length printed)) × (length printed ≤ length (now (out .entry)) → now (out .exit) ≡ sets (now (out .entry)) 0 printed) ⌝ }
 {
     let mut bytes = [0u8; 8192];
     let mut line = [0u8; 17];
@@ -284,4 +340,62 @@ pub fn print_script(
         out,
         place.at,
     )
+}
+
+// Whether a slice of this length holds what the lines behind a table print. Five bytes for each byte, and 11, hold any output; else it is counted.
+fn script_fits(
+    number: u16,
+    probes: usize,
+    links: usize,
+    needs: &[u16],
+    lows: &[u16],
+    highs: &[u16],
+    costs: &[u16],
+    text: &[u8],
+    room: usize,
+) -> bool
+    requires { ⌜ (slicesFault (slicesOf number probes links (now needs) (now lows) (now highs) (now costs)) ≡ 0) × (room < 9223372036854775808) ⌝ }
+    ensures { λ r. let x = slicesOf number probes links (now (needs .entry)) (now (lows .entry)) (now (highs .entry)) (now (costs .entry)) in
+        ⌜ r ≡ leb (length (scriptText x 1024 (now (text .entry)))) room ⌝ }
+{
+    if text.len() + 3 <= room / 5 {
+        return true;
+    }
+    let mut none = [0u8; 1];
+    let length = put_script(
+        number,
+        probes,
+        links,
+        needs,
+        lows,
+        highs,
+        costs,
+        text,
+        &mut none[..0],
+    );
+    length <= room
+}
+
+// Prints the lines behind a table, all of them, and the end.
+pub fn print_script(
+    number: u16,
+    probes: usize,
+    links: usize,
+    needs: &[u16],
+    lows: &[u16],
+    highs: &[u16],
+    costs: &[u16],
+    text: &[u8],
+    out: &mut [u8],
+) -> Output
+    requires { ⌜ slicesFault (slicesOf number probes links (now needs) (now lows) (now highs) (now costs)) ≡ 0 ⌝ }
+    ensures { λ r. let x = slicesOf number probes links (now (needs .entry)) (now (lows .entry)) (now (highs .entry)) (now (costs .entry)) in
+        let printed = scriptText x 1024 (now (text .entry)) in
+        ⌜ Prints (shortFault (length (now (out .entry))) printed) printed r (now (out .entry)) (now (out .exit)) ⌝ }
+{
+    let room = out.len();
+    if !script_fits(number, probes, links, needs, lows, highs, costs, text, room) {
+        return Output::Refused(8);
+    }
+    Output::Length(put_script(number, probes, links, needs, lows, highs, costs, text, out))
 }

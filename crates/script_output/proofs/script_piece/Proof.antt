@@ -8,28 +8,33 @@ use mathlib.Core.List.{List}
 use native.Mathlib.Omega.{arith}
 use lib.ListN.{length, replicate}
 use Rattle.table.specs.Slices.{slicesOf}
-use Rattle.script_output.proofs.Answers.{unhandled, handled-all, copied-same, call-is, call-given}
+use Rattle.script_output.proofs.Answers.{unhandled, handled-all, most-few, copied-same, call-is, call-given}
 
 begun-requires : tie.Need-begun-requires
 begun-requires c κs = search needs
 
 piece-fault-requires : tie.Need-piece-fault-requires
-piece-fault-requires c κs = search needs
-
-call-fault-requires : tie.Need-call-fault-requires
-call-fault-requires c κs = search needs
+piece-fault-requires c κs =
+    let at-begun = c .before .before in
+    let s = at-begun .before .before .before .before .before .before .before .before .before in
+    let a = s .args in
+    let few = most-few (a .progress .held) in
+    (omega (arith, at-begun .begun .ensures .1), omega (arith, s .good .1 .1 .1 .1 .1 .1 .1 .1 .1 .1 .1 .0))
 
 same-length : tie.Need-same-length
 same-length c = search needs
 
+same-length-2 : tie.Need-same-length-2
+same-length-2 c = search needs
+
 returns : tie.Need-returns
 returns c =
-    let at-piece-fault = c .before .before .before in
-    let at-begun = at-piece-fault .before in
-    let at-start = at-begun .before .before .before .before .before .before .before .before .before in
-    let a = at-start .args in
+    let at-piece-fault = c .before in
+    let at-begun = at-piece-fault .before .before .before in
+    let s = at-begun .before .before .before .before .before .before .before .before .before in
+    let a = s .args in
     let x = slicesOf (a .number) (a .probes) (a .links) (a .needs .now) (a .lows .now) (a .highs .now) (a .costs .now) in
-    let g = call-is x (a .rec .now) (a .line .now) (a .progress .held) _ (length (a .out .now)) (length (a .piece .now)) _ _ (at-begun .begun .ensures .1) (at-piece-fault .piece-fault .ensures) (c .before .call-fault .ensures (a .number)) in
+    let g = call-is x _ (a .progress) (a .piece .now) (a .rec .now) (a .line .now) (length (a .out .now)) _ (at-begun .begun .ensures) (at-piece-fault .piece-fault .ensures) in
     unhandled _ _ _ (a .rec .now) (a .line .now) (a .out .now) g (c .if1 .taken)
 
 slice-aggregate-copy : tie.Need-slice-aggregate-copy
@@ -40,14 +45,13 @@ cast-copy c = search needs
 
 copy-requires : tie.Need-copy-requires
 copy-requires c κs =
-    let at-test = c .before .before .before in
-    let at-call-fault = at-test .before in
-    let at-piece-fault = at-call-fault .before .before in
-    let at-begun = at-piece-fault .before in
-    let at-start = at-begun .before .before .before .before .before .before .before .before .before in
-    let a = at-start .args in
+    let at-if1 = c .before .before .before in
+    let at-piece-fault = at-if1 .before in
+    let at-begun = at-piece-fault .before .before .before in
+    let s = at-begun .before .before .before .before .before .before .before .before .before in
+    let a = s .args in
     let x = slicesOf (a .number) (a .probes) (a .links) (a .needs .now) (a .lows .now) (a .highs .now) (a .costs .now) in
-    let g = call-given x (a .rec .now) (a .line .now) (a .progress .held) _ (length (a .out .now)) (length (a .piece .now)) _ _ (at-begun .begun .ensures .1) (at-piece-fault .piece-fault .ensures) (at-call-fault .call-fault .ensures (a .number)) (at-test .if1 .left) in
+    let g = call-given x _ (a .progress) (a .piece .now) (a .rec .now) (a .line .now) (length (a .out .now)) _ (at-begun .begun .ensures) (at-piece-fault .piece-fault .ensures) (at-if1 .if1 .left) in
     (omega (arith, g .few), omega (arith, g .few, g .long))
 
 slice-aggregate-take-piece : tie.Need-slice-aggregate-take-piece
@@ -56,15 +60,14 @@ slice-aggregate-take-piece c = search needs
 take-piece-requires : tie.Need-take-piece-requires
 take-piece-requires c κs =
     let at-copy = c .before .before .before .before in
-    let at-test = at-copy .before .before .before .before in
-    let at-call-fault = at-test .before in
-    let at-piece-fault = at-call-fault .before .before in
-    let at-begun = at-piece-fault .before in
-    let at-start = at-begun .before .before .before .before .before .before .before .before .before in
-    let a = at-start .args in
+    let at-if1 = at-copy .before .before .before .before in
+    let at-piece-fault = at-if1 .before in
+    let at-begun = at-piece-fault .before .before .before in
+    let s = at-begun .before .before .before .before .before .before .before .before .before in
+    let a = s .args in
     let x = slicesOf (a .number) (a .probes) (a .links) (a .needs .now) (a .lows .now) (a .highs .now) (a .costs .now) in
-    let g = call-given x (a .rec .now) (a .line .now) (a .progress .held) _ (length (a .out .now)) (length (a .piece .now)) _ _ (at-begun .begun .ensures .1) (at-piece-fault .piece-fault .ensures) (at-call-fault .call-fault .ensures (a .number)) (at-test .if1 .left) in
-    (g .fine, g .good, g .few, at-copy .copy .kept .0, g .room)
+    let g = call-given x _ (a .progress) (a .piece .now) (a .rec .now) (a .line .now) (length (a .out .now)) _ (at-begun .begun .ensures) (at-piece-fault .piece-fault .ensures) (at-if1 .if1 .left) in
+    (g .fine, g .good, g .few, at-copy .copy .kept .0)
 
 slice-aggregate-copy-2 : tie.Need-slice-aggregate-copy-2
 slice-aggregate-copy-2 c = search needs
@@ -76,19 +79,15 @@ copy-requires-2 : tie.Need-copy-requires-2
 copy-requires-2 c κs =
     let at-take-piece = c .before .before .before .before .before .before .before .before .before in
     let at-copy = at-take-piece .before .before .before .before .before in
-    let at-test = at-copy .before .before .before .before in
-    let at-call-fault = at-test .before in
-    let at-piece-fault = at-call-fault .before .before in
-    let at-begun = at-piece-fault .before in
-    let at-start = at-begun .before .before .before .before .before .before .before .before .before in
-    let a = at-start .args in
+    let at-if1 = at-copy .before .before .before .before in
+    let at-piece-fault = at-if1 .before in
+    let at-begun = at-piece-fault .before .before .before in
+    let s = at-begun .before .before .before .before .before .before .before .before .before in
+    let a = s .args in
     let x = slicesOf (a .number) (a .probes) (a .links) (a .needs .now) (a .lows .now) (a .highs .now) (a .costs .now) in
-    let g = call-given x (a .rec .now) (a .line .now) (a .progress .held) _ (length (a .out .now)) (length (a .piece .now)) _ _ (at-begun .begun .ensures .1) (at-piece-fault .piece-fault .ensures) (at-call-fault .call-fault .ensures (a .number)) (at-test .if1 .left) in
+    let g = call-given x _ (a .progress) (a .piece .now) (a .rec .now) (a .line .now) (length (a .out .now)) _ (at-begun .begun .ensures) (at-piece-fault .piece-fault .ensures) (at-if1 .if1 .left) in
     let k = at-take-piece .take-piece in
-    (omega (arith, k .ensures .2, g .long), omega (arith, k .ensures .2, k .kept .1 .1 .1 .1 .1 .1 .1 .1 .0, at-copy .copy .kept .0))
-
-same-length-2 : tie.Need-same-length-2
-same-length-2 c = search needs
+    (omega (arith, k .ensures .1, g .long), omega (arith, k .ensures .1, k .kept .1 .1 .1 .1 .1 .1 .1 .1 .0, at-copy .copy .kept .0))
 
 same-length-3 : tie.Need-same-length-3
 same-length-3 c = search needs
@@ -96,27 +95,26 @@ same-length-3 c = search needs
 same-length-4 : tie.Need-same-length-4
 same-length-4 c = search needs
 
+same-length-5 : tie.Need-same-length-5
+same-length-5 c = search needs
+
 returns-2 : tie.Need-returns-2
 returns-2 c =
     let at-copy2 = c .before .before in
     let at-take-piece = at-copy2 .before .before .before .before .before .before .before .before .before .before in
     let at-copy = at-take-piece .before .before .before .before .before in
-    let at-test = at-copy .before .before .before .before in
-    let at-call-fault = at-test .before in
-    let at-piece-fault = at-call-fault .before .before in
-    let at-begun = at-piece-fault .before in
-    let at-start = at-begun .before .before .before .before .before .before .before .before .before in
-    let a = at-start .args in
+    let at-if1 = at-copy .before .before .before .before in
+    let at-piece-fault = at-if1 .before in
+    let at-begun = at-piece-fault .before .before .before in
+    let s = at-begun .before .before .before .before .before .before .before .before .before in
+    let a = s .args in
     let x = slicesOf (a .number) (a .probes) (a .links) (a .needs .now) (a .lows .now) (a .highs .now) (a .costs .now) in
-    let m = at-begun .begun .ensures in
-    let s = at-piece-fault .piece-fault .ensures in
-    let f = at-call-fault .call-fault .ensures (a .number) in
-    let g = call-given x (a .rec .now) (a .line .now) (a .progress .held) _ (length (a .out .now)) (length (a .piece .now)) _ _ (m .1) s f (at-test .if1 .left) in
-    let e = call-is x (a .rec .now) (a .line .now) (a .progress .held) _ (length (a .out .now)) (length (a .piece .now)) _ _ (m .1) s f in
+    let e = call-is x _ (a .progress) (a .piece .now) (a .rec .now) (a .line .now) (length (a .out .now)) _ (at-begun .begun .ensures) (at-piece-fault .piece-fault .ensures) in
+    let g = call-given x _ (a .progress) (a .piece .now) (a .rec .now) (a .line .now) (length (a .out .now)) _ (at-begun .begun .ensures) (at-piece-fault .piece-fault .ensures) (at-if1 .if1 .left) in
     let k = at-take-piece .take-piece in
     let zeros : List ℕ = replicate 17 0 in
-    let same = copied-same _ (a .progress) (a .rec .now) (a .line .now) zeros _ m (g .long) (omega arith) (at-copy .copy .ensures) in
-    handled-all _ _ _ (a .rec .now) _ (a .line .now) _ _ (a .out .now) _ (sym e ∙ at-test .if1 .left) (rw same at (k .ensures .0)) (at-copy2 .copy2 .ensures) (omega (arith, k .ensures .2, g .long)) (omega (arith, k .ensures .1, g .room))
+    let same = copied-same _ (a .progress) (a .rec .now) (a .line .now) zeros _ (at-begun .begun .ensures) (g .long) (omega arith) (at-copy .copy .ensures) in
+    handled-all _ _ _ (a .rec .now) _ (a .line .now) _ _ (a .out .now) _ (sym e ∙ at-if1 .if1 .left) (rw same at (k .ensures .0)) (at-copy2 .copy2 .ensures) (omega (arith, k .ensures .1, g .long)) (g .fits) (omega (arith, s .good .1 .1 .1 .1 .1 .1 .1 .1 .1 .1 .1 .0))
 
 pub script-piece-spec : {M : Type 1} → statement M
 script-piece-spec =
@@ -124,8 +122,8 @@ script-piece-spec =
     (tie.spec
     begun-requires
     piece-fault-requires
-    call-fault-requires
     same-length
+    same-length-2
     returns
     slice-aggregate-copy
     cast-copy
@@ -135,7 +133,7 @@ script-piece-spec =
     slice-aggregate-copy-2
     cast-copy-2
     copy-requires-2
-    same-length-2
     same-length-3
     same-length-4
+    same-length-5
     returns-2)

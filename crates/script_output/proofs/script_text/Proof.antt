@@ -1,21 +1,8 @@
--- `script_output::script_text` meets its contract.
 use borrow.Author.Needs.{needs}
 use Rattle.script_output.proofs.script_text.Statement.{statement}
 use Rattle.script_output.proofs.script_text.Tie as tie
-use Prim.Native.Nat.{_+_, _*_}
 use native.Mathlib.Omega.{arith}
-use lib.ListN.{length}
-use borrow.Author.Tests.{lt-ltb, le-ltb}
-use Rattle.output.proofs.Printing.{prints-refused}
-use Rattle.script_output.proofs.Reading.{refusal-printed, read-fine, rest-within, behind-length, script-printed}
-
-add-if1 : tie.Need-add-if1
-add-if1 c = search needs
-
-returns : tie.Need-returns
-returns c =
-    let a = c .before .before .before .args in
-    prints-refused _ 8 _ _ (rw (lt-ltb (length (a .out .now)) (5 * length (a .text .now) + 5) (omega (arith, c .if1 .taken)))) (λ z. omega arith)
+use Rattle.script_output.proofs.Reading.{refusal-printed, read-fine, rest-within, script-printed}
 
 slice-aggregate-read-table-prefix : tie.Need-slice-aggregate-read-table-prefix
 slice-aggregate-read-table-prefix c = search needs
@@ -57,21 +44,16 @@ sub-print-script : tie.Need-sub-print-script
 sub-print-script c =
     let at-read = c .before .before .before .before .before in
     let at-read-table-prefix = at-read .before .before .before .before .before .before in
-    let at-start = at-read-table-prefix .before .before .before .before .before .before .before .before in
-    let a = at-start .args in
-    let k = at-read-table-prefix .read-table-prefix in
-    let w = rest-within (a .text .now) _ _ _ _ _ (k .ensures) _ _ _ _ (at-read .read .given .1) in
+    let a = at-read-table-prefix .before .before .before .before .before .before .before .args in
+    let w = rest-within (a .text .now) _ _ _ _ _ (at-read-table-prefix .read-table-prefix .ensures) _ _ _ _ (at-read .read .given .1) in
     omega (arith, w .1)
 
 part-print-script-start : tie.Need-part-print-script-start
 part-print-script-start c =
     let at-read = c .before .before .before .before .before in
     let at-read-table-prefix = at-read .before .before .before .before .before .before in
-    let at-start = at-read-table-prefix .before .before .before .before .before .before .before .before in
-    let a = at-start .args in
-    let k = at-read-table-prefix .read-table-prefix in
-    let w = rest-within (a .text .now) _ _ _ _ _ (k .ensures) _ _ _ _ (at-read .read .given .1) in
-    w .1
+    let a = at-read-table-prefix .before .before .before .before .before .before .before .args in
+    rest-within (a .text .now) _ _ _ _ _ (at-read-table-prefix .read-table-prefix .ensures) _ _ _ _ (at-read .read .given .1) .1
 
 part-print-script-end : tie.Need-part-print-script-end
 part-print-script-end c = search needs
@@ -80,14 +62,8 @@ print-script-requires : tie.Need-print-script-requires
 print-script-requires c κs =
     let at-read = c .before .before .before .before .before .before .before in
     let at-read-table-prefix = at-read .before .before .before .before .before .before in
-    let at-test = at-read-table-prefix .before .before .before .before .before in
-    let at-start = at-test .before .before .before in
-    let a = at-start .args in
-    let k = at-read-table-prefix .read-table-prefix in
-    let e = at-read .read .given .1 in
-    let w = rest-within (a .text .now) _ _ _ _ _ (k .ensures) _ _ _ _ e in
-    let n = behind-length (a .text .now) _ _ _ _ _ (k .ensures) _ _ _ _ e in
-    (read-fine (a .text .now) _ _ _ _ _ (k .ensures) _ _ _ _ e, omega (arith, at-test .if1 .left, w .0, w .1))
+    let a = at-read-table-prefix .before .before .before .before .before .before .before .args in
+    read-fine (a .text .now) _ _ _ _ _ (at-read-table-prefix .read-table-prefix .ensures) _ _ _ _ (at-read .read .given .1)
 
 enum-known-read-2 : tie.Need-enum-known-read-2
 enum-known-read-2 c = search needs
@@ -98,38 +74,29 @@ print-refusal-requires c κs = search needs
 same-length : tie.Need-same-length
 same-length c = search needs
 
-returns-2 : tie.Need-returns-2
-returns-2 c =
+returns : tie.Need-returns
+returns c =
     let at-print-script = c .before .before in
     let at-read = at-print-script .before .before .before .before .before .before .before .before in
     let at-read-table-prefix = at-read .before .before .before .before .before .before in
-    let at-test = at-read-table-prefix .before .before .before .before .before in
-    let at-start = at-test .before .before .before in
-    let a = at-start .args in
-    let k = at-read-table-prefix .read-table-prefix in
-    let p = at-print-script .print-script .ensures in
-    rw (le-ltb (length (a .out .now)) (5 * length (a .text .now) + 5) (omega (arith, at-test .if1 .left))) (script-printed (a .text .now) _ _ _ _ _ (k .ensures) _ _ _ _ (at-read .read .given .1) _ (a .out .now) _ (p .0) (p .1) (p .2))
+    let a = at-read-table-prefix .before .before .before .before .before .before .before .args in
+    script-printed (a .text .now) _ _ _ _ _ (at-read-table-prefix .read-table-prefix .ensures) _ _ _ _ (at-read .read .given .1) _ (a .out .now) _ (at-print-script .print-script .ensures)
 
 same-length-2 : tie.Need-same-length-2
 same-length-2 c = search needs
 
-returns-3 : tie.Need-returns-3
-returns-3 c =
+returns-2 : tie.Need-returns-2
+returns-2 c =
     let at-print-refusal = c .before .before in
     let at-read2 = at-print-refusal .before .before .before in
     let at-read-table-prefix = at-read2 .before .before .before .before .before .before in
-    let at-test = at-read-table-prefix .before .before .before .before .before in
-    let at-start = at-test .before .before .before in
-    let a = at-start .args in
-    let k = at-read-table-prefix .read-table-prefix in
-    rw (le-ltb (length (a .out .now)) (5 * length (a .text .now) + 5) (omega (arith, at-test .if1 .left))) (refusal-printed (a .text .now) _ _ _ _ _ (k .ensures) _ _ (a .out .now) _ (at-read2 .read2 .given .1) (omega (arith, at-test .if1 .left)) (at-print-refusal .print-refusal .ensures))
+    let a = at-read-table-prefix .before .before .before .before .before .before .before .args in
+    refusal-printed (a .text .now) _ _ _ _ _ (at-read-table-prefix .read-table-prefix .ensures) _ _ (a .out .now) _ (at-read2 .read2 .given .1) (at-print-refusal .print-refusal .ensures)
 
 pub script-text-spec : {M : Type 1} → statement M
 script-text-spec =
     tie.close
     (tie.spec
-    add-if1
-    returns
     slice-aggregate-read-table-prefix
     slice-aggregate-read-table-prefix-2
     slice-aggregate-read-table-prefix-3
@@ -149,6 +116,6 @@ script-text-spec =
     enum-known-read-2
     print-refusal-requires
     same-length
-    returns-2
+    returns
     same-length-2
-    returns-3)
+    returns-2)

@@ -122,12 +122,13 @@ fn closing_line_twice() {
 fn slice_for_the_output() {
     let mut random = Random::new(60);
     for input in [b"".to_vec(), b"x".to_vec(), input(3, &M4), input(1, &M11)] {
-        let enough = room_for(input.len());
-        for length in [0, 1, 4, enough / 2, enough - 1] {
+        let (exact, enough) = (output(&input).len(), room_for(input.len()));
+        for length in [0, 1, 4, exact / 2, exact - 1] {
             assert_eq!(text_in(&input, length, &mut random), Err(8));
         }
-        for length in [enough, enough + 1, 2 * enough] {
-            assert_eq!(text_in(&input, length, &mut random), Ok(output(&input)));
+        for length in [exact, exact + 1, enough - 1, enough, 2 * enough] {
+            let printed = text_in(&input, length.max(exact), &mut random);
+            assert_eq!(printed, Ok(output(&input)));
         }
     }
 }

@@ -8,7 +8,7 @@ use planner_tests::faults::{each_choice, of_table, Fault};
 use planner_tests::random::Random;
 use planner_tests::reference::Table;
 use planner_tests::samples::{self, M11, M4};
-use planner_tests::script::output;
+use planner_tests::script::{output, Script};
 use planner_tests::sites::{damage_table, marked, Numbers, MARKED};
 
 /// In pieces of so many bytes, equal to the whole.
@@ -149,7 +149,8 @@ const OF_RECORD: [Fault<Pieces>; 3] = [
     (|pieces| set_record(pieces, &[1; 12]), 22),
 ];
 
-/// Of any faults together the first decides; short slices go before all others.
+/// Of any faults together the first decides; too few bytes for an unfinished line or too few
+/// numbers go before all others, too few for the output behind them.
 #[test]
 fn refused_pieces_and_ends() {
     let random = &mut Random::new(77);
@@ -159,10 +160,13 @@ fn refused_pieces_and_ends() {
         let piece = b"00000100000000\n";
         let enough = 5 * piece.len();
         let expected = refusals.first().copied();
-        assert_eq!(pieces.end(END, random).err(), expected);
-        assert_eq!(pieces.end(END - 1, random), Err(8));
+        assert_eq!(pieces.end(11, random).err(), expected);
+        assert_eq!(pieces.end(10, random).err(), expected.or(Some(8)));
+        let short = pieces.piece(piece, 14, random);
+        assert_eq!(short.err(), expected.or(Some(8)));
+        let mut fitting = pieces.clone();
+        assert_eq!(fitting.piece(piece, 15, random).err(), expected);
         assert_eq!(pieces.piece(piece, enough, random).err(), expected);
-        assert_eq!(pieces.piece(piece, enough - 1, random), Err(8));
         let mut short_line = pieces.clone();
         short_line.line = Buffer::filled(KEPT - 1, || 7);
         assert_eq!(short_line.piece(piece, enough, random), Err(8));
@@ -171,8 +175,7 @@ fn refused_pieces_and_ends() {
     });
 }
 
-/// A slice of five bytes for each byte held and for each of the piece is long enough, a shorter
-/// one is refused.
+/// A slice that just holds what is printed is long enough, a shorter one is refused.
 #[test]
 fn slice_for_the_output() {
     let random = &mut Random::new(78);
@@ -182,16 +185,23 @@ fn slice_for_the_output() {
         let printed = pieces.piece(start, pieces.enough(start), random);
         assert_eq!(printed, Ok(Vec::new()));
         let piece = b"\n\n00000100000000\n";
-        let enough = pieces.enough(piece);
+        let mut reference = Script::fresh(marked(3));
+        reference.piece(start);
+        reference.piece(piece);
+        let exact = reference.printed.len();
         assert_eq!(pieces.held() as usize, start.len());
-        for length in [0, 1, enough / 2, enough - 1] {
+        for length in [0, 1, exact / 2, exact - 1] {
             assert_eq!(pieces.piece(piece, length, random), Err(8));
         }
-        assert!(pieces.piece(piece, enough, random).is_ok());
+        assert_eq!(pieces.piece(piece, exact, random), Ok(reference.printed));
     }
-    let pieces = Pieces::fresh(&marked(3), random);
-    for length in 0..END {
-        assert_eq!(pieces.end(length, random), Err(8));
+    let mut pieces = Pieces::fresh(&marked(3), random);
+    for (held, exact) in [(0, 11), (1, END), (16, END)] {
+        pieces.progress.lend()[1] = held;
+        for length in 0..exact {
+            assert_eq!(pieces.end(length, random), Err(8));
+        }
+        assert!(pieces.end(exact, random).is_ok());
     }
 }
 
@@ -204,7 +214,7 @@ fn damaged_tables() {
         damage_table(&mut damaged, random);
         let mut pieces = Pieces::fresh(table, random);
         pieces.numbers = Numbers::of(&damaged);
-        let expected = state_fault(pieces.numbers.slices(), pieces.record.entries(), false);
+        let expected = state_fault(pieces.numbers.slices(), pieces.record.entries());
         refused += usize::from(expected.is_some());
         let piece = b"00000100000000\n";
         let printed = pieces.piece(piece, pieces.enough(piece), random);

@@ -4,8 +4,7 @@ use Rattle.script_steps.proofs.pieces.answer_line.Statement.{statement}
 use Rattle.script_steps.proofs.pieces.answer_line.Tie as tie
 use native.Mathlib.Omega.{arith}
 use Rattle.table.specs.Slices.{slicesOf}
-use Rattle.fleet.proofs.Calls.{handled-answer}
-use Rattle.script_steps.proofs.Printing.{answer-short, used-within, line-buffered}
+use Rattle.script_steps.proofs.Printing.{used-within, line-buffered}
 
 cast-handle-line : tie.Need-cast-handle-line
 cast-handle-line c = search needs
@@ -14,14 +13,7 @@ handle-line-requires : tie.Need-handle-line-requires
 handle-line-requires c κs = search needs
 
 put-answer-requires : tie.Need-put-answer-requires
-put-answer-requires c κs =
-    let at-handle-line = c .before .before .before in
-    let s = at-handle-line .before .before .before .before .before .before .before .before .before .before .before in
-    let a = s .args in
-    let x = slicesOf (a .number) (a .probes) (a .links) (a .needs .now) (a .lows .now) (a .highs .now) (a .costs .now) in
-    let h = at-handle-line .handle-line .ensures in
-    let short = answer-short x (a .place .progress .used) 1024 (a .line .now) (a .rec .now) (s .pre .3) in
-    rw (handled-answer h) (omega (arith, s .pre .2))
+put-answer-requires c κs = search needs
 
 add-used-requires : tie.Need-add-used-requires
 add-used-requires c κs =

@@ -1,88 +1,50 @@
--- `script_steps::pieces::print_script` meets its contract.
 use borrow.Author.Needs.{needs}
 use Rattle.script_steps.proofs.pieces.print_script.Statement.{statement}
 use Rattle.script_steps.proofs.pieces.print_script.Tie as tie
-use Prim.Native.Nat.{ℕ, _*_, _≤_}
-use mathlib.Core.List.{List}
-use mathlib.Core.Path.{refl, sym, _∙_}
+use mathlib.Core.Path.{_≡_, sym, _∙_}
 use native.Mathlib.Omega.{arith}
-use lib.ListN.{replicate}
-use lib.Dec.{eqb}
-use lib.Seq.{length-take-le}
-use Rattle.table.proofs.Slices.{legal-slices}
+use lib.ListN.{length}
+use borrow.Author.Tests.{leb-true, leb-false, not-true, not-false}
 use Rattle.table.specs.Slices.{slicesOf}
-use Rattle.fleet_state.proofs.Legal.{fits}
-use Rattle.script_steps.proofs.Ends.{end-most, links-within, zeros-pass, all-printed, all-length}
+use Rattle.output.proofs.Printing.{prints-refused, prints-done, too-short, long-enough}
+use Rattle.script_lines.proofs.Fitting.{capped-below}
+use Rattle.script_theory.specs.Script.{scriptText}
 
-mul-bytes : tie.Need-mul-bytes
-mul-bytes c =
+script-fits-requires : tie.Need-script-fits-requires
+script-fits-requires c κs =
     let s = c .before .before .before .before .before .before in
-    let a = s .args in
-    let m = links-within (slicesOf (a .number) (a .probes) (a .links) (a .needs .now) (a .lows .now) (a .highs .now) (a .costs .now)) (s .pre .0) in
-    omega arith
+    (s .pre, omega (arith, s .good .1 .1 .1 .1 .1 .1 .1 .1 .0))
 
-array-borrow-prefix-bytes : tie.Need-array-borrow-prefix-bytes
-array-borrow-prefix-bytes c =
-    let s = c .before .before .before .before .before .before in
-    let a = s .args in
-    let m = links-within (slicesOf (a .number) (a .probes) (a .links) (a .needs .now) (a .lows .now) (a .highs .now) (a .costs .now)) (s .pre .0) in
-    omega arith
-
-slice-aggregate-rec : tie.Need-slice-aggregate-rec
-slice-aggregate-rec c =
-    let s = c .before .before .before .before .before .before .before in
-    let a = s .args in
-    let m = links-within (slicesOf (a .number) (a .probes) (a .links) (a .needs .now) (a .lows .now) (a .highs .now) (a .costs .now)) (s .pre .0) in
-    sym (length-take-le _ _ (omega arith))
-
-slice-aggregate-take-piece : tie.Need-slice-aggregate-take-piece
-slice-aggregate-take-piece c = search needs
-
-take-piece-requires : tie.Need-take-piece-requires
-take-piece-requires c κs =
-    let s = c .before .before .before .before .before .before .before .before .before .before in
+returns : tie.Need-returns
+returns c =
+    let at-script-fits = c .before in
+    let s = at-script-fits .before .before .before .before .before .before .before in
     let a = s .args in
     let x = slicesOf (a .number) (a .probes) (a .links) (a .needs .now) (a .lows .now) (a .highs .now) (a .costs .now) in
-    let m = links-within x (s .pre .0) in
-    (s .pre .0, zeros-pass x (s .pre .0) (omega arith), omega arith, refl, omega (arith, s .pre .1))
+    let printed = scriptText x 1024 (a .text .now) in
+    let fits = sym (at-script-fits .script-fits .ensures) ∙ not-true _ (c .if1 .taken) in
+    prints-refused _ 8 _ _ (too-short (length (a .out .now)) printed (leb-false (length printed) (length (a .out .now)) fits)) (λ z. omega arith)
 
-put-end-requires : tie.Need-put-end-requires
-put-end-requires c κs =
-    let at-take-piece = c .before .before .before .before .before .before .before .before in
-    let s = at-take-piece .before .before .before .before .before .before .before .before .before .before .before in
-    let a = s .args in
-    let k = at-take-piece .take-piece in
-    let m = links-within (slicesOf (a .number) (a .probes) (a .links) (a .needs .now) (a .lows .now) (a .highs .now) (a .costs .now)) (s .pre .0) in
-    let zeros : List ℕ = replicate 8192 0 in
-    let n = length-take-le (4 * a .links) zeros (omega arith) in
-    (fits (a .number) (a .probes) (a .links) (a .needs .now) (a .lows .now) (a .highs .now) (a .costs .now) (legal-slices 256 2048 (slicesOf (a .number) (a .probes) (a .links) (a .needs .now) (a .lows .now) (a .highs .now) (a .costs .now)) (s .pre .0)), omega (arith, k .kept .1 .1 .1 .1 .1 .1 .1 .0), omega (arith, k .ensures .1, s .pre .1, k .kept .1 .1 .1 .1 .1 .1 .1 .1 .1 .1 .1 .0))
+put-script-requires : tie.Need-put-script-requires
+put-script-requires c κs = search needs
 
 same-length : tie.Need-same-length
 same-length c = search needs
 
-returns : tie.Need-returns
-returns c =
-    let at-put-end = c .before .before .before in
-    let at-take-piece = at-put-end .before .before .before .before .before .before .before .before .before in
-    let s = at-take-piece .before .before .before .before .before .before .before .before .before .before .before in
+returns-2 : tie.Need-returns-2
+returns-2 c =
+    let at-put-script = c .before .before in
+    let at-if1 = at-put-script .before .before in
+    let at-script-fits = at-if1 .before in
+    let s = at-script-fits .before .before .before .before .before .before .before in
     let a = s .args in
-    let k = at-take-piece .take-piece in
     let x = slicesOf (a .number) (a .probes) (a .links) (a .needs .now) (a .lows .now) (a .highs .now) (a .costs .now) in
-    let m = links-within x (s .pre .0) in
-    let w : 4 * a .links ≤ 8192 = omega arith in
-    let most = end-most (eqb (k .result .progress .held) 0) in
-    let line : List ℕ = replicate 17 0 in
-    (all-printed x (s .pre .0) w _ (refl, refl, refl) line _ (a .text .now) _ (a .out .now) _ _ _ (k .ensures .0) (at-put-end .put-end .ensures .0 (a .number) (a .costs .now)), at-put-end .put-end .ensures .1 ∙ all-length x (s .pre .0) w _ (refl, refl, refl) line _ (a .text .now) _ (a .out .now) _ (a .out .now) _ (k .ensures .0), omega (arith, k .ensures .1, s .pre .1, at-put-end .put-end .ensures .1))
+    let printed = scriptText x 1024 (a .text .now) in
+    let fits = leb-true (length printed) (length (a .out .now)) (sym (at-script-fits .script-fits .ensures) ∙ not-false _ (at-if1 .if1 .left)) in
+    let e = at-put-script .put-script .ensures in
+    let n = e .0 ∙ capped-below (length printed) (omega (arith, s .good .1 .1 .1 .1 .1 .1 .1 .1 .0)) in
+    prints-done _ _ printed (a .out .now) _ (long-enough (length (a .out .now)) printed fits) n (omega arith) (e .1 fits)
 
 pub print-script-spec : {M : Type 1} → statement M
 print-script-spec =
-    tie.close
-    (tie.spec
-    mul-bytes
-    array-borrow-prefix-bytes
-    slice-aggregate-rec
-    slice-aggregate-take-piece
-    take-piece-requires
-    put-end-requires
-    same-length
-    returns)
+    tie.close (tie.spec script-fits-requires returns put-script-requires same-length returns-2)

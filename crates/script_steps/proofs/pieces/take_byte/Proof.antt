@@ -4,11 +4,10 @@ use Rattle.script_steps.proofs.pieces.take_byte.Statement.{statement}
 use Rattle.script_steps.proofs.pieces.take_byte.Tie as tie
 use mathlib.Core.Path.{refl, sym}
 use native.Mathlib.Omega.{arith}
-use lib.ListN.{set, length-set}
+use lib.ListN.{length-set}
 use lib.Seq.{length-take-le}
 use Rattle.table.specs.Slices.{slicesOf}
 use Rattle.script_steps.proofs.Bytes.{stored-byte, byte-line, byte-held}
-use Prim.Native.Nat.{_+_}
 
 cast-held : tie.Need-cast-held
 cast-held c = search needs
@@ -30,10 +29,7 @@ slice-aggregate-answer-line c =
     sym (length-take-le _ _ (simp length-set (omega (arith, s .pre .2, s .pre .3))))
 
 answer-line-requires : tie.Need-answer-line-requires
-answer-line-requires c κs =
-    let s = c .before .before .before .before .before .before .before .before .before .before .before .before .before in
-    let n = length-take-le (s .args .place .progress .held + 1) (set (s .args .line .now) (s .args .place .progress .held) (s .args .byte)) (simp length-set (omega (arith, s .pre .2, s .pre .3))) in
-    (s .pre .0, s .pre .1, omega (arith, s .pre .4), omega arith)
+answer-line-requires c κs = search needs
 
 same-length : tie.Need-same-length
 same-length c = search needs
@@ -64,7 +60,7 @@ returns-2 c =
     let s = c .before .before .before .before .before .before .before .before .before .before .before in
     let a = s .args in
     let x = slicesOf (a .number) (a .probes) (a .links) (a .needs .now) (a .lows .now) (a .highs .now) (a .costs .now) in
-    byte-held x 1024 (a .place .progress) (a .byte) (a .place .at) (a .rec .now) (a .rec .now) (a .line .now) _ (a .out .now) (a .out .now) _ (c .before .if1 .left) (s .pre .2) (s .pre .3) refl (c .one-more .ensures)
+    byte-held x 1024 (a .place .progress) (a .byte) (a .place .at) (a .rec .now) (a .rec .now) (a .line .now) _ (a .out .now) (a .out .now) _ (c .before .if1 .left) (s .pre .4) (s .pre .2) (s .pre .3) refl (c .one-more .ensures)
 
 pub take-byte-spec : {M : Type 1} → statement M
 take-byte-spec =

@@ -7,10 +7,9 @@ use Prim.Native.Nat.{_-_, _≤_}
 use mathlib.Core.Path.{_≡_, refl, _∙_}
 use native.Mathlib.Omega.{arith}
 use lib.ListN.{length}
-use lib.Seq.{length-take-le}
 use Rattle.table.specs.Slices.{slicesOf}
 use Rattle.script_steps.specs.Within.{underWay}
-use Rattle.script_steps.proofs.PieceLaws.{Taken, taken-none, taken-next, taken-all}
+use Rattle.script_steps.proofs.PieceLaws.{at-most, Taken, taken-none, taken-next, taken-all}
 
 abbrev Inv-loop : tie.InvT-loop
 Inv-loop number probes links needs lows highs costs rec₀ line₀ piece out₀ place₀ i₀ rec line out place i =
@@ -32,14 +31,10 @@ shared-slice-read-take-byte c = search needs
 
 take-byte-requires : tie.Need-take-byte-requires Inv-loop μ-loop
 take-byte-requires c κs =
-    let at-loop-test = c .before .before .before .before in
-    let at-loop = at-loop-test .before in
+    let at-loop = c .before .before .before .before .before in
     let s = at-loop .before .before .before .before .before .before .before .before .before in
-    let a = s .args in
     let v = at-loop .loop .inv in
-    let n = length-take-le (a .progress .held) (a .line .now) (omega (arith, s .pre .2, s .pre .3)) in
-    let t = v .1 .short in
-    (s .pre .0, v .1 .usable, v .1 .few, v .3, omega (arith, s .pre .4, v .4, at-loop-test .loop-test .taken))
+    (s .pre .0, v .1 .usable, v .1 .few, v .3, at-most _ 0 _ _ _ _ _ (v .1 .buffered))
 
 add-i : tie.Need-add-i Inv-loop μ-loop
 add-i c =
@@ -60,7 +55,7 @@ loop-again c =
     let x = slicesOf (a .number) (a .probes) (a .links) (a .needs .now) (a .lows .now) (a .highs .now) (a .costs .now) in
     let v = at-loop .loop .inv in
     let t = at-take-byte .take-byte in
-    (omega (arith, at-loop-test .loop-test .taken), taken-next x 1024 (s .pre .0) (underWay (a .progress) (a .rec .now) (a .line .now)) (a .piece .now) (a .out .now) (at-loop .loop .i) (at-loop .loop .place) _ _ _ _ _ _ _ (at-loop-test .loop-test .taken) (v .1) (t .ensures), t .kept .1 .1 .1 .1 .1 .1 .1 .0 ∙ v .2, t .kept .1 .1 .1 .1 .1 .1 .1 .1 .0 ∙ v .3, t .kept .1 .1 .1 .1 .1 .1 .1 .1 .1 .1 .0 ∙ v .4)
+    (omega (arith, at-loop-test .loop-test .taken), taken-next x 1024 (s .pre .0) (underWay (a .progress) (a .rec .now) (a .line .now)) (a .piece .now) (a .out .now) (at-loop .loop .i) (at-loop .loop .place) _ _ _ _ _ _ _ (at-loop-test .loop-test .taken) (v .4) (omega (arith, s .good .1 .1 .1 .1 .1 .1 .1 .1 .1 .1 .1 .0)) (v .1) (t .ensures), t .kept .1 .1 .1 .1 .1 .1 .1 .0 ∙ v .2, t .kept .1 .1 .1 .1 .1 .1 .1 .1 .0 ∙ v .3, t .kept .1 .1 .1 .1 .1 .1 .1 .1 .1 .1 .0 ∙ v .4)
 
 same-length : tie.Need-same-length Inv-loop μ-loop
 same-length c = search needs
@@ -77,9 +72,7 @@ returns c =
     let a = s .args in
     let x = slicesOf (a .number) (a .probes) (a .links) (a .needs .now) (a .lows .now) (a .highs .now) (a .costs .now) in
     let v = c .before .loop .inv in
-    let n = length-take-le (a .progress .held) (a .line .now) (omega (arith, s .pre .2, s .pre .3)) in
-    let t = v .1 .short in
-    (taken-all x 1024 (s .pre .0) (underWay (a .progress) (a .rec .now) (a .line .now)) (a .piece .now) (a .out .now) (c .before .loop .i) (c .before .loop .place) _ _ _ (omega (arith, c .loop-test .left)) (v .1), omega (arith, v .0), v .1 .few)
+    (taken-all x 1024 (s .pre .0) (underWay (a .progress) (a .rec .now) (a .line .now)) (a .piece .now) (a .out .now) (c .before .loop .i) (c .before .loop .place) _ _ _ (omega (arith, c .loop-test .left)) (v .1), v .1 .few)
 
 pub take-piece-spec : {M : Type 1} → statement M
 take-piece-spec =
