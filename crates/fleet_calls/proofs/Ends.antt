@@ -35,6 +35,7 @@ use Rattle.probe_rules.proofs.OutcomeLaws.{befalls-within}
 use Rattle.probe_checks.specs.Checks.{frameKindFault, toFault, probeFault, ownLinkFault, untriedFault, fullFault, heardFault, hearFault, openFault, linkCallFault}
 use Rattle.probe.specs.declared.Kind.{Kind}
 use Rattle.probe.specs.declared.Asked.{Asked}
+use Rattle.probe.specs.declared.Asked.the-variants.{Written}
 use Rattle.probe.proofs.Answers.{befallen-answer}
 use Rattle.probe.specs.Answers.{Befallen, Asks, Opens, Hears, AsksFor, askFault, askedEvent, askedFrame, askedLine}
 use Rattle.fleet_theory.specs.Fleet.{own, eventLineFault, eventOf, State, start, faultOf, answerTo, next, run}
@@ -230,7 +231,7 @@ module _ (x : Slices) (fine : slicesFault x ≡ 0) (log : List Entry) where
   asked-same : (before : List LoggedCall) → LoggedCalls x (freshLogged x log) before → (k : Kind) (p i : ℕ) → OwnLink t p i
       → (y : Slices) → SameTable y x → (out : List ℕ) → 15 ≤ length out → (a : Asked) (out′ : List ℕ)
       → (let bytes = leftAfterLogged (freshLogged x log) before .bytes in
-      AsksFor y p k i (own t p bytes) a out out′ → ((a ≡ asked.Written) × (out′ ≡ sets out 0 (askedLine t p k i))) ↔ MaySend t bytes (askedFrame t p k i))
+      AsksFor y p k i (own t p bytes) a out out′ → ((a ≡ Written) × (out′ ≡ sets out 0 (askedLine t p k i))) ↔ MaySend t bytes (askedFrame t p k i))
   asked-same before calls k p i is-own y same out long a out′ h =
       let s = run x room (start x) (loggedLines before) in
       let e = own t p (s .bytes) in
