@@ -208,7 +208,7 @@ uint64_t planner_fleet_finished(
 
 /* libscript_exports.a: a fleet driven by a script. */
 
-/* What the script program prints for an input, into out, which has five bytes for each of the text and five more. */
+/* What the script program prints for an input, into out; where out has five bytes for each of the text, nothing is counted beforehand. */
 uint64_t planner_script_text(
     const uint8_t *text, size_t text_length,
     uint8_t *out, size_t out_length);
@@ -226,7 +226,7 @@ uint64_t planner_script_piece(
     const uint8_t *piece, size_t piece_length,
     uint8_t *out, size_t out_length);
 
-/* What the script's end prints, into out (16 bytes); held and changed are the last two of the numbers. */
+/* What the script's end prints, into out (at most 16 bytes); held and changed are the last two of the numbers. */
 uint64_t planner_script_end(
     uint16_t number, uint16_t probes, uint16_t links,
     const uint16_t *needs, size_t needs_length,

@@ -215,7 +215,14 @@ const CALLS: [(&str, Call); 17] = [
         let (record, out) = (&mut lent.record, &mut lent.out);
         let answer = ffi::script_piece(given, record, line, &mut [0; 3], piece, out);
         let out = just_holding(answer, out);
-        answer.max(ffi::script_piece(given, &mut again, line, &mut [0; 3], piece, out))
+        answer.max(ffi::script_piece(
+            given,
+            &mut again,
+            line,
+            &mut [0; 3],
+            piece,
+            out,
+        ))
     }),
     ("planner_script_text", |site, lent| {
         let text = |input: &Vec<u8>| {
