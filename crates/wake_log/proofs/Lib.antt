@@ -1,3 +1,4 @@
 pub mod Call
+pub mod Slots
 pub mod Stored
 mod Walk
