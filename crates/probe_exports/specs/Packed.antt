@@ -1,10 +1,11 @@
 -- What the functions of one end for C and Rust promise: the answer as one number, and the lent slices as the functions that are called leave them.
--- A refusal is its number; any other answer is `answerBase` or more.
-use Prim.Native.Nat.{ℕ, _+_}
+-- A refusal is its number; any other answer is `answerBase` or more. A log has packed entries.
+use Prim.Native.Nat.{ℕ, _+_, _-_}
 use mathlib.Core.Path.{_≡_}
 use mathlib.Core.Bool.{Bool, cond}
 use mathlib.Core.List.{List}
 use lib.Dec.{eqb}
+use lib.ListN.{length}
 use Rattle.table.specs.Table.{Table}
 use Rattle.table.specs.Slices.{Slices, tableOf, slicesFault}
 use Rattle.probe_frame.specs.Frame.{frameOf}
@@ -18,7 +19,7 @@ use Rattle.probe.specs.Answers.{Befallen, Asks, askedEvent, askFault}
 use Rattle.probe.specs.declared.Kind.{Kind}
 use Rattle.probe.specs.declared.Asked.{Asked}
 use Rattle.probe.specs.declared.Asked.the-variants.{Written, NotNow, Refused as Unasked}
-use Rattle.packed_answers.specs.Packed.{answerBase, packedAnswer}
+use Rattle.packed_answers.specs.Packed.{answerBase, packedAnswer, packedAfter}
 use Rattle.probe.specs.declared.Resting.{Resting}
 use Rattle.probe.specs.declared.Resting.the-variants.{Rests, Refused as Untold}
 
@@ -45,6 +46,11 @@ pub record AsksPacked (fault : ℕ) (t : Table) (p : ℕ) (k : Kind) (i : ℕ) (
   pub answer : r ≡ packedAsked (askedOf fault (sendable (askedEvent k i) e))
   pub lent : Asks fault t p k i e (askedOf fault (sendable (askedEvent k i) e)) before after
 
+-- an event with a log: the entry stands behind its used ones, or it is unchanged
+pub record LogsAtEndPacked (fault : ℕ) (t : Table) (p : ℕ) (event : Event) (r : ℕ) (before after : List ℕ) (used : ℕ) (log log′ : List ℕ) : Type 0 where
+  pub befallen : BefallenPacked fault t p event r before after
+  pub log-after : log′ ≡ packedAfter log used (answerOf fault (entryOf t p (befalls t p event before)))
+
 -- The calls of the end p, over the table in its slices: as `Opens`, `Hears` and `AsksFor`, the answer packed.
 
 abbrev pub OpensPacked : Slices → ℕ → ℕ → ℕ → List ℕ → List ℕ → Type 0
@@ -56,3 +62,11 @@ HearsPacked x p frame free r before after =
 
 abbrev pub AsksForPacked : Slices → ℕ → Kind → ℕ → List ℕ → ℕ → List ℕ → List ℕ → Type 0
 AsksForPacked x p k i e r before after = AsksPacked (askFault x p i e before) (tableOf x) p k i e r before after
+
+abbrev pub OpensLoggedPacked : Slices → ℕ → ℕ → List ℕ → List ℕ → ℕ → List ℕ → List ℕ → Type 0
+OpensLoggedPacked x p r before after used log log′ =
+    LogsAtEndPacked (openFault (slicesFault x) (tableOf x) p before (length log - used)) (tableOf x) p Opening r before after used log log′
+
+abbrev pub HearsLoggedPacked : Slices → ℕ → List ℕ → ℕ → List ℕ → List ℕ → ℕ → List ℕ → List ℕ → Type 0
+HearsLoggedPacked x p frame r before after used log log′ =
+    LogsAtEndPacked (hearFault (slicesFault x) (tableOf x) p before frame (length log - used)) (tableOf x) p (heardOf (tableOf x) (frameOf frame)) r before after used log log′
