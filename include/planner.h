@@ -6,7 +6,7 @@
  *
  * A table in slices is: number, probes, links, needs (an entry a probe), lows, highs and costs (an entry a link).
  * The record of a probe has two bytes a link, that of a fleet four; a fresh record is all zero.
- * A wake log has a number for each entry, as planner_log_entry answers it; the count of its used ones goes beside it.
+ * A wake log has a number for each entry, of any value before it is used; the count of its used ones goes beside it.
  *
  * A refusal is its number, and leaves every slice as it was:
  *    1 a line is missing or not of its length          20 a record of the wrong length

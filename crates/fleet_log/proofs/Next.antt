@@ -1,12 +1,12 @@
 -- A line over a lent log is a step of the list of lines.
 use Prim.Native.Nat.{ℕ, suc, _<_}
-use mathlib.Core.Path.{_≡_, refl, _∙_, ap}
+use mathlib.Core.Path.{_≡_, refl, sym, _∙_, ap}
 use mathlib.Core.Bool.{Bool, true, false, cond}
 use mathlib.Core.List.{List, [], _∷_, _++_}
 use native.Mathlib.Omega.{arith}
 use borrow.Author.Tests.{ltb-true, eqb-true}
 use lib.Dec.{eqb, ltb}
-use lib.ListN.{length, take, set, length-append}
+use lib.ListN.{length, take, drop, set, length-append, take-append-drop}
 use lib.Seq.{take-suc-set}
 use Rattle.range.specs.First.{orElse}
 use Rattle.range.proofs.Faults.{or-right}
@@ -14,6 +14,8 @@ use Rattle.range.proofs.Bools.{unless-none}
 use Rattle.probe_frame.specs.Frame.{frameOf}
 use Rattle.wake_log.specs.declared.Entry.{Entry}
 use Rattle.wake_log.specs.declared.Answer.{Answer}
+use Rattle.wake_log.specs.Log.{slotOf}
+use Rattle.wake_log.proofs.Slots.{slot-of-used}
 use Rattle.probe_rules.specs.Rules.{entryOf}
 use Rattle.fleet_theory.specs.Fleet.{fleetFault, eventLineFault, unsentFault, eventOf, own, outcomeOf, State, faultOf, answerTo, accepted, next}
 use Rattle.table.specs.Slices.{Slices, tableOf, slicesFault}
@@ -46,3 +48,10 @@ logged-next x s l r after log log′ same h =
         let long : length (s .log ++ (e ∷ [])) ≡ suc (length (s .log)) = length-append (s .log) (e ∷ []) ∙ omega arith in
         rw long (ap (take (suc (length (s .log)))) is ∙ take-suc-set log (length (s .log)) e (room-free x (length log) s l (eqb-true (faultOf x (length log) s l) 0 fine)) ∙ ap (λ (z : List Entry). z ++ (e ∷ [])) same)
     go false fine is = rw is same
+
+-- read then, a used place has the list's entry, and past the used ones there is none
+pub logged-slots : (s : State) (log : List Entry) (i : ℕ) → take (length (s .log)) log ≡ s .log → slotOf log (length (s .log)) i ≡ slotOf (s .log) (length (s .log)) i
+logged-slots s log i same =
+    let behind = drop (length (s .log)) log in
+    let apart : log ≡ s .log ++ behind = sym (take-append-drop (length (s .log)) log) ∙ ap (λ (z : List Entry). z ++ behind) same in
+    ap (λ (z : List Entry). slotOf z (length (s .log)) i) apart ∙ slot-of-used (s .log) behind i

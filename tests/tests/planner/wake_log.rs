@@ -9,6 +9,8 @@ use planner_tests::ends::Entry;
 use planner_tests::events::{any_frame, any_probe, damaged_line, each_table};
 use planner_tests::ffi;
 use planner_tests::random::Random;
+use planner_tests::repository::document;
+use planner_tests::samples::{text, M11_PRINTED};
 use planner_tests::tally::Tally;
 
 /// Of several lengths; some are full, and some have a count of used entries above their length.
@@ -89,4 +91,15 @@ fn openings_and_frames_of_an_end() {
     });
     tally.assert_often(&[1, 2, 9, 23, 24, 25, 26]);
     tally.assert_each_befell(300);
+}
+
+/// What the gate has the program over lent logs print: M11's entries, then those of probe 1.
+#[test]
+fn m11_over_lent_logs() {
+    let alone = [1, 2, 5].map(|place| M11_PRINTED[place]);
+    let expected = [&M11_PRINTED[..10], &alone].concat();
+    assert_eq!(
+        document("crates/script_m11/stdout").as_bytes(),
+        text(&expected)
+    );
 }
