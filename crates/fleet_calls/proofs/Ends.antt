@@ -24,7 +24,7 @@ use Rattle.probe_record.specs.Record.{byteFault, recordFault}
 use Rattle.wake_log.specs.declared.Entry.{Entry}
 use Rattle.wake_log.specs.declared.Answer.{Answer}
 use Rattle.wake_log.specs.declared.Answer.the-variants.{Logged}
-use Rattle.wake_log.specs.Entry.{answerOf}
+use Rattle.wake_log.specs.Entry.{answerOf, acceptedBy}
 use Rattle.probe_rules.specs.declared.Event.{Event}
 use Rattle.probe_rules.specs.declared.Event.the-variants.{Opening}
 use Rattle.probe_rules.specs.declared.Outcome.{Outcome}
@@ -45,7 +45,7 @@ use Rattle.fleet_theory.proofs.Ends.{ends-alone}
 use Rattle.fleet_theory.proofs.Run.{slices-legal}
 use Rattle.fleet.proofs.Checks.{line-to, line-within}
 use Rattle.fleet.proofs.Passing.{passed-line}
-use Rattle.fleet_calls.specs.Calls.{SameTable, acceptedBy, LoggedCall, LoggedLeft, freshLogged, leftByLogged, LoggedCalls, leftAfterLogged, loggedLines}
+use Rattle.fleet_calls.specs.Calls.{SameTable, LoggedCall, LoggedLeft, freshLogged, leftByLogged, LoggedCalls, leftAfterLogged, loggedLines}
 use Rattle.fleet_calls.specs.Ends.{EndsOfCalls}
 use Rattle.fleet_calls.proofs.Same.{and-under, same-between, same-heard, same-line, same-spare-fault, same-befalls, same-entry}
 use Rattle.fleet_calls.proofs.Promises.{same-fine}
