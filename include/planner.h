@@ -1,4 +1,4 @@
-/* The well-probe link planner for C: the functions of the five static libraries, and what their answers mean.
+/* The well-probe link planner for C: the functions of the six static libraries, and what their answers mean.
  *
  * A slice passes as a pointer and a length in entries. A pointer is not null, also where the length is 0; a slice
  * that is not const overlaps no other slice of the call. A function keeps no pointer, allocates nothing and has no
@@ -6,6 +6,7 @@
  *
  * A table in slices is: number, probes, links, needs (an entry a probe), lows, highs and costs (an entry a link).
  * The record of a probe has two bytes a link, that of a fleet four; a fresh record is all zero.
+ * A wake log has a number for each entry, of any value before it is used; the count of its used ones goes beside it.
  *
  * A refusal is its number, and leaves every slice as it was:
  *    1 a line is missing or not of its length          20 a record of the wrong length
@@ -45,7 +46,7 @@
 /* The bytes written or printed: planner_write_table, _plan_text, _script_text, _script_piece and _script_end. */
 #define PLANNER_LENGTH(answer) ((size_t)((answer) - (UINT64_C(1) << 48)))
 
-/* The entry of an event: planner_probe_open, planner_probe_hear and planner_fleet_event.
+/* The entry of an event: planner_probe_open, _probe_hear and _fleet_event, their _logged forms, planner_log_entry.
  * What befell the probe: 0 opened, 1 nothing to open, 2 taken, 3 taken with a displaced probe, 4 refused,
  * 5 refusal learnt, 6 heard with no change. */
 #define PLANNER_EVENT_PROBE(answer) ((uint16_t)((answer) >> 40))
@@ -149,6 +150,31 @@ uint64_t planner_probe_hear(
     const uint8_t *frame, size_t frame_length,
     size_t free);
 
+/* The probe opens; the entry goes behind the used ones of the log. */
+uint64_t planner_probe_open_logged(
+    uint16_t number, uint16_t probes, uint16_t links,
+    const uint16_t *needs, size_t needs_length,
+    const uint16_t *lows, size_t lows_length,
+    const uint16_t *highs, size_t highs_length,
+    const uint16_t *costs, size_t costs_length,
+    uint16_t probe,
+    uint8_t *rec, size_t rec_length,
+    uint64_t *log, size_t log_length,
+    size_t used);
+
+/* The probe hears a frame of any bytes; the entry goes behind the used ones of the log. */
+uint64_t planner_probe_hear_logged(
+    uint16_t number, uint16_t probes, uint16_t links,
+    const uint16_t *needs, size_t needs_length,
+    const uint16_t *lows, size_t lows_length,
+    const uint16_t *highs, size_t highs_length,
+    const uint16_t *costs, size_t costs_length,
+    uint16_t probe,
+    uint8_t *rec, size_t rec_length,
+    const uint8_t *frame, size_t frame_length,
+    uint64_t *log, size_t log_length,
+    size_t used);
+
 /* Writes the line of the probe's offer on the link into out, where it may be sent now. */
 uint64_t planner_probe_ask_offer(
     uint16_t number, uint16_t probes, uint16_t links,
@@ -197,6 +223,18 @@ uint64_t planner_fleet_event(
     const uint8_t *line, size_t line_length,
     size_t used, size_t room);
 
+/* One line, of any bytes, on a fleet's record; the entry goes behind the used ones of the log. */
+uint64_t planner_fleet_event_logged(
+    uint16_t number, uint16_t probes, uint16_t links,
+    const uint16_t *needs, size_t needs_length,
+    const uint16_t *lows, size_t lows_length,
+    const uint16_t *highs, size_t highs_length,
+    const uint16_t *costs, size_t costs_length,
+    uint8_t *rec, size_t rec_length,
+    const uint8_t *line, size_t line_length,
+    uint64_t *log, size_t log_length,
+    size_t used);
+
 /* Whether the fleet is finished. */
 uint64_t planner_fleet_finished(
     uint16_t number, uint16_t probes, uint16_t links,
@@ -206,9 +244,16 @@ uint64_t planner_fleet_finished(
     const uint16_t *costs, size_t costs_length,
     const uint8_t *rec, size_t rec_length);
 
+/* libwake_log_exports.a: reading a wake log. */
+
+/* The entry at place i, as the answer to its event; 0 past the used ones or past the log's end. */
+uint64_t planner_log_entry(
+    const uint64_t *log, size_t log_length,
+    size_t used, size_t i);
+
 /* libscript_exports.a: a fleet driven by a script. */
 
-/* What the script program prints for an input, into out, which has five bytes for each of the text and five more. */
+/* What the script program prints for an input, into out; where out has five bytes for each of the text, nothing is counted beforehand. */
 uint64_t planner_script_text(
     const uint8_t *text, size_t text_length,
     uint8_t *out, size_t out_length);
@@ -226,7 +271,7 @@ uint64_t planner_script_piece(
     const uint8_t *piece, size_t piece_length,
     uint8_t *out, size_t out_length);
 
-/* What the script's end prints, into out (16 bytes); held and changed are the last two of the numbers. */
+/* What the script's end prints, into out (at most 16 bytes); held and changed are the last two of the numbers. */
 uint64_t planner_script_end(
     uint16_t number, uint16_t probes, uint16_t links,
     const uint16_t *needs, size_t needs_length,

@@ -14,7 +14,7 @@ fn main() {
     };
     println!("cargo:rustc-link-search=native={}", folder.display());
     println!("cargo:rustc-env=PLANNER_LIBRARIES={}", folder.display());
-    for subject in ["table", "plan", "probe", "fleet", "script"] {
+    for subject in ["table", "plan", "probe", "fleet", "wake_log", "script"] {
         println!("cargo:rustc-link-lib=static={subject}_exports");
         let archive = folder.join(format!("lib{subject}_exports.a"));
         println!("cargo:rerun-if-changed={}", archive.display());

@@ -120,6 +120,35 @@ static void fleet(void) {
     expect(PLANNER_REFUSED(answer) && answer == 26, "full log", 0);
 }
 
+/* M11 with a lent log: its entries are read back, and no other of its numbers changes. */
+static void fleet_logged(void) {
+    uint64_t log[EVENTS + 1], expected[EVENTS + 1], answer;
+    uint8_t rec[4 * LINKS] = {0}, same[4 * LINKS] = {0};
+    unsigned event, place;
+    char line[16];
+
+    for (place = 0; place <= EVENTS; place++) {
+        log[place] = expected[place] = 7 + place;
+    }
+    for (event = 0; event < EVENTS; event++) {
+        answer = planner_fleet_event_logged(TABLE, rec, sizeof rec, bytes(M11[event]), PLANNER_FRAME, log, EVENTS, event);
+        expected[event] = answer;
+        expect(memcmp(log, expected, sizeof log) == 0, "log", event);
+        answer = planner_fleet_event(TABLE, same, sizeof same, bytes(M11[event]), PLANNER_FRAME, event, EVENTS);
+        expect(answer == expected[event] && memcmp(rec, same, sizeof rec) == 0, "event with a log", event);
+        expect(planner_log_entry(log, EVENTS, event, event) == 0, "no entry before it is used", event);
+    }
+    for (place = 0; place < EVENTS; place++) {
+        print_entry(planner_log_entry(log, EVENTS, EVENTS, place), line);
+        expect(strcmp(line, M11_PRINTED[place]) == 0, "entry read", place);
+    }
+    expect(planner_log_entry(log, EVENTS + 1, EVENTS, EVENTS) == 0, "no entry past the used ones", 0);
+    expect(planner_log_entry(log, EVENTS, EVENTS + 1, EVENTS) == 0, "no entry past the log's end", 0);
+    answer = planner_fleet_event_logged(TABLE, rec, sizeof rec, bytes(M11[0]), PLANNER_FRAME, log, EVENTS, EVENTS);
+    expect(PLANNER_REFUSED(answer) && answer == 26, "full lent log", 0);
+    expect(memcmp(rec, same, sizeof rec) == 0 && memcmp(log, expected, sizeof log) == 0, "refused with a log", 0);
+}
+
 /* Probe 1 of M11: it takes probe 0's offer, opens, and takes probe 2's, displacing probe 0. */
 static void one_end(void) {
     uint8_t rec[2 * LINKS] = {0}, out[PLANNER_FRAME];
@@ -137,6 +166,24 @@ static void one_end(void) {
     answer = planner_probe_ask_refusal(TABLE, 1, rec, sizeof rec, 0, out, sizeof out);
     expect(PLANNER_YES(answer) && memcmp(out, M11[6], sizeof out) == 0, "refusal's line", 0);
     expect(PLANNER_YES(planner_probe_rests(TABLE, 1, rec, sizeof rec, 1)), "link 1 rested", 0);
+}
+
+/* The same with a lent log. */
+static void one_end_logged(void) {
+    uint64_t log[3] = {7, 8, 9}, answer;
+    uint8_t rec[2 * LINKS] = {0};
+
+    planner_probe_hear_logged(TABLE, 1, rec, sizeof rec, bytes(M11[1]), PLANNER_FRAME, log, 3, 0);
+    planner_probe_open_logged(TABLE, 1, rec, sizeof rec, log, 3, 1);
+    planner_probe_hear_logged(TABLE, 1, rec, sizeof rec, bytes(M11[5]), PLANNER_FRAME, log, 3, 2);
+    answer = planner_log_entry(log, 3, 3, 0);
+    expect(PLANNER_EVENT_WHAT(answer) == 2 && PLANNER_EVENT_LINK(answer) == 0, "first entry of an end", 0);
+    answer = planner_log_entry(log, 3, 3, 1);
+    expect(PLANNER_EVENT_WHAT(answer) == 0 && PLANNER_EVENT_LINK(answer) == 1, "second entry of an end", 0);
+    answer = planner_log_entry(log, 3, 3, 2);
+    expect(PLANNER_EVENT_WHAT(answer) == 3 && PLANNER_EVENT_DISPLACED(answer) == 0, "third entry of an end", 0);
+    answer = planner_probe_open_logged(TABLE, 1, rec, sizeof rec, log, 3, 3);
+    expect(answer == 26, "full log of an end", 0);
 }
 
 /* M11 as one text, and behind the table in two pieces. */
@@ -180,7 +227,9 @@ int main(void) {
     read_and_write();
     plan();
     fleet();
+    fleet_logged();
     one_end();
+    one_end_logged();
     script();
     return failures == 0 ? 0 : 1;
 }

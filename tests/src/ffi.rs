@@ -69,12 +69,36 @@ library! {
 
     pub fn probe_open(given: Slices, probe: u16, rec: &mut [u8], free: usize) -> u64;
     pub fn probe_hear(given: Slices, probe: u16, rec: &mut [u8], frame: &[u8], free: usize) -> u64;
+    pub fn probe_open_logged(
+        given: Slices,
+        probe: u16,
+        rec: &mut [u8],
+        log: &mut [u64],
+        used: usize
+    ) -> u64;
+    pub fn probe_hear_logged(
+        given: Slices,
+        probe: u16,
+        rec: &mut [u8],
+        frame: &[u8],
+        log: &mut [u64],
+        used: usize
+    ) -> u64;
     fn probe_ask_offer(given: Slices, probe: u16, rec: &[u8], link: u16, out: &mut [u8]) -> u64;
     fn probe_ask_refusal(given: Slices, probe: u16, rec: &[u8], link: u16, out: &mut [u8]) -> u64;
     pub fn probe_rests(given: Slices, probe: u16, rec: &[u8], link: u16) -> u64;
 
     pub fn fleet_event(given: Slices, rec: &mut [u8], line: &[u8], used: usize, room: usize) -> u64;
+    pub fn fleet_event_logged(
+        given: Slices,
+        rec: &mut [u8],
+        line: &[u8],
+        log: &mut [u64],
+        used: usize
+    ) -> u64;
     pub fn fleet_finished(given: Slices, rec: &[u8]) -> u64;
+
+    pub fn log_entry(log: &[u64], used: usize, i: usize) -> u64;
 
     pub fn script_text(text: &[u8], out: &mut [u8]) -> u64;
     pub fn script_piece(

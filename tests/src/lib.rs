@@ -5,6 +5,7 @@ pub mod channel;
 pub mod compare;
 pub mod compare_ends;
 pub mod compare_fleet;
+pub mod compare_log;
 pub mod compare_script;
 pub mod ends;
 pub mod events;

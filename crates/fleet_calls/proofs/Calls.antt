@@ -5,7 +5,7 @@ use mathlib.Core.Bool.{Bool, true, false, cond}
 use mathlib.Core.List.{List, [], _∷_, _++_, append-nil}
 use native.Mathlib.Omega.{arith}
 use lib.Dec.{ltb, eqb}
-use lib.ListN.{length, drop, getD, set, length-append, length-set, List·getD-append}
+use lib.ListN.{length, drop, getD, set, length-append, length-set}
 use lib.Seq.{append-snoc, drop-cons, take-append-seam, drop-append-seam, set-append-seam}
 use borrow.Author.Tests.{ltb-true, eqb-true}
 use Rattle.range.specs.First.{orElse}
@@ -19,13 +19,14 @@ use Rattle.wake_log.specs.declared.Entry.{Entry}
 use Rattle.wake_log.specs.declared.Answer.{Answer}
 use Rattle.wake_log.specs.declared.Answer.the-variants.{Logged, Refused}
 use Rattle.wake_log.specs.Log.{noEntry}
+use Rattle.wake_log.specs.Entry.{acceptedBy}
+use Rattle.wake_log.proofs.Slots.{slot-used, slot-past-used, slot-of-used}
 use Rattle.probe_rules.specs.Rules.{entryOf}
 use Rattle.fleet_theory.specs.Fleet.{own, fleetFault, eventLineFault, eventOf, unsentFault, outcomeOf, State, start, faultOf, answerTo, accepted, next, run}
 use Rattle.fleet.proofs.Calls.{handled-next}
 use Rattle.fleet_log.specs.Logged.{LogsInFleet}
 use Rattle.fleet_calls.specs.Calls.{
   SameTable,
-  acceptedBy,
   entriesIn,
   LoggedCall,
   LoggedLeft,
@@ -198,7 +199,8 @@ module _ (x : Slices) (fine : slicesFault x ≡ 0) where
         used-within = rw (f .used, f .log-is) (let long = length-append es rest in omega arith);
         entries = rw (f .used, f .log-is) (take-append-seam es rest);
         entries-answered = rw (f .used, f .log-is) (take-append-seam es rest) ∙ run-log x (length log) (start x) (loggedLines cs) ∙ ap entriesIn (sym (all .0));
-        entry-read = λ i l. rw (f .log-is) (List·getD-append es rest noEntry i (rw (f .used) at l));
+        entry-read = λ i l. let u = rw (f .used) at l in rw (f .used, f .log-is) (slot-of-used es rest i ∙ slot-used es (length es) i u u);
+        none-read = λ i l. slot-past-used (leftAfterLogged (freshLogged x log) cs .log) (leftAfterLogged (freshLogged x log) cs .used) i l;
         free = rw (f .used, f .log-is) (drop-append-seam es rest);
         long = f .long;
       }

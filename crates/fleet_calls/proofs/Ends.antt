@@ -24,7 +24,7 @@ use Rattle.probe_record.specs.Record.{byteFault, recordFault}
 use Rattle.wake_log.specs.declared.Entry.{Entry}
 use Rattle.wake_log.specs.declared.Answer.{Answer}
 use Rattle.wake_log.specs.declared.Answer.the-variants.{Logged}
-use Rattle.wake_log.specs.Entry.{answerOf}
+use Rattle.wake_log.specs.Entry.{answerOf, acceptedBy}
 use Rattle.probe_rules.specs.declared.Event.{Event}
 use Rattle.probe_rules.specs.declared.Event.the-variants.{Opening}
 use Rattle.probe_rules.specs.declared.Outcome.{Outcome}
@@ -35,6 +35,7 @@ use Rattle.probe_rules.proofs.OutcomeLaws.{befalls-within}
 use Rattle.probe_checks.specs.Checks.{frameKindFault, toFault, probeFault, ownLinkFault, untriedFault, fullFault, heardFault, hearFault, openFault, linkCallFault}
 use Rattle.probe.specs.declared.Kind.{Kind}
 use Rattle.probe.specs.declared.Asked.{Asked}
+use Rattle.probe.specs.declared.Asked.the-variants.{Written}
 use Rattle.probe.proofs.Answers.{befallen-answer}
 use Rattle.probe.specs.Answers.{Befallen, Asks, Opens, Hears, AsksFor, askFault, askedEvent, askedFrame, askedLine}
 use Rattle.fleet_theory.specs.Fleet.{own, eventLineFault, eventOf, State, start, faultOf, answerTo, next, run}
@@ -44,7 +45,7 @@ use Rattle.fleet_theory.proofs.Ends.{ends-alone}
 use Rattle.fleet_theory.proofs.Run.{slices-legal}
 use Rattle.fleet.proofs.Checks.{line-to, line-within}
 use Rattle.fleet.proofs.Passing.{passed-line}
-use Rattle.fleet_calls.specs.Calls.{SameTable, acceptedBy, LoggedCall, LoggedLeft, freshLogged, leftByLogged, LoggedCalls, leftAfterLogged, loggedLines}
+use Rattle.fleet_calls.specs.Calls.{SameTable, LoggedCall, LoggedLeft, freshLogged, leftByLogged, LoggedCalls, leftAfterLogged, loggedLines}
 use Rattle.fleet_calls.specs.Ends.{EndsOfCalls}
 use Rattle.fleet_calls.proofs.Same.{and-under, same-between, same-heard, same-line, same-spare-fault, same-befalls, same-entry}
 use Rattle.fleet_calls.proofs.Promises.{same-fine}
@@ -230,7 +231,7 @@ module _ (x : Slices) (fine : slicesFault x ≡ 0) (log : List Entry) where
   asked-same : (before : List LoggedCall) → LoggedCalls x (freshLogged x log) before → (k : Kind) (p i : ℕ) → OwnLink t p i
       → (y : Slices) → SameTable y x → (out : List ℕ) → 15 ≤ length out → (a : Asked) (out′ : List ℕ)
       → (let bytes = leftAfterLogged (freshLogged x log) before .bytes in
-      AsksFor y p k i (own t p bytes) a out out′ → ((a ≡ asked.Written) × (out′ ≡ sets out 0 (askedLine t p k i))) ↔ MaySend t bytes (askedFrame t p k i))
+      AsksFor y p k i (own t p bytes) a out out′ → ((a ≡ Written) × (out′ ≡ sets out 0 (askedLine t p k i))) ↔ MaySend t bytes (askedFrame t p k i))
   asked-same before calls k p i is-own y same out long a out′ h =
       let s = run x room (start x) (loggedLines before) in
       let e = own t p (s .bytes) in

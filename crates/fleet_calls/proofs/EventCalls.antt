@@ -4,11 +4,12 @@ use mathlib.Core.Path.{_≡_, refl, _∙_, ap}
 use mathlib.Core.List.{List, [], _∷_}
 use lib.ListN.{length}
 use Rattle.table.specs.Slices.{Slices, slicesFault}
+use Rattle.wake_log.specs.Entry.{acceptedBy}
 use Rattle.wake_log.specs.declared.Answer.{Answer}
 use Rattle.fleet_theory.specs.Fleet.{State, start, answerTo, next, run}
 use Rattle.fleet.specs.Answers.{Handled}
 use Rattle.fleet.proofs.Calls.{handled-next}
-use Rattle.fleet_calls.specs.Calls.{acceptedBy, EventCall, EventLeft, freshEvent, leftByEvent, KeptEvent, EventCalls, leftAfterEvents, eventLines, eventAnswers, answersTo, EventRun}
+use Rattle.fleet_calls.specs.Calls.{EventCall, EventLeft, freshEvent, leftByEvent, KeptEvent, EventCalls, leftAfterEvents, eventLines, eventAnswers, answersTo, EventRun}
 use Rattle.fleet_calls.proofs.Promises.{same-fine, handled-same}
 use Rattle.fleet_calls.proofs.Calls.{used-next}
 

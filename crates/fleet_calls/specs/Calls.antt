@@ -10,7 +10,9 @@ use Rattle.table.specs.Slices.{Slices, tableOf}
 use Rattle.wake_log.specs.declared.Entry.{Entry}
 use Rattle.wake_log.specs.declared.Answer.{Answer}
 use Rattle.wake_log.specs.declared.Answer.the-variants.{Logged, Refused}
-use Rattle.wake_log.specs.Log.{noEntry}
+use Rattle.wake_log.specs.declared.Slot.the-variants.{Used, Unused}
+use Rattle.wake_log.specs.Entry.{acceptedBy}
+use Rattle.wake_log.specs.Log.{noEntry, slotOf}
 use Rattle.fleet_theory.specs.Fleet.{State, start, answerTo, next, run}
 use Rattle.fleet.specs.Answers.{Handled}
 use Rattle.fleet_log.specs.Logged.{LogsInFleet}
@@ -28,11 +30,6 @@ pub record SameTable (y x : Slices) : Type 0 where
 abbrev pub GivenLines : Slices → List (Slices × List ℕ) → Type 0
 GivenLines x [] = Unit
 GivenLines x (g ∷ gs) = SameTable (g .0) x × GivenLines x gs
-
--- "one for each accepted event": how many entries an answer has logged
-abbrev pub acceptedBy : Answer → ℕ
-acceptedBy (Logged e) = 1
-acceptedBy (Refused n) = 0
 
 -- the entries that answers have logged
 abbrev pub entriesIn : List Answer → List Entry
@@ -157,7 +154,9 @@ module _ (x : Slices) (log : List Entry) (cs : List LoggedCall) where
     pub entries : take (after .used) (after .log) ≡ reached .log
     -- "one for each accepted event"
     pub entries-answered : take (after .used) (after .log) ≡ entriesIn (loggedAnswers cs)
-    pub entry-read : (i : ℕ) → i < after .used → getD (after .log) i noEntry ≡ getD (reached .log) i noEntry
+    -- `entry_at` of a used place gives the run's entry; past the used ones it answers that there is none
+    pub entry-read : (i : ℕ) → i < after .used → slotOf (after .log) (after .used) i ≡ Used (getD (reached .log) i noEntry)
+    pub none-read : (i : ℕ) → after .used ≤ i → slotOf (after .log) (after .used) i ≡ Unused
     pub free : drop (after .used) (after .log) ≡ drop (after .used) log
     pub long : length (after .log) ≡ length log
 

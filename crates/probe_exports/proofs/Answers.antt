@@ -12,8 +12,8 @@ use Rattle.probe.specs.Answers.{Befallen, askedReply, Asks}
 use Rattle.probe.proofs.Answers.{befallen-answer}
 use Rattle.probe.specs.declared.Kind.{Kind}
 use Rattle.probe.specs.declared.Asked.{Asked}
-use Rattle.packed_answers.specs.Packed.{packedValue, packedAnswer}
-use Rattle.probe_exports.specs.Packed.{BefallenPacked, AsksPacked}
+use Rattle.packed_answers.specs.Packed.{packedValue, packedAnswer, packedAfter}
+use Rattle.probe_exports.specs.Packed.{BefallenPacked, AsksPacked, LogsAtEndPacked}
 
 pub befallen-packed : (fault : ℕ) (t : Table) (p : ℕ) (event : Event) (a : Answer) (r : ℕ) (before after : List ℕ) → Befallen fault t p event a before after → r ≡ packedAnswer a
     → BefallenPacked fault t p event r before after
@@ -28,3 +28,8 @@ pub asks-packed : (fault : ℕ) (t : Table) (p : ℕ) (k : Kind) (i : ℕ) (rec 
     → AsksPacked fault t p k i rec r before after
 asks-packed fault t p k i rec a r before after g e =
     record { answer = e ∙ ap packedValue (g .answer); line = g .line }
+
+pub logged-packed : (fault : ℕ) (t : Table) (p : ℕ) (event : Event) (a : Answer) (r : ℕ) (before after : List ℕ) (used : ℕ) (log log′ : List ℕ)
+    → Befallen fault t p event a before after → (r ≡ packedAnswer a) × (log′ ≡ packedAfter log used a) → LogsAtEndPacked fault t p event r before after used log log′
+logged-packed fault t p event a r before after used log log′ g e =
+    record { befallen = befallen-packed fault t p event a r before after g (e .0); log-after = e .1 ∙ ap (packedAfter log used) (befallen-answer g) }

@@ -1,9 +1,10 @@
 -- What the functions of one end for C and Rust promise: the answer as one number, and the lent slices as the functions that are called leave them.
--- A refusal is its number; any other answer is `answerBase` or more.
-use Prim.Native.Nat.{ℕ}
+-- A refusal is its number; any other answer is `answerBase` or more. A log has packed entries.
+use Prim.Native.Nat.{ℕ, _-_}
 use mathlib.Core.Path.{_≡_}
 use mathlib.Core.Bool.{cond}
 use mathlib.Core.List.{List, [], _∷_}
+use lib.ListN.{length}
 use Rattle.range.specs.Reply.{replyOf}
 use Rattle.table.specs.Table.{Table}
 use Rattle.table.specs.Slices.{Slices, tableOf, slicesFault}
@@ -16,7 +17,7 @@ use Rattle.probe_rules.specs.Frames.{heardOf}
 use Rattle.probe_checks.specs.Checks.{hearFault, openFault}
 use Rattle.probe.specs.Answers.{Befallen, askedEvent, askedOut, askFault}
 use Rattle.probe.specs.declared.Kind.{Kind}
-use Rattle.packed_answers.specs.Packed.{packedValue, packedAnswer}
+use Rattle.packed_answers.specs.Packed.{packedValue, packedAnswer, packedAfter}
 
 pub record BefallenPacked (fault : ℕ) (t : Table) (p : ℕ) (event : Event) (r : ℕ) (before after : List ℕ) : Type 0 where
   pub answer : r ≡ packedAnswer (answerOf fault (entryOf t p (befalls t p event before)))
@@ -25,6 +26,11 @@ pub record BefallenPacked (fault : ℕ) (t : Table) (p : ℕ) (event : Event) (r
 pub record AsksPacked (fault : ℕ) (t : Table) (p : ℕ) (k : Kind) (i : ℕ) (e : List ℕ) (r : ℕ) (before after : List ℕ) : Type 0 where
   pub answer : r ≡ packedValue (replyOf fault (cond (sendable (askedEvent k i) e) 1 0 ∷ []))
   pub line : after ≡ askedOut fault t p k i e before
+
+-- an event with a log: the entry stands behind its used ones, or it is unchanged
+pub record LogsAtEndPacked (fault : ℕ) (t : Table) (p : ℕ) (event : Event) (r : ℕ) (before after : List ℕ) (used : ℕ) (log log′ : List ℕ) : Type 0 where
+  pub befallen : BefallenPacked fault t p event r before after
+  pub log-after : log′ ≡ packedAfter log used (answerOf fault (entryOf t p (befalls t p event before)))
 
 -- The calls of the end p, over the table in its slices: as `Opens`, `Hears` and `AsksFor`, the answer packed.
 
@@ -37,3 +43,11 @@ HearsPacked x p frame free r before after =
 
 abbrev pub AsksForPacked : Slices → ℕ → Kind → ℕ → List ℕ → ℕ → List ℕ → List ℕ → Type 0
 AsksForPacked x p k i e r before after = AsksPacked (askFault x p i e before) (tableOf x) p k i e r before after
+
+abbrev pub OpensLoggedPacked : Slices → ℕ → ℕ → List ℕ → List ℕ → ℕ → List ℕ → List ℕ → Type 0
+OpensLoggedPacked x p r before after used log log′ =
+    LogsAtEndPacked (openFault (slicesFault x) (tableOf x) p before (length log - used)) (tableOf x) p Opening r before after used log log′
+
+abbrev pub HearsLoggedPacked : Slices → ℕ → List ℕ → ℕ → List ℕ → List ℕ → ℕ → List ℕ → List ℕ → Type 0
+HearsLoggedPacked x p frame r before after used log log′ =
+    LogsAtEndPacked (hearFault (slicesFault x) (tableOf x) p before frame (length log - used)) (tableOf x) p (heardOf (tableOf x) (frameOf frame)) r before after used log log′

@@ -1,11 +1,12 @@
-// The library of one end for C and Rust: open, hear, ask, rests.
+// The library of one end for C and Rust: open and hear, without a log and with one; ask, rests.
 ghost use mathlib.Core.Path.{_≡_};
 ghost use Rattle.table.specs.Slices.{slicesOf};
 ghost use Rattle.probe.specs.declared.Kind.the-variants.{Offer, Refusal};
 ghost use Rattle.probe.specs.Answers.{askedReply, restingReply, whetherRests};
 ghost use Rattle.packed_answers.specs.Packed.{packedValue};
-ghost use Rattle.probe_exports.specs.Packed.{OpensPacked, HearsPacked, AsksForPacked};
+ghost use Rattle.probe_exports.specs.Packed.{OpensPacked, HearsPacked, AsksForPacked, OpensLoggedPacked, HearsLoggedPacked};
 use packed_answers::ANSWER_BASE;
+use packed_answers::logs;
 use packed_answers::packed_answer;
 use probe::Asked;
 use probe::Kind;
@@ -97,6 +98,74 @@ pub extern "C" fn planner_probe_hear(
         frame,
         free,
     ))
+}
+
+// `probe::open` with a log of packed entries, the first of them used; its answer packed.
+#[no_mangle]
+pub extern "C" fn planner_probe_open_logged(
+    number: u16,
+    probes: u16,
+    links: u16,
+    needs: &[u16],
+    lows: &[u16],
+    highs: &[u16],
+    costs: &[u16],
+    probe: u16,
+    rec: &mut [u8],
+    log: &mut [u64],
+    used: usize,
+) -> u64
+    ensures { λ r. let x = slicesOf number probes links (now (needs .entry)) (now (lows .entry)) (now (highs .entry)) (now (costs .entry)) in
+        ⌜ OpensLoggedPacked x probe r (now (rec .entry)) (now (rec .exit)) used (now (log .entry)) (now (log .exit)) ⌝ }
+{
+    let answer = probe::open(
+        number,
+        probes,
+        links,
+        needs,
+        lows,
+        highs,
+        costs,
+        probe,
+        rec,
+        wake_log::storing::free(used, log.len()),
+    );
+    logs::store(log, used, answer)
+}
+
+// `probe::hear` with a log of packed entries, the first of them used; its answer packed.
+#[no_mangle]
+pub extern "C" fn planner_probe_hear_logged(
+    number: u16,
+    probes: u16,
+    links: u16,
+    needs: &[u16],
+    lows: &[u16],
+    highs: &[u16],
+    costs: &[u16],
+    probe: u16,
+    rec: &mut [u8],
+    frame: &[u8],
+    log: &mut [u64],
+    used: usize,
+) -> u64
+    ensures { λ r. let x = slicesOf number probes links (now (needs .entry)) (now (lows .entry)) (now (highs .entry)) (now (costs .entry)) in
+        ⌜ HearsLoggedPacked x probe (now (frame .entry)) r (now (rec .entry)) (now (rec .exit)) used (now (log .entry)) (now (log .exit)) ⌝ }
+{
+    let answer = probe::hear(
+        number,
+        probes,
+        links,
+        needs,
+        lows,
+        highs,
+        costs,
+        probe,
+        rec,
+        frame,
+        wake_log::storing::free(used, log.len()),
+    );
+    logs::store(log, used, answer)
 }
 
 // `probe::ask` for an offer, its answer packed.

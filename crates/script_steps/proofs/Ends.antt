@@ -75,7 +75,7 @@ module _ (x : Slices) (fine : slicesFault x ≡ 0) (within : 4 * x .links ≤ 81
   abbrev zeros : List ℕ
   zeros = take (4 * x .links) (replicate 8192 0)
 
-  zeros-are : zeros ≡ start x .bytes
+  pub zeros-are : zeros ≡ start x .bytes
   zeros-are = zeros-part (4 * x .links) 8192 within
 
   pub zeros-pass : fleetFault (tableOf x) zeros ≡ 0

@@ -18,7 +18,7 @@ use Rattle.probe_frame.proofs.Laws.{frame-good}
 use Rattle.wake_log.specs.declared.Entry.{Entry}
 use Rattle.wake_log.specs.declared.Answer.{Answer}
 use Rattle.wake_log.specs.declared.Answer.the-variants.{Logged, Refused}
-use Rattle.wake_log.specs.Entry.{answerOf}
+use Rattle.wake_log.specs.Entry.{answerOf, acceptedBy}
 use Rattle.probe_rules.specs.Rules.{entryOf}
 use Rattle.fleet_theory.specs.Fleet.{fleetFault, eventLineFault, eventFault, outcomeOf, linkChanges}
 use Rattle.table.specs.Slices.{Slices, tableOf, slicesFault}
@@ -32,7 +32,7 @@ use Rattle.script_lines.specs.Fitting.{capped, storedWithin}
 use Rattle.script_lines.proofs.Lines.{length-entry}
 use Rattle.script_lines.proofs.Fitting.{stored-fits}
 use Rattle.script_theory.specs.Script.{answerLine, answered, afterLine}
-use Rattle.script_steps.specs.Within.{acceptedBy, underWay, Buffered}
+use Rattle.script_steps.specs.Within.{underWay, Buffered}
 use Rattle.script_steps.specs.declared.Progress.{Progress}
 
 -- What an answer prints and adds, of a line handled.

@@ -4,17 +4,10 @@ use mathlib.Core.Path.{_≡_}
 use mathlib.Core.List.{List, []}
 use lib.ListN.{length, take}
 use lib.Seq.{sets}
-use Rattle.wake_log.specs.declared.Answer.{Answer}
-use Rattle.wake_log.specs.declared.Answer.the-variants.{Logged, Refused}
 use Rattle.script_lines.specs.Fitting.{capped}
 use Rattle.script_theory.specs.Script.{Script}
 use Rattle.script_steps.specs.declared.Progress.{Progress}
 use Rattle.script_steps.specs.declared.pieces.Place.{Place}
-
--- an accepted event takes an entry
-abbrev pub acceptedBy : Answer → ℕ
-acceptedBy (Logged e) = 1
-acceptedBy (Refused n) = 0
 
 -- a script under way, with nothing printed yet
 abbrev pub underWay : Progress → List ℕ → List ℕ → Script

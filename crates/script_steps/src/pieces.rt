@@ -15,7 +15,8 @@ ghost use Rattle.fleet.specs.Answers.{changesBy};
 ghost use Rattle.output.specs.Output.{shortFault, Prints};
 ghost use Rattle.script_lines.specs.Fitting.{capped, storedWithin};
 ghost use Rattle.script_theory.specs.Script.{endText, scriptText, afterLine, afterByte, afterPiece};
-ghost use Rattle.script_steps.specs.Within.{acceptedBy, underWay, Buffered};
+ghost use Rattle.wake_log.specs.Entry.{acceptedBy};
+ghost use Rattle.script_steps.specs.Within.{underWay, Buffered};
 
 // Where the next byte is printed, and how far the script has come.
 pub struct Place {

@@ -42,7 +42,7 @@ module _ (x : Slices) (room : ℕ) where
   pub carried-onto : (q : Script) → onto (q .out) (carried q) ≡ q
   carried-onto q = rw (append-nil (q .out))
 
-  piece-onto : (o : List ℕ) (p : Script) (a : List ℕ) → afterPiece x room (onto o p) a ≡ onto o (afterPiece x room p a)
+  pub piece-onto : (o : List ℕ) (p : Script) (a : List ℕ) → afterPiece x room (onto o p) a ≡ onto o (afterPiece x room p a)
   unfolding afterPiece
   piece-onto o p [] = refl
   piece-onto o p (b ∷ a) = ap (λ (q : Script). afterPiece x room q a) (byte-onto o p b) ∙ piece-onto o (afterByte x room p b) a

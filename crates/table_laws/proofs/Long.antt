@@ -1,13 +1,13 @@
--- A text longer than any table's is judged by its first bytes.
+-- A text is judged by the bytes of its table, and by whether more follow.
 use Prim.Native.Nat.{ℕ, zero, suc, _+_, _-_, _≤_, _<_}
 use mathlib.Core.Path.{_≡_, refl, sym, _∙_, ap}
 use mathlib.Core.Bool.{Bool, true, false, cond, and-false}
 use mathlib.Core.List.{List, [], _∷_}
 use native.Mathlib.Omega.{arith}
-use native.Mathlib.Decide.{ℕ-discrete}
+use native.Mathlib.Decide.{ℕ-discrete, decLe}
 use lib.Dec.{eqb}
 use lib.ListN.{length, getD, take, drop, length-drop}
-use lib.Seq.{getD-drop, getD-take, length-take-le, drop-cons}
+use lib.Seq.{getD-drop, getD-take, length-take-le, take-all, drop-cons}
 use borrow.Author.Tests.{lt-ltb, eqb-true, eq-eqb, ne-eqb}
 use Rattle.range.specs.First.{orElse, first}
 use Rattle.range.proofs.Bools.{unless-none}
@@ -19,9 +19,9 @@ use Rattle.lines.specs.declared.Line.{Line}
 use Rattle.lines.specs.declared.Line.the-variants.{Here, Missing}
 use Rattle.lines.proofs.Feeds.{until-at, until-before, until-is}
 use Rattle.lines.proofs.Lines.{there}
-use Rattle.table.specs.Legal.{linkFault, Size}
-use Rattle.table.specs.Text.{ofText, needStart, linkStart, begins, closingLine, closingFault, needLineFault, linkLineFault, headFault, bodyFault, textFault}
-use Rattle.table_text.proofs.Good.{head-good, text-head}
+use Rattle.table.specs.Legal.{linkFault}
+use Rattle.table.specs.Text.{ofText, needStart, linkStart, begins, closingLine, closingFault, needLineFault, linkLineFault, headFault, bodyFault, textFault, textEnd}
+use Rattle.table_text.proofs.Good.{head-good}
 use Rattle.table.specs.Same.{Same}
 use Rattle.table.proofs.Same.{same-needs}
 
@@ -122,9 +122,8 @@ begins-same s u n g (x ∷ xs) at l =
     let b = g .long′ in
     rw (drop-cons s at 0 (omega arith), drop-cons u at 0 (omega arith), g .same at (omega arith), begins-same s u n g xs (suc at) (omega arith))
 
--- texts that agree on every byte that a table can have
-module _ (more : Bool) (n : ℕ) (s u : List ℕ) (g : Agree s u n) (all : 27922 ≤ n)
-    (closing : (at : ℕ) → at + 5 ≤ 27922 → closingFault more s at ≡ closingFault more u at) where
+-- texts that agree on the header's line
+module _ (n : ℕ) (s u : List ℕ) (g : Agree s u n) (headed : 13 ≤ n) where
   probes-same : ofText s .probes ≡ ofText u .probes
   probes-same = number-same s u n g 4 4 (omega arith)
 
@@ -134,21 +133,19 @@ module _ (more : Bool) (n : ℕ) (s u : List ℕ) (g : Agree s u n) (all : 27922
   head-same : headFault 256 2048 s ≡ headFault 256 2048 u
   head-same = rw (line-same s u n g 0 12 (omega arith), probes-same, count-same)
 
-  module _ (z : Size 256 2048 (ofText s .probes) (ofText s .links)) where
+  -- and on all bytes of the table that the header tells of
+  module _ (own : textEnd (ofText s) ≤ n) where
     need-lines-same : first (needLineFault s) (ofText s .probes) ≡ first (needLineFault u) (ofText u .probes)
     need-lines-same =
-        first-same (needLineFault s) (needLineFault u) (ofText s .probes)
-        (λ v l. line-same s u n g (needStart v) 4 (let few = z .few in omega arith))
+        first-same (needLineFault s) (needLineFault u) (ofText s .probes) (λ v l. line-same s u n g (needStart v) 4 (omega arith))
         ∙ ap (first (needLineFault u)) probes-same
 
     -- a number that stands where the probe count says
-    field-same : (at : ℕ → ℕ) → at (ofText s .probes) + 4 ≤ 27922 → numberAt s (at (ofText s .probes)) 4 ≡ numberAt u (at (ofText u .probes)) 4
-    field-same at l = number-same s u n g (at (ofText s .probes)) 4 (omega arith) ∙ ap (λ (m : ℕ). numberAt u (at m) 4) probes-same
+    field-same : (at : ℕ → ℕ) → at (ofText s .probes) + 4 ≤ n → numberAt s (at (ofText s .probes)) 4 ≡ numberAt u (at (ofText u .probes)) 4
+    field-same at l = number-same s u n g (at (ofText s .probes)) 4 l ∙ ap (λ (m : ℕ). numberAt u (at m) 4) probes-same
 
     same-table : Same (ofText s) (ofText u)
     same-table =
-        let few = z .few in
-        let within = z .within in
         record {
           number = number-same s u n g 0 4 (omega arith);
           probes = probes-same;
@@ -163,35 +160,31 @@ module _ (more : Bool) (n : ℕ) (s u : List ℕ) (g : Agree s u n) (all : 27922
     rows-same = first-same (linkLineFault s) (linkLineFault u) (ofText s .links) row ∙ ap (first (linkLineFault u)) count-same
       where
         line : (i : ℕ) → i < ofText s .links → lineFault s (linkStart (ofText s .probes) i) 12 ≡ lineFault u (linkStart (ofText u .probes) i) 12
-        line i l =
-            line-same s u n g (linkStart (ofText s .probes) i) 12 (let few = z .few in let within = z .within in omega arith)
-            ∙ ap (λ (m : ℕ). lineFault u (linkStart m i) 12) probes-same
+        line i l = line-same s u n g (linkStart (ofText s .probes) i) 12 (omega arith) ∙ ap (λ (m : ℕ). lineFault u (linkStart m i) 12) probes-same
 
         row : (i : ℕ) → i < ofText s .links → linkLineFault s i ≡ linkLineFault u i
         row i l =
-            let few = z .few in
-            let within = z .within in
             or-same (line i l)
             (link-same (ofText s .probes) (ofText u .probes) (ofText s .low) (ofText u .low) (ofText s .high) (ofText u .high) i probes-same
             (λ j k. field-same (λ m. linkStart m j) (omega arith)) (λ j k. field-same (λ m. linkStart m j + 4) (omega arith)))
 
-    body-same : bodyFault more s ≡ bodyFault more u
-    body-same =
-        let few = z .few in
-        let within = z .within in
-        let at-same : linkStart (ofText s .probes) (ofText s .links) ≡ linkStart (ofText u .probes) (ofText u .links) = rw (probes-same, count-same) in
-        let close : closingFault more s (linkStart (ofText s .probes) (ofText s .links)) ≡ closingFault more u (linkStart (ofText u .probes) (ofText u .links)) =
-        closing (linkStart (ofText s .probes) (ofText s .links)) (omega arith) ∙ ap (closingFault more u) at-same in
-        or-same need-lines-same
-        (or-same rows-same
-        (or-same close (same-needs (ofText s) (ofText u) same-table)))
+    module _ (more : Bool)
+        (closing : closingFault more s (linkStart (ofText s .probes) (ofText s .links)) ≡ closingFault more u (linkStart (ofText s .probes) (ofText s .links))) where
+      body-same : bodyFault more s ≡ bodyFault more u
+      body-same =
+          let at-same : linkStart (ofText s .probes) (ofText s .links) ≡ linkStart (ofText u .probes) (ofText u .links) = rw (probes-same, count-same) in
+          or-same need-lines-same (or-same rows-same (or-same (closing ∙ ap (closingFault more u) at-same) (same-needs (ofText s) (ofText u) same-table)))
 
-  text-same : textFault 256 2048 more s ≡ textFault 256 2048 more u
+  -- where the header is refused, its line alone is judged
+  text-same : (more : Bool)
+      → (headFault 256 2048 s ≡ 0
+      → (textEnd (ofText s) ≤ n) × (closingFault more s (linkStart (ofText s .probes) (ofText s .links)) ≡ closingFault more u (linkStart (ofText s .probes) (ofText s .links))))
+      → textFault 256 2048 more s ≡ textFault 256 2048 more u
   unfolding textFault
-  text-same = go (ℕ-discrete (headFault 256 2048 s) 0)
+  text-same more own = go (ℕ-discrete (headFault 256 2048 s) 0)
     where
       go : Dec (headFault 256 2048 s ≡ 0) → orElse (headFault 256 2048 s) (bodyFault more s) ≡ orElse (headFault 256 2048 u) (bodyFault more u)
-      go (yes e) = or-same head-same (body-same (head-good 256 2048 s e .size))
+      go (yes e) = let o = own e in or-same head-same (body-same (o .0) more (o .1))
       go (no d) =
           or-some (headFault 256 2048 s) (bodyFault more s) d
           ∙ head-same
@@ -201,23 +194,63 @@ module _ (more : Bool) (n : ℕ) (s u : List ℕ) (g : Agree s u n) (all : 27922
 first-bytes : (s : List ℕ) (n : ℕ) → n ≤ length s → Agree s (take n s) n
 first-bytes s n l = record { long = l; long′ = let k = length-take-le n s l in omega arith; same = λ j k. sym (getD-take n s j 0 k) }
 
-module _ (s : List ℕ) (l : 27922 < length s) where
-  -- of a text that ends with its closing line the first 27,923 bytes bear on its refusal
-  pub long-text : textFault 256 2048 false s ≡ textFault 256 2048 false (take 27923 s)
-  long-text =
-      let n = length-take-le 27923 s l in
-      text-same false 27923 s (take 27923 s) (first-bytes s 27923 l) (omega arith)
-      (λ at k. closing-six s at (omega arith) ∙ sym (closing-six (take 27923 s) at (omega arith)))
+-- "The longest text has 27,922 bytes."
+longest : (s : List ℕ) → headFault 256 2048 s ≡ 0 → textEnd (ofText s) ≤ 27922
+longest s e = let z = head-good 256 2048 s e .size in let few = z .few in let within = z .within in omega arith
 
-  -- of a text that may go on the first 27,922
-  agree : Agree s (take 27922 s) 27922
-  agree = first-bytes s 27922 (omega arith)
+-- of a text that ends with its closing line the first 27,923 bytes bear on its refusal
+pub long-text : (s : List ℕ) → 27922 < length s → textFault 256 2048 false s ≡ textFault 256 2048 false (take 27923 s)
+long-text s l =
+    let n = length-take-le 27923 s l in
+    text-same 27923 s (take 27923 s) (first-bytes s 27923 l) (omega arith) false
+    (λ e.
+    let k = longest s e in
+    let at = linkStart (ofText s .probes) (ofText s .links) in
+    (omega arith, closing-six s at (omega arith) ∙ sym (closing-six (take 27923 s) at (omega arith))))
 
-  closing-first : (at : ℕ) → at + 5 ≤ 27922 → closingFault true s at ≡ closingFault true (take 27922 s) at
-  closing-first at k = rw (begins-same s (take 27922 s) 27922 agree closingLine at k)
+-- of a text that may go on the table's own bytes, and at least the header's line
+module _ (s : List ℕ) (n : ℕ) (headed : 13 ≤ n) (own : headFault 256 2048 s ≡ 0 → textEnd (ofText s) ≤ n) where
+  part : n ≤ length s → (headFault 256 2048 s ≡ headFault 256 2048 (take n s)) × (textFault 256 2048 true s ≡ textFault 256 2048 true (take n s))
+  part l =
+      let g = first-bytes s n l in (
+        head-same n s (take n s) g headed,
+        text-same n s (take n s) g headed true
+            (λ e.
+            let k = own e in
+            let at = linkStart (ofText s .probes) (ofText s .links) in
+            (k, rw (begins-same s (take n s) n g closingLine at (omega arith)))),
+      )
 
-  pub long-prefix : textFault 256 2048 true s ≡ textFault 256 2048 true (take 27922 s)
-  long-prefix = text-same true 27922 s (take 27922 s) agree (omega arith) closing-first
+  pub own-text : textFault 256 2048 true s ≡ textFault 256 2048 true (take n s)
+  own-text = go (decLe n (length s))
+    where
+      go : Dec (n ≤ length s) → textFault 256 2048 true s ≡ textFault 256 2048 true (take n s)
+      go (yes l) = part l .1
+      go (no d) = rw (take-all n s (omega arith))
 
-  pub long-table : textFault 256 2048 true s ≡ 0 → Same (ofText s) (ofText (take 27922 s))
-  long-table e = same-table true 27922 s (take 27922 s) agree (omega arith) closing-first (text-head 256 2048 true s e .size)
+  pub own-table : headFault 256 2048 s ≡ 0 → Same (ofText s) (ofText (take n s))
+  own-table e = go (decLe n (length s))
+    where
+      go : Dec (n ≤ length s) → Same (ofText s) (ofText (take n s))
+      go (yes l) = same-table n s (take n s) (first-bytes s n l) headed (own e)
+      go (no d) = rw (take-all n s (omega arith)) record { number = refl; probes = refl; links = refl; need = λ v l. refl; low = λ i l. refl; high = λ i l. refl; cost = λ i l. refl }
+
+-- the header is judged by its line
+pub own-head : (s : List ℕ) → headFault 256 2048 s ≡ headFault 256 2048 (take 13 s)
+own-head s = go (decLe 13 (length s))
+  where
+    go : Dec (13 ≤ length s) → headFault 256 2048 s ≡ headFault 256 2048 (take 13 s)
+    go (yes l) = head-same 13 s (take 13 s) (first-bytes s 13 l) (omega arith)
+    go (no d) = rw (take-all 13 s (omega arith))
+
+-- where it passes, it tells how long the table is
+pub own-end : (s : List ℕ) → headFault 256 2048 s ≡ 0 → textEnd (ofText s) ≡ textEnd (ofText (take 13 s))
+own-end s e = go (decLe 13 (length s))
+  where
+    go : Dec (13 ≤ length s) → textEnd (ofText s) ≡ textEnd (ofText (take 13 s))
+    go (yes l) =
+        let g = first-bytes s 13 l in
+        let a = probes-same 13 s (take 13 s) g (omega arith) in
+        let b = count-same 13 s (take 13 s) g (omega arith) in
+        omega arith
+    go (no d) = rw (take-all 13 s (omega arith))

@@ -1,4 +1,5 @@
 pub mod Call
+pub mod Slots
 pub mod Stored
 pub mod Answers
 mod Walk

@@ -55,3 +55,8 @@ answerReply (answer.Refused n) = refusal n
 -- the answer to an event by the fault found: its entry, or the number of the refusal alone
 abbrev pub answerOf : ℕ → Entry → Answer
 answerOf fault entry = cond (eqb fault 0) (answer.Logged entry) (answer.Refused fault)
+
+-- "one for each accepted event": how many entries an answer has logged
+abbrev pub acceptedBy : Answer → ℕ
+acceptedBy (answer.Logged e) = 1
+acceptedBy (answer.Refused n) = 0

@@ -1,12 +1,18 @@
 -- The wake log: document 01, "The wake log is a lent list of entries, one for each accepted event."
 use Prim.Native.Nat.{ℕ}
+use mathlib.Core.Bool.{cond, _&&_}
+use mathlib.Core.List.{List}
+use lib.Dec.{ltb}
+use lib.ListN.{length, getD}
 use Rattle.wake_log.specs.declared.Entry.{Entry}
 use Rattle.wake_log.specs.declared.What.the-variants.{NothingToOpen}
 use Rattle.wake_log.specs.declared.Answer.{Answer}
 use Rattle.wake_log.specs.declared.Answer.the-variants.{Logged, Refused}
+use Rattle.wake_log.specs.declared.Slot.{Slot}
+use Rattle.wake_log.specs.declared.Slot.the-variants.{Used, Unused}
 use Rattle.wake_log.specs.declared.storing.Told.{Told}
 
--- what reading past the log's end gives
+-- stands where there is no entry, in a refused `Told` and as the default of a place of a list; no answer gives it
 abbrev pub noEntry : Entry
 noEntry = record { probe = 0; what = NothingToOpen }
 
@@ -14,3 +20,7 @@ noEntry = record { probe = 0; what = NothingToOpen }
 abbrev pub toldOf : ℕ → ℕ → Answer → Told
 toldOf used room (Logged e) = record { at = used; entry = e; answer = Logged e }
 toldOf used room (Refused n) = record { at = room; entry = noEntry; answer = Refused n }
+
+-- what a place holds: a used one its entry; past the used ones, or past the log's end, there is none
+abbrev pub slotOf : List Entry → ℕ → ℕ → Slot
+slotOf log used i = cond (ltb i used && ltb i (length log)) (Used (getD log i noEntry)) Unused

@@ -1,7 +1,7 @@
 // The entries of the wake log, the answer to an event, and the log in a lent slice. The count of used entries goes beside it.
 ghost use mathlib.Core.Path.{_≡_};
-ghost use lib.ListN.{getD, set};
-ghost use Rattle.wake_log.specs.Log.{noEntry};
+ghost use lib.ListN.{set};
+ghost use Rattle.wake_log.specs.Log.{slotOf};
 
 pub mod codes;
 pub mod storing;
@@ -28,6 +28,12 @@ pub enum Answer {
     Refused(u8),
 }
 
+// What a place of the log holds.
+pub enum Slot {
+    Used(Entry),
+    Unused,
+}
+
 // Stores an entry at its place; past the log's end nothing is stored.
 pub fn append(log: &mut [Entry], used: usize, e: Entry)
     ensures { λ _. ⌜ now (log .exit) ≡ set (now (log .entry)) used e ⌝ }
@@ -37,15 +43,15 @@ pub fn append(log: &mut [Entry], used: usize, e: Entry)
     }
 }
 
-// The entry at a place; past the log's end the entry of probe 0 with nothing to open.
-pub fn entry_at(log: &[Entry], i: usize) -> Entry
-    ensures { λ r. ⌜ r ≡ getD (now (log .entry)) i noEntry ⌝ }
+// What stands at a place of the log: past the used entries, or past the log's end, none.
+pub fn entry_at(log: &[Entry], used: usize, i: usize) -> Slot
+    ensures { λ r. ⌜ r ≡ slotOf (now (log .entry)) used i ⌝ }
 {
-    if i < log.len() {
-        return log[i];
+    if used <= i {
+        return Slot::Unused;
     }
-    Entry {
-        probe: 0,
-        what: What::NothingToOpen,
+    if log.len() <= i {
+        return Slot::Unused;
     }
+    Slot::Used(log[i])
 }

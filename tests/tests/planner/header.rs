@@ -22,7 +22,7 @@ fn expected() -> Vec<String> {
 #[test]
 fn declarations() {
     let crates = of_crates();
-    assert!(crates.len() >= 17, "{}", crates.len());
+    assert!(crates.len() >= 21, "{}", crates.len());
     assert_eq!(of_ffi(&document(FFI)), crates);
     assert_eq!(of_header(&document(HEADER)), expected());
 }
@@ -90,6 +90,7 @@ fn edits_of_the_header_are_told() {
         ],
         ["    uint16_t link,\n", ""],
         ["    size_t free", "    uint16_t link, size_t free"],
+        ["size_t used, size_t i", "size_t i, size_t used"],
     ];
     let count = told(&header, declared, &edits, |text| {
         of_header(text) == expected
@@ -121,6 +122,10 @@ fn edits_of_the_rust_declarations_are_told() {
         ["&[u8]", "&mut [u8]"],
         ["&mut [u8]", "&[u8]"],
         ["&mut [u32]", "&mut [u16]"],
+        ["&[u64]", "&mut [u64]"],
+        ["&mut [u64]", "&[u64]"],
+        ["[u64]", "[u32]"],
+        ["used: usize, i: usize", "i: usize, used: usize"],
         ["probe: u16", "probe: u32"],
         ["held: u32, changed: u32", "changed: u32, held: u32"],
         ["used: usize, room: usize", "room: usize, used: usize"],
@@ -164,7 +169,7 @@ fn succeeds(command: &mut Command) -> Output {
 fn runs(name: &str, compiler: OsString, language: &[&str]) {
     let program = Path::new(env!("CARGO_TARGET_TMPDIR")).join(name);
     let libraries = Path::new(env!("PLANNER_LIBRARIES"));
-    let subjects = ["table", "plan", "probe", "fleet", "script"];
+    let subjects = ["table", "plan", "probe", "fleet", "wake_log", "script"];
     let mut command = Command::new(compiler);
     command
         .args(language)

@@ -23,3 +23,4 @@ mod random_texts;
 mod script;
 mod sizes;
 mod stack;
+mod wake_log;

@@ -8,9 +8,12 @@ use planner_tests::repository::{program, top};
 use planner_tests::samples::{self, input, M11, M11_PRINTED, M4, M4_PRINTED};
 use planner_tests::script;
 use planner_tests::sites::{damage_text, legal_of_size, marked, M2};
-use std::fs;
-use std::io::{stderr, ErrorKind, Read, Write};
-use std::process::{Child, ChildStdin, Command, Stdio};
+use std::fs::{self, File, OpenOptions};
+use std::io::{stderr, BufRead, BufReader, ErrorKind, Read, Write};
+use std::os::fd::OwnedFd;
+use std::os::unix::net::UnixStream;
+use std::process::{Child, ChildStdin, ChildStdout, Command, Output, Stdio};
+use std::sync::mpsc::{self, Receiver};
 use std::thread::{self, JoinHandle};
 use std::time::Duration;
 
@@ -218,6 +221,129 @@ fn slow_input() {
             thread::sleep(Duration::from_micros(100));
         }
         assert_eq!(program.finish(), expected);
+    }
+}
+
+/// The lines of an output as they come; the last, which no line feed closes, is none.
+fn lines_of(output: ChildStdout) -> Receiver<String> {
+    let (sender, receiver) = mpsc::channel();
+    thread::spawn(move || {
+        for line in BufReader::new(output).lines() {
+            let line = line.expect("its output is read");
+            if sender.send(line).is_err() {
+                break;
+            }
+        }
+    });
+    receiver
+}
+
+/// Feeds the pieces one by one and waits for the answer to each before the next; the input stays
+/// open until all are answered. Hands back what the end prints.
+#[track_caller]
+fn converse(pieces: &[(Vec<u8>, &str)]) -> Vec<String> {
+    let mut command = Command::new(program("script"));
+    command.stdin(Stdio::piped()).stdout(Stdio::piped());
+    let mut child = command.spawn().expect("the program starts");
+    let mut input = child.stdin.take().expect("its input is piped");
+    let lines = lines_of(child.stdout.take().expect("its output is piped"));
+    for (piece, answer) in pieces {
+        input.write_all(piece).expect("the program reads on");
+        let printed = lines.recv_timeout(Duration::from_secs(60));
+        assert_eq!(printed.as_deref(), Ok(*answer));
+    }
+    drop(input);
+    assert!(child.wait().expect("the program ends").success());
+    lines.into_iter().collect()
+}
+
+/// An answer comes before the next line is sent, on the smallest table and on the largest.
+#[test]
+fn answers_as_lines_come() {
+    let mut pieces: Vec<(Vec<u8>, &str)> = Vec::new();
+    for (line, answer) in M4.iter().zip(M4_PRINTED) {
+        pieces.push((samples::text(&[line]), answer));
+    }
+    pieces[0].0 = input(3, &M4[..1]);
+    assert_eq!(converse(&pieces), M4_PRINTED[4..]);
+    let largest = file("examples/largest.table");
+    let opening = opening(&table_of_text(&largest, Behind::Nothing).expect("legal"), 0).line();
+    let first = [largest, opening].concat();
+    let printed = String::from_utf8(script::output(&first)).expect("digits");
+    let printed: Vec<&str> = printed.lines().collect();
+    assert_eq!(converse(&[(first, printed[0])]), printed[1..]);
+}
+
+/// A refused table is answered before the input ends: its header's line is all that is read, or its
+/// own bytes.
+#[test]
+fn refusal_before_the_input_ends() {
+    let none: [String; 0] = [];
+    for (text, refusal) in [
+        ("0001000g0001\n", "e002"),
+        ("000100020801\n", "e003"),
+        ("0001000200011", "e001"),
+        ("000100020001\n0000\n0000\n000100010007\nffff\n", "e004"),
+        ("000100020001\n0000\n0000\n000000010007\nfffe\n", "e006"),
+    ] {
+        assert_eq!(converse(&[(text.into(), refusal)]), none);
+    }
+}
+
+/// Runs a program on an input and an output that are not pipes.
+fn run_on(name: &str, input: Stdio, output: Stdio) -> Output {
+    let mut command = Command::new(program(name));
+    command.stdin(input).stdout(output).stderr(Stdio::piped());
+    let child = command.spawn().expect("the program starts");
+    child.wait_with_output().expect("the program ends")
+}
+
+/// A failed read is not the end of the input: nothing is printed, and standard error tells.
+#[test]
+fn failed_read() {
+    for name in ["plan", "script"] {
+        let told = format!("{name}: the input could not be read\n");
+        let folder = File::open("/").expect("a folder");
+        let (mut feed, unfinished) = UnixStream::pair().expect("a pair");
+        unfinished.set_nonblocking(true).expect("not blocking");
+        feed.write_all(&M2.as_bytes()[..40]).expect("half a table");
+        for input in [Stdio::from(folder), Stdio::from(OwnedFd::from(unfinished))] {
+            let ended = run_on(name, input, Stdio::piped());
+            assert!(ended.status.success() && ended.stdout.is_empty());
+            assert_eq!(ended.stderr, told.as_bytes());
+        }
+    }
+}
+
+/// A read that fails behind the table: what came before it is answered, and the end is not printed.
+#[test]
+fn failed_read_behind_the_table() {
+    let (mut feed, unfinished) = UnixStream::pair().expect("a pair");
+    unfinished.set_nonblocking(true).expect("not blocking");
+    feed.write_all(&input(3, &M4)).expect("a script");
+    let unfinished = Stdio::from(OwnedFd::from(unfinished));
+    let ended = run_on("script", unfinished, Stdio::piped());
+    assert!(ended.status.success());
+    assert_eq!(ended.stdout, samples::text(&M4_PRINTED[..4]));
+    assert_eq!(ended.stderr, b"script: the input could not be read\n");
+}
+
+/// On a full disk a program stops at the first write, and standard error tells.
+#[test]
+fn failed_write() {
+    for (name, input) in [
+        ("plan", "examples/m2.table"),
+        ("plan", "examples/m4.script"),
+        ("script", "examples/m2.table"),
+        ("script", "examples/m11.script"),
+        ("script", "README.md"),
+    ] {
+        let full = OpenOptions::new().write(true).open("/dev/full");
+        let input = File::open(top().join(input)).expect("an input");
+        let ended = run_on(name, input.into(), full.expect("/dev/full").into());
+        assert!(ended.status.success());
+        let told = format!("{name}: the output could not be written\n");
+        assert_eq!(ended.stderr, told.as_bytes());
     }
 }
 

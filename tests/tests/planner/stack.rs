@@ -105,6 +105,7 @@ struct Lending {
     own: Vec<u8>,
     record: Vec<u8>,
     line: [u8; 16],
+    log: [u64; 2],
     out: Vec<u8>,
 }
 
@@ -121,6 +122,7 @@ impl Lending {
             own: vec![0; site.own.len()],
             record: vec![0; site.reached.len()],
             line: [9; 16],
+            log: [ACCEPTED; 2],
             out: vec![9; room_for(site.input.len())],
         }
     }
@@ -152,7 +154,7 @@ fn ask(site: &Site, kind: Kind, out: &mut [u8]) -> u64 {
     largest((0..given.links).map(ask))
 }
 
-const CALLS: [(&str, Call); 17] = [
+const CALLS: [(&str, Call); 21] = [
     ("planner_check_table", |site, _| {
         match ffi::check_table(site.numbers.slices()) {
             0 => ACCEPTED,
@@ -164,9 +166,17 @@ const CALLS: [(&str, Call); 17] = [
         let event = |line: &Vec<u8>| ffi::fleet_event(given, record, line, 0, 1);
         largest(site.lines.iter().map(event))
     }),
+    ("planner_fleet_event_logged", |site, lent| {
+        let (given, record, log) = (site.numbers.slices(), &mut lent.record, &mut lent.log);
+        let event = |line: &Vec<u8>| ffi::fleet_event_logged(given, record, line, log, 1);
+        largest(site.lines.iter().map(event))
+    }),
     ("planner_fleet_finished", |site, lent| {
         let finished = |record: &Vec<u8>| ffi::fleet_finished(site.numbers.slices(), record);
         largest([&lent.record, &site.reached].into_iter().map(finished))
+    }),
+    ("planner_log_entry", |_, lent| {
+        ffi::log_entry(&lent.log, 2, 1)
     }),
     ("planner_plan_slse", |site, lent| {
         ffi::plan_slse(site.numbers.slices(), &mut lent.plan)
@@ -189,9 +199,19 @@ const CALLS: [(&str, Call); 17] = [
         let hear = |line: &Vec<u8>| ffi::probe_hear(given, site.probe, record, line, 1);
         largest(site.lines.iter().map(hear))
     }),
+    ("planner_probe_hear_logged", |site, lent| {
+        let (given, record, log) = (site.numbers.slices(), &mut lent.own, &mut lent.log);
+        ffi::probe_open(given, site.probe, record, 1);
+        let hear = |line: &Vec<u8>| ffi::probe_hear_logged(given, site.probe, record, line, log, 1);
+        largest(site.lines.iter().map(hear))
+    }),
     ("planner_probe_open", |site, lent| {
         let (given, record) = (site.numbers.slices(), &mut lent.own);
         largest((0..20).map(|_| ffi::probe_open(given, site.probe, record, 1)))
+    }),
+    ("planner_probe_open_logged", |site, lent| {
+        let (given, record, log) = (site.numbers.slices(), &mut lent.own, &mut lent.log);
+        largest((0..20).map(|_| ffi::probe_open_logged(given, site.probe, record, log, 1)))
     }),
     ("planner_probe_rests", |site, _| {
         let given = site.numbers.slices();
@@ -215,7 +235,14 @@ const CALLS: [(&str, Call); 17] = [
         let (record, out) = (&mut lent.record, &mut lent.out);
         let answer = ffi::script_piece(given, record, line, &mut [0; 3], piece, out);
         let out = just_holding(answer, out);
-        answer.max(ffi::script_piece(given, &mut again, line, &mut [0; 3], piece, out))
+        answer.max(ffi::script_piece(
+            given,
+            &mut again,
+            line,
+            &mut [0; 3],
+            piece,
+            out,
+        ))
     }),
     ("planner_script_text", |site, lent| {
         let text = |input: &Vec<u8>| {
@@ -284,12 +311,9 @@ fn depth_of_each_call() {
         for ((name, call), deepest) in CALLS.into_iter().zip(&mut deepest) {
             let (mut answer, mut lent) = (0, Lending::to(site));
             let depth = depth(&mut || answer = call(site, &mut lent));
-            // What prints accepts every text.
-            assert_eq!(
-                answer >= ACCEPTED,
-                legal || name.ends_with("_text"),
-                "{name}"
-            );
+            // What prints accepts every text, and a log is read without a table.
+            let refuses = !name.ends_with("_text") && name != "planner_log_entry";
+            assert_eq!(answer >= ACCEPTED, legal || !refuses, "{name}");
             let figure = figures[name];
             assert!(depth <= figure * KIB, "{name}: {depth} bytes, {figure} KiB");
             let mut lent = Lending::to(site);

@@ -2,13 +2,8 @@
 use borrow.Author.Needs.{needs}
 use Rattle.script.proofs.end.Statement.{statement}
 use Rattle.script.proofs.end.Tie as tie
-use mathlib.Core.Path.{sym}
-use native.Mathlib.Omega.{arith}
-use lib.Seq.{length-take-le}
-use Rattle.output.proofs.Printing.{printed-within}
-
-slice-aggregate-script-end : tie.Need-slice-aggregate-script-end
-slice-aggregate-script-end c = search needs
+use Rattle.table.specs.Slices.{slicesOf}
+use Rattle.script.proofs.Calls.{end-passes, printed-passes, never-refused}
 
 script-end-requires : tie.Need-script-end-requires
 script-end-requires c κs = search needs
@@ -16,44 +11,41 @@ script-end-requires c κs = search needs
 enum-known-printed : tie.Need-enum-known-printed
 enum-known-printed c = search needs
 
-array-share-prefix-out : tie.Need-array-share-prefix-out
-array-share-prefix-out c =
-    let at-script-end = c .before .before .before .before in
-    let k = at-script-end .script-end in
-    let m = k .kept .1 .1 .1 .1 .1 .1 .1 .1 .1 .0 in
-    let l = printed-within _ _ _ _ _ _ (k .ensures) (c .before .printed .given .1) m .1 in
-    omega (arith, m)
-
-slice-aggregate-write-all : tie.Need-slice-aggregate-write-all
-slice-aggregate-write-all c =
-    let at-script-end = c .before .before .before .before .before in
-    let k = at-script-end .script-end in
-    let m = k .kept .1 .1 .1 .1 .1 .1 .1 .1 .1 .0 in
-    let l = printed-within _ _ _ _ _ _ (k .ensures) (c .before .before .printed .given .1) m .1 in
-    sym (length-take-le _ (k .last .1 .1 .1 .1 .1 .1 .1 .1 .1 .0) (omega (arith, m)))
-
-write-all-requires : tie.Need-write-all-requires
-write-all-requires c κs = search needs
-
 enum-told : tie.Need-enum-told
 enum-told c = search needs
 
+same-length : tie.Need-same-length
+same-length c = search needs
+
 returns : tie.Need-returns
-returns c = search needs
+returns c =
+    let at-script-end = c .before .before .before .before .before in
+    let s = at-script-end .before .before .before .before .before .before .before .before in
+    let a = s .args in
+    let x = slicesOf (a .number) (a .probes) (a .links) (a .needs .now) (a .lows .now) (a .highs .now) (a .costs .now) in
+    let none = end-passes x (s .pre .0) (a .rec .now) (s .pre .1) (a .progress .held) (a .progress .changed) (a .out .now) (s .pre .2) in
+    printed-passes _ _ _ (a .out .now) _ none (at-script-end .script-end .ensures) _ (c .before .printed .given .1)
+
+same-length-2 : tie.Need-same-length-2
+same-length-2 c = search needs
 
 returns-2 : tie.Need-returns-2
-returns-2 c = search needs
+returns-2 c =
+    let at-script-end = c .before .before .before .before in
+    let s = at-script-end .before .before .before .before .before .before .before .before in
+    let a = s .args in
+    let x = slicesOf (a .number) (a .probes) (a .links) (a .needs .now) (a .lows .now) (a .highs .now) (a .costs .now) in
+    let none = end-passes x (s .pre .0) (a .rec .now) (s .pre .1) (a .progress .held) (a .progress .changed) (a .out .now) (s .pre .2) in
+    absurd (never-refused _ _ _ (a .out .now) _ none (at-script-end .script-end .ensures) _ (c .enum-told .given .1))
 
 pub end-spec : {M : Type 1} → statement M
 end-spec =
     tie.close
     (tie.spec
-    slice-aggregate-script-end
     script-end-requires
     enum-known-printed
-    array-share-prefix-out
-    slice-aggregate-write-all
-    write-all-requires
     enum-told
+    same-length
     returns
+    same-length-2
     returns-2)

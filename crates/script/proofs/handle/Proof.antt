@@ -2,39 +2,14 @@
 use borrow.Author.Needs.{needs}
 use Rattle.script.proofs.handle.Statement.{statement}
 use Rattle.script.proofs.handle.Tie as tie
-use mathlib.Core.Path.{sym}
-use native.Mathlib.Omega.{arith}
-use lib.Seq.{length-take-le}
-use Rattle.script_output.proofs.Answers.{handled-within}
-
-slice-aggregate-script-piece : tie.Need-slice-aggregate-script-piece
-slice-aggregate-script-piece c = search needs
+use Rattle.table.specs.Slices.{slicesOf}
+use Rattle.script.proofs.Calls.{piece-passes, handled-passes, never-unhandled}
 
 script-piece-requires : tie.Need-script-piece-requires
 script-piece-requires c κs = search needs
 
 enum-known-handled : tie.Need-enum-known-handled
 enum-known-handled c = search needs
-
-array-share-prefix-out : tie.Need-array-share-prefix-out
-array-share-prefix-out c =
-    let at-script-piece = c .before .before .before .before .before .before .before .before in
-    let k = at-script-piece .script-piece in
-    let m = k .kept .1 .1 .1 .1 .1 .1 .1 .1 .1 .1 .1 .0 in
-    let l = handled-within _ _ _ _ _ _ _ _ _ _ _ (k .ensures) (c .before .handled .given .1) m in
-    omega (arith, m)
-
-slice-aggregate-write-all : tie.Need-slice-aggregate-write-all
-slice-aggregate-write-all c =
-    let at-handled = c .before .before in
-    let at-script-piece = at-handled .before .before .before .before .before .before .before in
-    let k = at-script-piece .script-piece in
-    let m = k .kept .1 .1 .1 .1 .1 .1 .1 .1 .1 .1 .1 .0 in
-    let l = handled-within _ _ _ _ _ _ _ _ _ _ _ (k .ensures) (at-handled .handled .given .1) m in
-    sym (length-take-le _ (k .last .1 .1 .1 .1 .1 .1 .1 .1 .1 .1 .1 .0) (omega (arith, m)))
-
-write-all-requires : tie.Need-write-all-requires
-write-all-requires c κs = search needs
 
 enum-told : tie.Need-enum-told
 enum-told c = search needs
@@ -45,32 +20,48 @@ same-length c = search needs
 same-length-2 : tie.Need-same-length-2
 same-length-2 c = search needs
 
-returns : tie.Need-returns
-returns c = search needs
-
 same-length-3 : tie.Need-same-length-3
 same-length-3 c = search needs
+
+returns : tie.Need-returns
+returns c =
+    let at-script-piece = c .before .before .before .before .before .before .before .before .before in
+    let s = at-script-piece .before .before .before .before .before .before .before .before .before .before .before .before in
+    let a = s .args in
+    let x = slicesOf (a .number) (a .probes) (a .links) (a .needs .now) (a .lows .now) (a .highs .now) (a .costs .now) in
+    let none = piece-passes x (s .pre .0) (a .rec .now) (s .pre .1) (a .progress) (a .line .now) (a .piece .now) (a .out .now) (s .pre .2) (s .pre .3) in
+    handled-passes _ _ _ (a .rec .now) _ (a .line .now) _ (a .out .now) _ none (at-script-piece .script-piece .ensures) _ _ (c .before .handled .given .1)
 
 same-length-4 : tie.Need-same-length-4
 same-length-4 c = search needs
 
+same-length-5 : tie.Need-same-length-5
+same-length-5 c = search needs
+
+same-length-6 : tie.Need-same-length-6
+same-length-6 c = search needs
+
 returns-2 : tie.Need-returns-2
-returns-2 c = search needs
+returns-2 c =
+    let at-script-piece = c .before .before .before .before .before .before .before .before in
+    let s = at-script-piece .before .before .before .before .before .before .before .before .before .before .before .before in
+    let a = s .args in
+    let x = slicesOf (a .number) (a .probes) (a .links) (a .needs .now) (a .lows .now) (a .highs .now) (a .costs .now) in
+    let none = piece-passes x (s .pre .0) (a .rec .now) (s .pre .1) (a .progress) (a .line .now) (a .piece .now) (a .out .now) (s .pre .2) (s .pre .3) in
+    absurd (never-unhandled _ _ _ (a .rec .now) _ (a .line .now) _ (a .out .now) _ none (at-script-piece .script-piece .ensures) _ (c .enum-told .given .1))
 
 pub handle-spec : {M : Type 1} → statement M
 handle-spec =
     tie.close
     (tie.spec
-    slice-aggregate-script-piece
     script-piece-requires
     enum-known-handled
-    array-share-prefix-out
-    slice-aggregate-write-all
-    write-all-requires
     enum-told
     same-length
     same-length-2
-    returns
     same-length-3
+    returns
     same-length-4
+    same-length-5
+    same-length-6
     returns-2)

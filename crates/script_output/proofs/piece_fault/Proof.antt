@@ -1,3 +1,4 @@
+-- `script_output::piece_fault` meets its contract.
 use borrow.Author.Needs.{needs}
 use Rattle.script_output.proofs.piece_fault.Statement.{statement}
 use Rattle.script_output.proofs.piece_fault.Tie as tie

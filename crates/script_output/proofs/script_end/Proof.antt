@@ -1,8 +1,9 @@
+-- `script_output::script_end` meets its contract.
 use borrow.Author.Needs.{needs}
 use Rattle.script_output.proofs.script_end.Statement.{statement}
 use Rattle.script_output.proofs.script_end.Tie as tie
-use Prim.Native.Nat.{ℕ, _+_, _≤_, _<_}
-use mathlib.Core.Path.{_≡_, sym, _∙_}
+use Prim.Native.Nat.{_+_, _≤_, _<_}
+use mathlib.Core.Path.{sym, _∙_}
 use mathlib.Core.Bool.{cond}
 use mathlib.Core.List.{[]}
 use native.Mathlib.Omega.{arith}

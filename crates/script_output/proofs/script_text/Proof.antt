@@ -1,3 +1,4 @@
+-- `script_output::script_text` meets its contract.
 use borrow.Author.Needs.{needs}
 use Rattle.script_output.proofs.script_text.Statement.{statement}
 use Rattle.script_output.proofs.script_text.Tie as tie

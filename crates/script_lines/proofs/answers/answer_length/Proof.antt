@@ -1,3 +1,4 @@
+-- `script_lines::answers::answer_length` meets its contract.
 use borrow.Author.Needs.{needs}
 use Rattle.script_lines.proofs.answers.answer_length.Statement.{statement}
 use Rattle.script_lines.proofs.answers.answer_length.Tie as tie

@@ -1,4 +1,4 @@
-use borrow.Author.Needs.{needs}
+-- `script_lines::answers::cap` meets its contract.
 use Rattle.script_lines.proofs.answers.cap.Statement.{statement}
 use Rattle.script_lines.proofs.answers.cap.Tie as tie
 use mathlib.Core.Path.{sym}

@@ -1,3 +1,4 @@
+-- `script_lines::answers::put_answer` meets its contract.
 use borrow.Author.Needs.{needs}
 use Rattle.script_lines.proofs.answers.put_answer.Statement.{statement}
 use Rattle.script_lines.proofs.answers.put_answer.Tie as tie

@@ -4,6 +4,7 @@ use Rattle.script_steps.proofs.pieces.answer_line.Statement.{statement}
 use Rattle.script_steps.proofs.pieces.answer_line.Tie as tie
 use native.Mathlib.Omega.{arith}
 use Rattle.table.specs.Slices.{slicesOf}
+use Rattle.fleet.proofs.Calls.{handled-answer}
 use Rattle.script_steps.proofs.Printing.{used-within, line-buffered}
 
 cast-handle-line : tie.Need-cast-handle-line

@@ -1,17 +1,16 @@
+-- `script_steps::pieces::count_piece` meets its contract.
 use borrow.Author.Needs.{needs}
 use Rattle.script_steps.proofs.pieces.count_piece.Statement.{statement}
 use Rattle.script_steps.proofs.pieces.count_piece.Tie as tie
-use Prim.Native.Nat.{ℕ, _+_, _≤_}
-use mathlib.Core.Path.{_≡_, refl, sym, _∙_, ap}
+use Prim.Native.Nat.{ℕ}
+use mathlib.Core.Path.{sym, _∙_, ap}
 use mathlib.Core.List.{List}
 use native.Mathlib.Omega.{arith}
-use lib.ListN.{length, take, replicate}
+use lib.ListN.{length, replicate}
 use lib.Seq.{length-take-le, take-all}
 use Rattle.table.specs.Slices.{slicesOf, tableOf}
 use Rattle.fleet_state.proofs.CheckLaws.{fleet-good}
 use Rattle.script_lines.specs.Fitting.{capped}
-use Rattle.script_theory.specs.Script.{Script, afterPiece}
-use Rattle.script_steps.specs.Within.{underWay}
 use Rattle.script_steps.proofs.PieceLaws.{copied-part}
 use Rattle.script_steps.proofs.Ends.{links-within}
 

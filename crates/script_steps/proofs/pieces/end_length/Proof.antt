@@ -1,4 +1,4 @@
-use borrow.Author.Needs.{needs}
+-- `script_steps::pieces::end_length` meets its contract.
 use Rattle.script_steps.proofs.pieces.end_length.Statement.{statement}
 use Rattle.script_steps.proofs.pieces.end_length.Tie as tie
 use borrow.Author.Tests.{eq-eqb, ne-eqb}

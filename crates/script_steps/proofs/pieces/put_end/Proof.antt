@@ -1,3 +1,4 @@
+-- `script_steps::pieces::put_end` meets its contract.
 use borrow.Author.Needs.{needs}
 use Rattle.script_steps.proofs.pieces.put_end.Statement.{statement}
 use Rattle.script_steps.proofs.pieces.put_end.Tie as tie

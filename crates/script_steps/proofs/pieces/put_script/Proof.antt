@@ -1,3 +1,4 @@
+-- `script_steps::pieces::put_script` meets its contract.
 use borrow.Author.Needs.{needs}
 use Rattle.script_steps.proofs.pieces.put_script.Statement.{statement}
 use Rattle.script_steps.proofs.pieces.put_script.Tie as tie

@@ -1,9 +1,9 @@
+-- `script_steps::pieces::script_fits` meets its contract.
 use borrow.Author.Needs.{needs}
 use Rattle.script_steps.proofs.pieces.script_fits.Statement.{statement}
 use Rattle.script_steps.proofs.pieces.script_fits.Tie as tie
 use Prim.Native.Nat.{ℕ, _*_, _≤_}
 use mathlib.Core.Path.{sym, _∙_, ap}
-use mathlib.Core.Bool.{Bool}
 use native.Mathlib.Omega.{arith}
 use lib.Dec.{leb}
 use lib.ListN.{length}

@@ -1,22 +1,19 @@
--- A script in pieces prints the same in any slices of the table: by induction on the bytes of a piece, then on the pieces.
+-- A script under way and its end are the same in any slices of the table: by induction on the bytes of a piece.
 use Prim.Native.Nat.{ℕ, _+_, _%_}
 use mathlib.Core.Path.{_≡_, refl, _∙_, ap}
 use mathlib.Core.Bool.{cond}
 use mathlib.Core.List.{List, [], _∷_, _++_}
 use lib.Dec.{eqb}
-use lib.ListN.{length, take}
+use lib.ListN.{take}
 use Rattle.range.specs.Sum.{sum}
 use Rattle.table.specs.Same.{Same}
 use Rattle.table.specs.Slices.{Slices, tableOf, slicesFault}
 use Rattle.output.specs.Output.{refusalLine}
 use Rattle.wake_log.specs.declared.Answer.{Answer}
 use Rattle.fleet_theory.specs.Fleet.{eventFault, linkChanges}
-use Rattle.fleet_calls.specs.Calls.{SameTable}
 use Rattle.fleet_calls.proofs.Same.{same-finished}
-use Rattle.fleet_calls.proofs.Promises.{same-fine, same-event-fault, same-answer, same-record-after}
-use Rattle.script_theory.specs.Script.{answerLine, lastLine, scriptText, Script, answered, bytesAfter, afterLine, afterByte, afterPiece, begun, endText, together, carried, printedBy}
-use Rattle.script_theory.proofs.Pieces.{any-pieces}
-use Rattle.script_calls.specs.Pieces.{PieceCall, PiecesOf, textOfPieces, printedByCalls}
+use Rattle.fleet_calls.proofs.Promises.{same-event-fault, same-answer, same-record-after}
+use Rattle.script_theory.specs.Script.{answerLine, lastLine, Script, answered, bytesAfter, afterLine, afterByte, afterPiece, endText}
 
 -- a script after a line, by what the line gives
 abbrev afterAnswer : Script → ℕ → List ℕ → Answer → ℕ → Script
@@ -50,25 +47,3 @@ module _ (x y : Slices) (same : Same (tableOf x) (tableOf y)) (fine : slicesFaul
 
   pub same-end : (bytes : List ℕ) (held changed : ℕ) → endText x bytes held changed ≡ endText y bytes held changed
   same-end bytes held changed = ap (λ done. cond (eqb held 0) [] (refusalLine 1) ++ lastLine done changed) (same-finished (tableOf x) (tableOf y) same bytes)
-
--- the texts of the pieces
-abbrev textsOf : List PieceCall → List (List ℕ)
-textsOf [] = []
-textsOf (c ∷ cs) = c .text ∷ textsOf cs
-
-texts-together : (cs : List PieceCall) → together (textsOf cs) ≡ textOfPieces cs
-unfolding together
-texts-together [] = refl
-texts-together (c ∷ cs) = ap (λ (rest : List ℕ). c .text ++ rest) (texts-together cs)
-
-module _ (x : Slices) (fine : slicesFault x ≡ 0) (room : ℕ) (y : Slices) (last : SameTable y x) where
-  calls-print : (p : Script) (cs : List PieceCall) → PiecesOf x cs → printedByCalls room p cs y ≡ printedBy x room p (textsOf cs)
-  unfolding printedByCalls printedBy
-  calls-print p [] k = same-end y x (last .same) (same-fine x y fine last) fine room (p .bytes) (length (p .held)) (p .changed)
-  calls-print p (c ∷ cs) k =
-      ap (λ (q : Script). q .out ++ printedByCalls room (carried q) cs y) (same-after-piece (c .slices) x (k .0 .same) (same-fine x (c .slices) fine (k .0)) fine room p (c .text))
-      ∙ ap (λ (rest : List ℕ). afterPiece x room p (c .text) .out ++ rest) (calls-print (carried (afterPiece x room p (c .text))) cs (k .1))
-
-  -- pieces, each in its own slices, print what the text prints whole
-  pub any-slices : (cs : List PieceCall) → PiecesOf x cs → printedByCalls room (begun x) cs y ≡ scriptText x room (textOfPieces cs)
-  any-slices cs k = calls-print (begun x) cs k ∙ any-pieces x room fine (textsOf cs) ∙ ap (scriptText x room) (texts-together cs)

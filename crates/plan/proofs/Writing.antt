@@ -1,0 +1,46 @@
+-- The first 27,923 bytes of an input print what all of it prints, in the program's own slice.
+use Prim.Native.Nat.{ℕ, _≤_, _<_}
+use mathlib.Core.Path.{_≡_, sym, _∙_, ap}
+use mathlib.Core.List.{List}
+use native.Mathlib.Omega.{arith}
+use native.Mathlib.Decide.{decLt}
+use lib.ListN.{length, take, drop}
+use lib.Seq.{take-all, take-append-seam}
+use Rattle.output.specs.Output.{shortFault, outputReply, Prints}
+use Rattle.output.specs.declared.Output.{Output}
+use Rattle.output.specs.declared.Output.the-variants.{Length, Refused}
+use Rattle.output.proofs.Printing.{prints-answer, long-enough}
+use Rattle.plan_output.specs.Output.{outputOf}
+use Rattle.plan_output.proofs.Long.{long-output}
+use Rattle.plan_output.proofs.Most.{most, always-printed}
+use Rattle.plan.specs.Writing.{PlanWrites}
+
+same-output : (input : List ℕ) → outputOf (take 27923 input) ≡ outputOf input
+same-output input = go (decLt 27922 (length input))
+  where
+    go : Dec (27922 < length input) → outputOf (take 27923 input) ≡ outputOf input
+    go (yes l) = sym (long-output input l)
+    go (no d) = ap outputOf (take-all 27923 input (omega arith))
+
+pub plan-writes : (input : List ℕ) → PlanWrites input
+plan-writes input =
+    record {
+      writes = λ n out out′ p.
+          let printed = outputOf (take 27923 input) in
+          let k : n ≡ length printed = (let e = prints-answer p in cc) in
+          ap (λ (m : ℕ). take m out′) k ∙ ap (take (length printed)) (p .out) ∙ take-append-seam printed (drop (length printed) out) ∙ same-output input;
+    }
+
+-- the program's slice holds every output, so the text is printed and no refusal occurs
+module _ (s : List ℕ) (r : Output) (out out′ : List ℕ) (long : 26646 ≤ length out) (p : Prints (shortFault (length out) (outputOf s)) (outputOf s) r out out′) where
+  pub print-done : (n : ℕ) → r ≡ Length n → Prints 0 (outputOf s) (Length n) out out′
+  print-done n e =
+      let k = most s in
+      let q = rw (long-enough (length out) (outputOf s) (omega arith)) at p in
+      record { answer = ap outputReply (sym e) ∙ q .answer; out = q .out }
+
+  pub never-refused : (m : ℕ) → r ≡ Refused m → ⊥
+  never-refused m e =
+      let a = sym e ∙ always-printed s r out out′ long p in
+      let z : _≡_ {A = ℕ} 0 1 = cc in
+      omega arith

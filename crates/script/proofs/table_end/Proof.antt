@@ -1,0 +1,128 @@
+-- `script::table_end` meets its contract.
+use borrow.Author.Needs.{needs}
+use Rattle.script.proofs.table_end.Statement.{statement}
+use Rattle.script.proofs.table_end.Tie as tie
+use mathlib.Core.Path.{sym, _∙_}
+use native.Mathlib.Omega.{arith}
+use borrow.Author.Tests.{eq-eqb, ne-eqb}
+use Rattle.table.specs.Text.{headFault}
+use Rattle.table_text.proofs.Good.{head-good, head-field}
+
+head-fault-requires : tie.Need-head-fault-requires
+head-fault-requires c κs = search needs
+
+returns : tie.Need-returns
+returns c =
+    let at-head-fault = c .before in
+    let a = at-head-fault .before .before .args in
+    rw (ne-eqb (headFault 256 2048 (a .head .now)) 0 (λ z. c .if1 .taken (at-head-fault .head-fault .ensures ∙ z)))
+
+number-requires : tie.Need-number-requires
+number-requires c κs =
+    let at-if1 = c in
+    let at-head-fault = c .before in
+    let a = at-head-fault .before .before .args in
+    let e = sym (at-head-fault .head-fault .ensures) ∙ at-if1 .if1 .left in
+    let g = head-good 256 2048 (a .head .now) e in
+    let w = head-field 256 2048 (a .head .now) 4 g (omega arith) .within in
+    (omega arith, omega arith)
+
+number-requires-2 : tie.Need-number-requires-2
+number-requires-2 c κs =
+    let at-if1 = c .before in
+    let at-head-fault = at-if1 .before in
+    let a = at-head-fault .before .before .args in
+    let e = sym (at-head-fault .head-fault .ensures) ∙ at-if1 .if1 .left in
+    let g = head-good 256 2048 (a .head .now) e in
+    let w = head-field 256 2048 (a .head .now) 8 g (omega arith) .within in
+    (omega arith, omega arith)
+
+mul-result : tie.Need-mul-result
+mul-result c =
+    let at-number2 = c in
+    let at-number = c .before in
+    let at-if1 = at-number .before in
+    let at-head-fault = at-if1 .before in
+    let a = at-head-fault .before .before .args in
+    let e = sym (at-head-fault .head-fault .ensures) ∙ at-if1 .if1 .left in
+    let g = head-good 256 2048 (a .head .now) e in
+    let few = g .size .few in
+    let within = g .size .within in
+    omega (arith, at-number .number .ensures)
+
+add-result : tie.Need-add-result
+add-result c =
+    let at-number2 = c in
+    let at-number = c .before in
+    let at-if1 = at-number .before in
+    let at-head-fault = at-if1 .before in
+    let a = at-head-fault .before .before .args in
+    let e = sym (at-head-fault .head-fault .ensures) ∙ at-if1 .if1 .left in
+    let g = head-good 256 2048 (a .head .now) e in
+    let few = g .size .few in
+    let within = g .size .within in
+    omega (arith, at-number .number .ensures)
+
+mul-result-2 : tie.Need-mul-result-2
+mul-result-2 c =
+    let at-number2 = c in
+    let at-number = c .before in
+    let at-if1 = at-number .before in
+    let at-head-fault = at-if1 .before in
+    let a = at-head-fault .before .before .args in
+    let e = sym (at-head-fault .head-fault .ensures) ∙ at-if1 .if1 .left in
+    let g = head-good 256 2048 (a .head .now) e in
+    let few = g .size .few in
+    let within = g .size .within in
+    omega (arith, at-number2 .number2 .ensures)
+
+add-result-2 : tie.Need-add-result-2
+add-result-2 c =
+    let at-number2 = c in
+    let at-number = c .before in
+    let at-if1 = at-number .before in
+    let at-head-fault = at-if1 .before in
+    let a = at-head-fault .before .before .args in
+    let e = sym (at-head-fault .head-fault .ensures) ∙ at-if1 .if1 .left in
+    let g = head-good 256 2048 (a .head .now) e in
+    let few = g .size .few in
+    let within = g .size .within in
+    omega (arith, at-number .number .ensures, at-number2 .number2 .ensures)
+
+add-result-3 : tie.Need-add-result-3
+add-result-3 c =
+    let at-number2 = c in
+    let at-number = c .before in
+    let at-if1 = at-number .before in
+    let at-head-fault = at-if1 .before in
+    let a = at-head-fault .before .before .args in
+    let e = sym (at-head-fault .head-fault .ensures) ∙ at-if1 .if1 .left in
+    let g = head-good 256 2048 (a .head .now) e in
+    let few = g .size .few in
+    let within = g .size .within in
+    omega (arith, at-number .number .ensures, at-number2 .number2 .ensures)
+
+returns-2 : tie.Need-returns-2
+returns-2 c =
+    let at-number2 = c in
+    let at-number = c .before in
+    let at-if1 = at-number .before in
+    let at-head-fault = at-if1 .before in
+    let a = at-head-fault .before .before .args in
+    let e = sym (at-head-fault .head-fault .ensures) ∙ at-if1 .if1 .left in
+    rw (eq-eqb (headFault 256 2048 (a .head .now)) 0 e) (omega (arith, at-number .number .ensures, at-number2 .number2 .ensures))
+
+pub table-end-spec : {M : Type 1} → statement M
+table-end-spec =
+    tie.close
+    (tie.spec
+    head-fault-requires
+    returns
+    number-requires
+    number-requires-2
+    mul-result
+    add-result
+    mul-result-2
+    add-result-2
+    add-result-3
+    returns-2)

@@ -1,0 +1,55 @@
+-- What the script program writes, over any list of reads that together give the input. What the system's read gave and its write took is assumed.
+use Prim.Native.Nat.{ℕ, _≤_}
+use mathlib.Core.Path.{_≡_}
+use mathlib.Core.Bool.{true}
+use mathlib.Core.List.{List, [], _∷_, _++_}
+use lib.ListN.{length, take}
+use Rattle.table.specs.Text.{ofText, textFault}
+use Rattle.table.specs.Slices.{Slices}
+use Rattle.fleet_theory.specs.Fleet.{start}
+use Rattle.output.specs.Output.{refusalLine}
+use Rattle.script_theory.specs.Script.{afterPiece, endText, inSlices, together, scriptOutput}
+use Rattle.script_steps.specs.declared.Progress.{Progress}
+use Rattle.script_output.specs.Handling.{before, Handles}
+use Rattle.script_output.specs.declared.Handling.the-variants.{Printed}
+use Rattle.script.specs.Reading.{tableText}
+
+-- a piece that was read and handled: progress, record and unfinished line after it, and what was written of the output slice
+pub record Turn : Type 0 where
+  pub piece : List ℕ
+  pub progress : Progress
+  pub bytes : List ℕ
+  pub line : List ℕ
+  pub written : List ℕ
+
+-- `handle` promises this of a turn, and its answers are written
+pub record Took (x : Slices) (p : Progress) (rec line : List ℕ) (t : Turn) : Type 0 where
+  pub out : List ℕ
+  pub out′ : List ℕ
+  pub handled : Handles 0 (afterPiece x 1024 (before p rec line) (t .piece)) (Printed (length (t .written)) (t .progress)) rec (t .bytes) line (t .line) out out′
+  pub answers : t .written ≡ take (length (t .written)) out′
+
+-- one turn after the other: each gets progress, record and line as the last left them
+unfoldable pub Turns : Slices → Progress → List ℕ → List ℕ → List Turn → Type 0
+Turns x p rec line [] = Unit {0}
+Turns x p rec line (t ∷ ts) = Took x p rec line t × Turns x (t .progress) (t .bytes) (t .line) ts
+
+unfoldable pub readBy : List Turn → List (List ℕ)
+readBy [] = []
+readBy (t ∷ ts) = t .piece ∷ readBy ts
+
+-- what the turns write, and the end behind them
+unfoldable pub writtenBy : Slices → Progress → List ℕ → List Turn → List ℕ
+writtenBy x p rec [] = endText x rec (p .held) (p .changed)
+writtenBy x p rec (t ∷ ts) = t .written ++ writtenBy x (t .progress) (t .bytes) ts
+
+abbrev pub noProgress : Progress
+noProgress = record { used = 0; held = 0; changed = 0 }
+
+-- "The script program reads a table and, after its closing line, script lines .. For each it prints the entry"; "a refused table prints only that"
+pub record ScriptWrites (input : List ℕ) : Type 0 where
+  pub refused : (n : ℕ) → n ≡ textFault 256 2048 true (tableText input) → (n ≡ 0 → ⊥) → refusalLine n ≡ scriptOutput input
+  pub writes : textFault 256 2048 true (tableText input) ≡ 0
+      → (let x = inSlices (ofText (tableText input)) in
+      (line : List ℕ) (ts : List Turn) → 16 ≤ length line → Turns x noProgress (start x .bytes) line ts → tableText input ++ together (readBy ts) ≡ input
+      → writtenBy x noProgress (start x .bytes) ts ≡ scriptOutput input)

@@ -1,0 +1,105 @@
+//! The calls with a lent log do what the same calls do without one, and their entries are read back.
+
+use planner_tests::buffer::Buffer;
+use planner_tests::channel::{any_mix, Channel};
+use planner_tests::compare_ends::End;
+use planner_tests::compare_fleet::Fleet;
+use planner_tests::compare_log::Log;
+use planner_tests::ends::Entry;
+use planner_tests::events::{any_frame, any_probe, damaged_line, each_table};
+use planner_tests::ffi;
+use planner_tests::random::Random;
+use planner_tests::repository::document;
+use planner_tests::samples::{text, M11_PRINTED};
+use planner_tests::tally::Tally;
+
+/// Of several lengths; some are full, and some have a count of used entries above their length.
+fn any_log(random: &mut Random) -> Log {
+    let length = random.pick(&[0, 1, 5, 12, 60, 60, 60, 60]);
+    let below = random.below(length / 4 + 1);
+    let used = random.pick(&[0, 0, below, below, below, below, length, length + 1]);
+    Log::of(length, used, random)
+}
+
+/// Makes a call with the log on the record as it was before the call without one: it answers the
+/// same and leaves the same record.
+#[track_caller]
+fn same_logged(
+    log: &mut Log,
+    [before, after]: [&[u8]; 2],
+    expected: Result<Entry, u8>,
+    call: impl FnOnce(&mut [u8], &mut [u64], usize) -> u64,
+) {
+    let mut record = Buffer::holding(before, || 7);
+    log.lend(expected, |log, used| call(record.lend(), log, used));
+    assert!(record == Buffer::holding(after, || 7), "another record");
+}
+
+#[test]
+fn lines_of_a_fleet() {
+    let mut tally = Tally::default();
+    each_table(96, 2_000, |table, random| {
+        let (mut fleet, mut log) = (Fleet::fresh(table), any_log(random));
+        fleet.numbers.lend_longer(random);
+        let mut channel = Channel::over(table, any_mix(random));
+        for line in (0..40).flat_map(|_| channel.next(random)) {
+            let before = fleet.record().to_vec();
+            let expected = fleet.event(&line, log.used, log.length());
+            let (given, records) = (fleet.numbers.slices(), [&before[..], fleet.record()]);
+            same_logged(&mut log, records, expected, |record, log, used| {
+                ffi::fleet_event_logged(given, record, &line, log, used)
+            });
+            tally.count(expected.map(|entry| entry.what));
+        }
+        log.read();
+    });
+    tally.assert_often(&[1, 2, 9, 23, 24, 26, 27]);
+    tally.assert_each_befell(300);
+}
+
+#[test]
+fn openings_and_frames_of_an_end() {
+    let mut tally = Tally::default();
+    each_table(97, 4_000, |table, random| {
+        let probe = any_probe(table, random);
+        let (mut end, mut log) = (End::fresh(table, probe), any_log(random));
+        end.numbers.lend_longer(random);
+        for _ in 0..20 {
+            let (before, free) = (end.record.clone(), log.length().saturating_sub(log.used));
+            let damages = random.pick(&[[0, 0], [0, 0], [0, 0], [1, 0], [0, 1]]);
+            let frame = any_frame(table, probe, random);
+            let line = damaged_line(frame, damages, table, random);
+            let opens = random.one_in(3);
+            let befell = match opens {
+                true => end.open(free),
+                false => end.hear(&line, free),
+            };
+            let (given, records) = (end.numbers.slices(), [&before[..], &end.record]);
+            let expected = befell.map(|what| Entry { probe, what });
+            same_logged(
+                &mut log,
+                records,
+                expected,
+                |record, log, used| match opens {
+                    true => ffi::probe_open_logged(given, probe, record, log, used),
+                    false => ffi::probe_hear_logged(given, probe, record, &line, log, used),
+                },
+            );
+            tally.count(befell);
+        }
+        log.read();
+    });
+    tally.assert_often(&[1, 2, 9, 23, 24, 25, 26]);
+    tally.assert_each_befell(300);
+}
+
+/// What the gate has the program over lent logs print: M11's entries, then those of probe 1.
+#[test]
+fn m11_over_lent_logs() {
+    let alone = [1, 2, 5].map(|place| M11_PRINTED[place]);
+    let expected = [&M11_PRINTED[..10], &alone].concat();
+    assert_eq!(
+        document("crates/script_m11/stdout").as_bytes(),
+        text(&expected)
+    );
+}
