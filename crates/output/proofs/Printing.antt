@@ -8,13 +8,14 @@ use lib.Dec.{eqb}
 use lib.ListN.{length, drop, set, length-append}
 use lib.Seq.{sets}
 use borrow.Author.Tests.{eq-eqb, ne-eqb, lt-ltb, le-ltb}
+use Rattle.range.specs.Reply.{refusal, values}
 use Rattle.range.proofs.Sets.{sets-start}
-use Rattle.output.specs.Output.{shortFault, Prints}
+use Rattle.output.specs.Output.{shortFault, outputReply, Prints}
 use Rattle.output.specs.declared.Output.{Output}
 use Rattle.output.specs.declared.Output.the-variants.{Length, Refused}
 
 pub prints-refused : (fault n : ℕ) (printed out : List ℕ) → n ≡ fault → (n ≡ 0 → ⊥) → Prints fault printed (Refused n) out out
-prints-refused fault n printed out e some = let f = ne-eqb fault 0 (λ z. some (e ∙ z)) in record { answer = rw f (ap Refused e); out = rw f }
+prints-refused fault n printed out e some = let f = ne-eqb fault 0 (λ z. some (e ∙ z)) in record { answer = rw f (ap refusal e); out = rw f }
 
 pub prints-done : (fault n : ℕ) (printed out out′ : List ℕ) → fault ≡ 0 → n ≡ length printed → n ≤ length out → out′ ≡ sets out 0 printed → Prints fault printed (Length n) out out′
 prints-done fault n printed out out′ f e l w =
@@ -34,10 +35,20 @@ filled-within printed out out′ e l =
     let n = length-append printed (drop (length printed) out) in
     omega arith
 
+-- the answer, by the fault found
+pub prints-answer : {fault : ℕ} {printed : List ℕ} {r : Output} {out out′ : List ℕ} → Prints fault printed r out out′ → r ≡ cond (eqb fault 0) (Length (length printed)) (Refused fault)
+prints-answer {fault} {printed} {r} p = go r (eqb fault 0) (p .answer)
+  where
+    go : (r : Output) (none : Bool) → outputReply r ≡ cond none (values (length printed ∷ [])) (refusal fault) → r ≡ cond none (Length (length printed)) (Refused fault)
+    go (Length n) true e = cc
+    go (Length n) false e = let z : _≡_ {A = ℕ} 0 1 = cc in absurd (omega arith)
+    go (Refused n) true e = let z : _≡_ {A = ℕ} 0 1 = cc in absurd (omega arith)
+    go (Refused n) false e = cc
+
 -- a length that is answered is that of what is printed, which the lent slice holds
 pub printed-within : (fault n : ℕ) (printed : List ℕ) (r : Output) (out out′ : List ℕ) → Prints fault printed r out out′ → r ≡ Length n → length out′ ≡ length out
     → (n ≡ length printed) × (n ≤ length out)
-printed-within fault n printed r out out′ p e l = go (eqb fault 0) (sym e ∙ p .answer) (p .out)
+printed-within fault n printed r out out′ p e l = go (eqb fault 0) (sym e ∙ prints-answer p) (p .out)
   where
     go : (b : Bool) → Length n ≡ cond b (Length (length printed)) (Refused fault) → out′ ≡ cond b (printed ++ drop (length printed) out) out
         → (n ≡ length printed) × (n ≤ length out)

@@ -5,6 +5,7 @@ use mathlib.Core.Bool.{cond}
 use mathlib.Core.List.{List, [], _∷_, _++_}
 use lib.Dec.{ltb, eqb}
 use lib.ListN.{length, drop}
+use Rattle.range.specs.Reply.{Reply, refusal, values, replyOf}
 use Rattle.output.specs.declared.Output.{Output}
 use Rattle.output.specs.declared.Output.the-variants.{Length, Refused}
 
@@ -16,7 +17,15 @@ refusalLine k = 101 ∷ (k / 100 % 10 + 48) ∷ (k / 10 % 10 + 48) ∷ (k % 10 +
 abbrev pub shortFault : ℕ → List ℕ → ℕ
 shortFault room printed = cond (ltb room (length printed)) 8 0
 
--- A lent slice is filled from its start, and the bytes beyond stay; refused, the answer is the refusal alone and the slice stays.
+-- the answer's value: the length printed
+abbrev pub outputReply : Output → Reply
+outputReply (Length n) = values (n ∷ [])
+outputReply (Refused n) = refusal n
+
+-- a lent slice is filled from its start, and the bytes beyond stay; refused, it stays
+abbrev pub printedInto : ℕ → List ℕ → List ℕ → List ℕ
+printedInto fault printed d = cond (eqb fault 0) (printed ++ drop (length printed) d) d
+
 pub record Prints (fault : ℕ) (printed : List ℕ) (r : Output) (before after : List ℕ) : Type 0 where
-  pub answer : r ≡ cond (eqb fault 0) (Length (length printed)) (Refused fault)
-  pub out : after ≡ cond (eqb fault 0) (printed ++ drop (length printed) before) before
+  pub answer : outputReply r ≡ replyOf fault (length printed ∷ [])
+  pub out : after ≡ printedInto fault printed before

@@ -2,13 +2,11 @@
 use Prim.Native.Nat.{ℕ, _+_, _*_, _^_}
 use mathlib.Core.Path.{_≡_}
 use mathlib.Core.Bool.{cond, _&&_}
-use mathlib.Core.List.{List}
-use lib.Dec.{eqb, ltb}
+use mathlib.Core.List.{List, [], _∷_}
+use lib.Dec.{ltb}
 use lib.ListN.{length, getD, set}
-use Rattle.range.specs.Reply.{Reply, refusal, values}
-use Rattle.output.specs.Output.{Prints}
-use Rattle.output.specs.declared.Output.{Output}
-use Rattle.output.specs.declared.Output.the-variants.{Length as Printed, Refused as Unprinted}
+use Rattle.range.specs.Reply.{Reply, refusal, values, replyOf}
+use Rattle.output.specs.Output.{printedInto}
 use Rattle.wake_log.specs.declared.Answer.{Answer}
 use Rattle.wake_log.specs.declared.Answer.the-variants.{Logged, Refused as Unlogged}
 use Rattle.wake_log.specs.declared.Entry.{Entry}
@@ -28,13 +26,9 @@ abbrev pub packedBy : (List ℕ → ℕ) → Reply → ℕ
 packedBy pack (refusal n) = n
 packedBy pack (values vs) = pack vs
 
--- an answer of one value
+-- an answer by its first value, for most the only one
 abbrev pub packedValue : Reply → ℕ
 packedValue = packedBy (λ vs. answerBase + getD vs 0 0)
-
-abbrev pub packedOutput : Output → ℕ
-packedOutput (Printed length) = answerBase + length
-packedOutput (Unprinted n) = n
 
 -- an entry: the probe above its code, 8 bits, above the link's place and the displaced probe, 16 bits each
 abbrev pub packedEntry : Entry → ℕ
@@ -60,10 +54,7 @@ abbrev pub packedAfter : List ℕ → ℕ → Answer → List ℕ
 packedAfter log used (Logged e) = set log used (packedEntry e)
 packedAfter log used (Unlogged n) = log
 
--- the length of what is printed, or the refusal
-abbrev pub printedOf : ℕ → List ℕ → Output
-printedOf fault printed = cond (eqb fault 0) (Printed (length printed)) (Unprinted fault)
-
+-- what is printed into a lent slice: its length
 pub record PrintsPacked (fault : ℕ) (printed : List ℕ) (r : ℕ) (before after : List ℕ) : Type 0 where
-  pub answer : r ≡ packedOutput (printedOf fault printed)
-  pub lent : Prints fault printed (printedOf fault printed) before after
+  pub answer : r ≡ packedValue (replyOf fault (length printed ∷ []))
+  pub out : after ≡ printedInto fault printed before

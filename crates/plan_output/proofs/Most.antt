@@ -15,7 +15,7 @@ use Rattle.plan_output.specs.Output.{outputOf}
 use Rattle.output.specs.Output.{shortFault, Prints}
 use Rattle.output.specs.declared.Output.{Output}
 use Rattle.output.specs.declared.Output.the-variants.{Length}
-use Rattle.output.proofs.Printing.{long-enough}
+use Rattle.output.proofs.Printing.{prints-answer, long-enough}
 use Rattle.plan_output.proofs.Printing.{length-plan}
 
 pub most : (s : List ℕ) → length (outputOf s) ≤ 26646
@@ -32,4 +32,4 @@ most s = go (ℕ-discrete (textFault 256 2048 false s) 0)
 pub always-printed : (s : List ℕ) (r : Output) (out out′ : List ℕ) → 26646 ≤ length out → Prints (shortFault (length out) (outputOf s)) (outputOf s) r out out′ → r ≡ Length (length (outputOf s))
 always-printed s r out out′ l p =
     let k = most s in
-    p .answer ∙ rw (long-enough (length out) (outputOf s) (omega arith))
+    prints-answer p ∙ rw (long-enough (length out) (outputOf s) (omega arith))

@@ -10,6 +10,7 @@ use lib.ListN.{length, take, drop}
 use lib.Seq.{sets, take-take, take-all, length-take-le}
 use borrow.Author.Tests.{eq-eqb, ne-eqb, lt-ltb, le-ltb, ltb-false}
 use Rattle.range.specs.First.{orElse}
+use Rattle.range.specs.Reply.{refusal, values}
 use Rattle.range.proofs.Bools.{when-none}
 use Rattle.range.proofs.Faults.{or-left, or-right, or-here, or-next}
 use Rattle.range.proofs.Sets.{sets-start}
@@ -27,12 +28,12 @@ use Rattle.script_steps.specs.Within.{underWay, Buffered}
 use Rattle.script_steps.proofs.PieceLaws.{copied-part}
 use Rattle.script_output.specs.declared.Handling.{Handling}
 use Rattle.script_output.specs.declared.Handling.the-variants as handling
-use Rattle.script_output.specs.Handling.{siteFault, pieceFault, before, Handles}
+use Rattle.script_output.specs.Handling.{siteFault, pieceFault, before, handlingReply, pieceValues, Handles}
 
 pub unhandled : (fault n : ℕ) (q : Script) (rec line out : List ℕ) → n ≡ fault → (n ≡ 0 → ⊥) → Handles fault q (handling.Refused n) rec rec line line out out
 unhandled fault n q rec line out e some =
     let f = ne-eqb fault 0 (λ z. some (e ∙ z)) in
-    record { answer = rw f (ap handling.Refused e); record-after = rw f; line-after = rw f; out-after = rw f }
+    record { answer = rw f (ap refusal e); record-after = rw f; line-after = rw f; out-after = rw f }
 
 pub handled-all : (fault : ℕ) (q : Script) (r : Place) (rec rec′ line line′ buffer out out′ : List ℕ) → fault ≡ 0 → Buffered q 0 r rec′ buffer out out′
     → line′ ≡ sets line 0 (take (r .progress .held) buffer) → r .progress .held ≤ length line → length (q .out) ≤ length out → length out < 9223372036854775808
@@ -92,7 +93,7 @@ module _ (x : Slices) (p : Script) (piece : List ℕ) (line room state : ℕ) (l
 
 -- refused after nothing was stored
 pub prints-kept : (fault n : ℕ) (printed out out′ : List ℕ) → n ≡ fault → (n ≡ 0 → ⊥) → out′ ≡ out → Prints fault printed (Refused n) out out′
-prints-kept fault n printed out out′ e some same = let f = ne-eqb fault 0 (λ z. some (e ∙ z)) in record { answer = rw f (ap Refused e); out = rw f same }
+prints-kept fault n printed out out′ e some same = let f = ne-eqb fault 0 (λ z. some (e ∙ z)) in record { answer = rw f (ap refusal e); out = rw f same }
 
 -- what a piece's call has found, where it found no fault
 pub record Given (x : Slices) (q : Script) (rec line : List ℕ) (held room : ℕ) : Type 0 where
@@ -132,12 +133,36 @@ module _ (x : Slices) (b p : Progress) (piece rec line : List ℕ) (room fault :
         fits = ltb-false room (length printed) (when-none (ltb room (length printed)) 7 (or-right state last rest));
       }
 
+-- how far the script q has come
+abbrev pub progressAfter : Script → Progress
+progressAfter q = record { used = q .used; held = length (q .held); changed = q .changed }
+
+-- the answer, by the fault found
+pub handles-answer : {fault : ℕ} {q : Script} {r : Handling} {rec rec′ line line′ out out′ : List ℕ} → Handles fault q r rec rec′ line line′ out out′
+    → r ≡ cond (eqb fault 0) (handling.Printed (length (q .out)) (progressAfter q)) (handling.Refused fault)
+handles-answer {fault} {q} {r} h = go r (eqb fault 0) (h .answer)
+  where
+    go : (r : Handling) (none : Bool) → handlingReply r ≡ cond none (values (pieceValues q)) (refusal fault)
+        → r ≡ cond none (handling.Printed (length (q .out)) (progressAfter q)) (handling.Refused fault)
+    go (handling.Printed n p) true e =
+        let long : n ≡ length (q .out) = cc in
+        let used : p .used ≡ q .used = cc in
+        let held : p .held ≡ length (q .held) = cc in
+        let changed : p .changed ≡ q .changed = cc in
+        ap (λ (m : ℕ). handling.Printed m p) long
+        ∙ ap (λ (u : ℕ). handling.Printed (length (q .out)) (record { used = u; held = p .held; changed = p .changed })) used
+        ∙ ap (λ (k : ℕ). handling.Printed (length (q .out)) (record { used = q .used; held = k; changed = p .changed })) held
+        ∙ ap (λ (k : ℕ). handling.Printed (length (q .out)) (record { used = q .used; held = length (q .held); changed = k })) changed
+    go (handling.Printed n p) false e = let z : _≡_ {A = ℕ} 0 1 = cc in absurd (omega arith)
+    go (handling.Refused n) true e = let z : _≡_ {A = ℕ} 0 1 = cc in absurd (omega arith)
+    go (handling.Refused n) false e = cc
+
 -- What is answered as printed stands within the lent slice.
 pub handled-within : (fault n : ℕ) (p : Progress) (q : Script) (r : Handling) (rec rec′ line line′ out out′ : List ℕ) → Handles fault q r rec rec′ line line′ out out′
     → r ≡ handling.Printed n p → length out′ ≡ length out → n ≤ length out
-handled-within fault n p q r rec rec′ line line′ out out′ h e l = go (eqb fault 0) (sym e ∙ h .answer) (h .out-after)
+handled-within fault n p q r rec rec′ line line′ out out′ h e l = go (eqb fault 0) (sym e ∙ handles-answer h) (h .out-after)
   where
-    go : (b : Bool) → handling.Printed n p ≡ cond b (handling.Printed (length (q .out)) (record { used = q .used; held = length (q .held); changed = q .changed })) (handling.Refused fault)
+    go : (b : Bool) → handling.Printed n p ≡ cond b (handling.Printed (length (q .out)) (progressAfter q)) (handling.Refused fault)
         → out′ ≡ cond b (q .out ++ drop (length (q .out)) out) out → n ≤ length out
     go true a o = let k = filled-within (q .out) out out′ o l in let m : n ≡ length (q .out) = cc in omega arith
     go false a o = let z : _≡_ {A = ℕ} 0 1 = cc in absurd (omega arith)

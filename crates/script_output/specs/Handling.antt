@@ -2,14 +2,15 @@
 use Prim.Native.Nat.{ℕ}
 use mathlib.Core.Path.{_≡_}
 use mathlib.Core.Bool.{cond}
-use mathlib.Core.List.{List, [], _++_}
+use mathlib.Core.List.{List, [], _∷_, _++_}
 use lib.Dec.{eqb}
 use lib.ListN.{length, take, drop}
 use Rattle.range.specs.First.{orElse}
+use Rattle.range.specs.Reply.{Reply, refusal, values, replyOf}
 use Rattle.fleet_theory.specs.Fleet.{fleetFault}
 use Rattle.table.specs.Legal.{lentFault}
 use Rattle.table.specs.Slices.{Slices, tableOf, slicesFault}
-use Rattle.output.specs.Output.{shortFault}
+use Rattle.output.specs.Output.{shortFault, printedInto}
 use Rattle.script_theory.specs.Script.{Script, afterPiece}
 use Rattle.script_steps.specs.declared.Progress.{Progress}
 use Rattle.script_output.specs.declared.Handling.{Handling}
@@ -28,13 +29,21 @@ siteFault x rec = orElse (slicesFault x) (fleetFault (tableOf x) rec)
 abbrev pub pieceFault : Slices → Script → List ℕ → ℕ → ℕ → ℕ
 pieceFault x p piece line room = orElse (lentFault line 16) (orElse (siteFault x (p .bytes)) (shortFault room (afterPiece x 1024 p piece .out)))
 
+-- the answer's values: the length printed, and how far the script has come
+abbrev pub handlingReply : Handling → Reply
+handlingReply (handling.Printed n p) = values (n ∷ p .used ∷ p .held ∷ p .changed ∷ [])
+handlingReply (handling.Refused n) = refusal n
+
+-- of the script q after a piece
+abbrev pub pieceValues : Script → List ℕ
+pieceValues q = length (q .out) ∷ q .used ∷ length (q .held) ∷ q .changed ∷ []
+
 -- a piece handled: the script q after it, or the refusal alone and every slice unchanged
 pub record Handles (fault : ℕ) (q : Script) (r : Handling) (rec rec′ line line′ out out′ : List ℕ) : Type 0 where
-  pub answer : r ≡ cond (eqb fault 0)
-      (handling.Printed (length (q .out)) (record { used = q .used; held = length (q .held); changed = q .changed })) (handling.Refused fault)
+  pub answer : handlingReply r ≡ replyOf fault (pieceValues q)
   pub record-after : rec′ ≡ cond (eqb fault 0) (q .bytes) rec
   pub line-after : line′ ≡ cond (eqb fault 0) (q .held ++ drop (length (q .held)) line) line
-  pub out-after : out′ ≡ cond (eqb fault 0) (q .out ++ drop (length (q .out)) out) out
+  pub out-after : out′ ≡ printedInto fault (q .out) out
 
 -- the faults of a piece and of the text's end
 abbrev pub pieceCallFault : Slices → Progress → List ℕ → List ℕ → List ℕ → List ℕ → ℕ
