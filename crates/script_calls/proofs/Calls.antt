@@ -133,7 +133,7 @@ module _ (x : Slices) (fine : slicesFault x ≡ 0) where
         let long = l .long in
         omega (arith, n, m, long)
 
-    pub left-next : Left (leftByPiece b c)
+    left-next : Left (leftByPiece b c)
     left-next = go called
       where
         go : Called b c → Left (leftByPiece b c)
