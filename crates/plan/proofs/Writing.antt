@@ -6,10 +6,10 @@ use native.Mathlib.Omega.{arith}
 use native.Mathlib.Decide.{decLt}
 use lib.ListN.{length, take, drop}
 use lib.Seq.{take-all, take-append-seam}
-use Rattle.output.specs.Output.{shortFault, Prints}
+use Rattle.output.specs.Output.{shortFault, outputReply, Prints}
 use Rattle.output.specs.declared.Output.{Output}
 use Rattle.output.specs.declared.Output.the-variants.{Length, Refused}
-use Rattle.output.proofs.Printing.{long-enough}
+use Rattle.output.proofs.Printing.{long-enough, prints-answer}
 use Rattle.plan_output.specs.Output.{outputOf}
 use Rattle.plan_output.proofs.Long.{long-output}
 use Rattle.plan_output.proofs.Most.{most, always-printed}
@@ -27,7 +27,7 @@ plan-writes input =
     record {
       writes = λ n out out′ p.
           let printed = outputOf (take 27923 input) in
-          let k : n ≡ length printed = (let e = p .answer in cc) in
+          let k : n ≡ length printed = (let e = prints-answer p in cc) in
           ap (λ (m : ℕ). take m out′) k ∙ ap (take (length printed)) (p .out) ∙ take-append-seam printed (drop (length printed) out) ∙ same-output input;
     }
 
@@ -37,7 +37,7 @@ module _ (s : List ℕ) (r : Output) (out out′ : List ℕ) (long : 26646 ≤ l
   print-done n e =
       let k = most s in
       let q = rw (long-enough (length out) (outputOf s) (omega arith)) at p in
-      record { answer = sym e ∙ q .answer; out = q .out }
+      record { answer = ap outputReply (sym e) ∙ q .answer; out = q .out }
 
   pub never-refused : (m : ℕ) → r ≡ Refused m → ⊥
   never-refused m e =

@@ -1,6 +1,6 @@
 -- No call of the program is refused: its slices hold what is printed.
 use Prim.Native.Nat.{ℕ, _+_, _*_, _≤_}
-use mathlib.Core.Path.{_≡_, sym, _∙_}
+use mathlib.Core.Path.{_≡_, sym, _∙_, ap}
 use mathlib.Core.List.{List}
 use native.Mathlib.Omega.{arith}
 use lib.Dec.{eqb}
@@ -8,17 +8,18 @@ use lib.ListN.{length}
 use borrow.Author.Tests.{le-ltb}
 use Rattle.fleet_theory.specs.Fleet.{fleetFault}
 use Rattle.table.specs.Slices.{Slices, tableOf, slicesFault}
-use Rattle.output.specs.Output.{Prints}
+use Rattle.output.specs.Output.{outputReply, Prints}
 use Rattle.output.specs.declared.Output.{Output}
 use Rattle.output.specs.declared.Output.the-variants as output
-use Rattle.output.proofs.Printing.{long-enough}
+use Rattle.output.proofs.Printing.{long-enough, prints-answer}
 use Rattle.script_theory.specs.Script.{Script, endText, afterPiece}
 use Rattle.script_steps.specs.declared.Progress.{Progress}
 use Rattle.script_steps.proofs.PieceLaws.{piece-short}
 use Rattle.script_steps.proofs.Ends.{length-end, end-most}
-use Rattle.script_output.specs.Handling.{before, Handles, pieceCallFault, endCallFault}
+use Rattle.script_output.specs.Handling.{before, handlingReply, Handles, pieceCallFault, endCallFault}
 use Rattle.script_output.specs.declared.Handling.{Handling}
 use Rattle.script_output.specs.declared.Handling.the-variants.{Printed, Refused}
+use Rattle.script_output.proofs.Answers.{handles-answer}
 use Rattle.script.proofs.Turns.{before-few}
 
 module _ (x : Slices) (fine : slicesFault x ≡ 0) (rec : List ℕ) (good : fleetFault (tableOf x) rec ≡ 0) where
@@ -39,21 +40,21 @@ module _ (fault : ℕ) (q : Script) (r : Handling) (rec rec′ line line′ out 
   pub handled-passes : (n : ℕ) (p : Progress) → r ≡ Printed n p → Handles 0 q (Printed n p) rec rec′ line line′ out out′
   handled-passes n p e =
       let k = rw none at h in
-      record { answer = sym e ∙ k .answer; record-after = k .record-after; line-after = k .line-after; out-after = k .out-after }
+      record { answer = ap handlingReply (sym e) ∙ k .answer; record-after = k .record-after; line-after = k .line-after; out-after = k .out-after }
 
   pub never-unhandled : (n : ℕ) → r ≡ Refused n → ⊥
   never-unhandled n e =
-      let k = rw none at (h .answer) in
+      let k = rw none at (handles-answer h) in
       let z : _≡_ {A = ℕ} 0 1 = cc in
       omega arith
 
 -- printed, and not refused
 module _ (fault : ℕ) (printed : List ℕ) (r : Output) (out out′ : List ℕ) (none : fault ≡ 0) (h : Prints fault printed r out out′) where
   pub printed-passes : (n : ℕ) → r ≡ output.Length n → Prints 0 printed (output.Length n) out out′
-  printed-passes n e = let k = rw none at h in record { answer = sym e ∙ k .answer; out = k .out }
+  printed-passes n e = let k = rw none at h in record { answer = ap outputReply (sym e) ∙ k .answer; out = k .out }
 
   pub never-refused : (n : ℕ) → r ≡ output.Refused n → ⊥
   never-refused n e =
-      let k = rw none at (h .answer) in
+      let k = rw none at (prints-answer h) in
       let z : _≡_ {A = ℕ} 0 1 = cc in
       omega arith

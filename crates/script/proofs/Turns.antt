@@ -12,6 +12,7 @@ use Rattle.script_theory.proofs.Pieces.{in-pieces, onto, carried-onto, piece-on
 use Rattle.script_steps.specs.declared.Progress.{Progress}
 use Rattle.script_steps.proofs.PieceLaws.{short-take, usable-after}
 use Rattle.script_steps.proofs.Ends.{zeros-are, zeros-pass}
+use Rattle.script_output.proofs.Answers.{handles-answer}
 use Rattle.script_output.specs.Handling.{before, Handles}
 use Rattle.script_output.specs.declared.Handling.the-variants.{Printed}
 use Rattle.script_output.proofs.Calls.{held-few, next-call}
@@ -35,10 +36,10 @@ module _ (x : Slices) (room : ℕ) (p p′ : Progress) (rec rec′ line line′ 
   few = held-few x room (before p rec line) piece (before-few p rec line)
 
   progress-is : p′ ≡ record { used = q .used; held = length (q .held); changed = q .changed }
-  progress-is = let e = h .answer in cc
+  progress-is = let e = handles-answer h in cc
 
   pub length-is : n ≡ length (q .out)
-  length-is = let e = h .answer in cc
+  length-is = let e = handles-answer h in cc
 
   pub left-is : before p′ rec′ line′ ≡ carried q
   left-is = rw (progress-is, h .record-after, h .line-after) (next-call q line few)
