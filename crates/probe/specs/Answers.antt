@@ -69,14 +69,20 @@ restingReply (resting.Refused n) = refusal n
 
 -- The calls of the end p, over the table in its slices.
 
+abbrev pub opensFault : Slices → ℕ → List ℕ → ℕ → ℕ
+opensFault x p e free = openFault (slicesFault x) (tableOf x) p e free
+
+abbrev pub hearsFault : Slices → ℕ → List ℕ → List ℕ → ℕ → ℕ
+hearsFault x p e frame free = hearFault (slicesFault x) (tableOf x) p e frame free
+
 -- "Opening: with fewer standing than spare, the dearest untried own link becomes standing."
 abbrev pub Opens : Slices → ℕ → ℕ → Answer → List ℕ → List ℕ → Type 0
-Opens x p free r before after = Befallen (openFault (slicesFault x) (tableOf x) p before free) (tableOf x) p Opening r before after
+Opens x p free r before after = Befallen (opensFault x p before free) (tableOf x) p Opening r before after
 
 -- "Offer heard", "Refusal heard": a frame of any bytes
 abbrev pub Hears : Slices → ℕ → List ℕ → ℕ → Answer → List ℕ → List ℕ → Type 0
 Hears x p frame free r before after =
-    Befallen (hearFault (slicesFault x) (tableOf x) p before frame free) (tableOf x) p (heardOf (tableOf x) (frameOf frame)) r before after
+    Befallen (hearsFault x p before frame free) (tableOf x) p (heardOf (tableOf x) (frameOf frame)) r before after
 
 -- "Asked for either on a link": 8 where the lent slice has no room for the line comes first
 abbrev pub askFault : Slices → ℕ → ℕ → List ℕ → List ℕ → ℕ

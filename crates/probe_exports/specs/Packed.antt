@@ -7,15 +7,14 @@ use mathlib.Core.List.{List, [], _∷_}
 use lib.ListN.{length}
 use Rattle.range.specs.Reply.{replyOf}
 use Rattle.table.specs.Table.{Table}
-use Rattle.table.specs.Slices.{Slices, tableOf, slicesFault}
+use Rattle.table.specs.Slices.{Slices, tableOf}
 use Rattle.probe_frame.specs.Frame.{frameOf}
 use Rattle.wake_log.specs.Entry.{answerOf}
 use Rattle.probe_rules.specs.declared.Event.{Event}
 use Rattle.probe_rules.specs.declared.Event.the-variants.{Opening}
 use Rattle.probe_rules.specs.Rules.{befalls, entryOf, sendable}
 use Rattle.probe_rules.specs.Frames.{heardOf}
-use Rattle.probe_checks.specs.Checks.{hearFault, openFault}
-use Rattle.probe.specs.Answers.{Befallen, askedEvent, askedOut, askFault}
+use Rattle.probe.specs.Answers.{Befallen, askedEvent, askedOut, opensFault, hearsFault, askFault}
 use Rattle.probe.specs.declared.Kind.{Kind}
 use Rattle.packed_answers.specs.Packed.{packedValue, packedAnswer, packedAfter}
 
@@ -35,19 +34,19 @@ pub record LogsAtEndPacked (fault : ℕ) (t : Table) (p : ℕ) (event : Event) (
 -- The calls of the end p, over the table in its slices: as `Opens`, `Hears` and `AsksFor`, the answer packed.
 
 abbrev pub OpensPacked : Slices → ℕ → ℕ → ℕ → List ℕ → List ℕ → Type 0
-OpensPacked x p free r before after = BefallenPacked (openFault (slicesFault x) (tableOf x) p before free) (tableOf x) p Opening r before after
+OpensPacked x p free r before after = BefallenPacked (opensFault x p before free) (tableOf x) p Opening r before after
 
 abbrev pub HearsPacked : Slices → ℕ → List ℕ → ℕ → ℕ → List ℕ → List ℕ → Type 0
 HearsPacked x p frame free r before after =
-    BefallenPacked (hearFault (slicesFault x) (tableOf x) p before frame free) (tableOf x) p (heardOf (tableOf x) (frameOf frame)) r before after
+    BefallenPacked (hearsFault x p before frame free) (tableOf x) p (heardOf (tableOf x) (frameOf frame)) r before after
 
 abbrev pub AsksForPacked : Slices → ℕ → Kind → ℕ → List ℕ → ℕ → List ℕ → List ℕ → Type 0
 AsksForPacked x p k i e r before after = AsksPacked (askFault x p i e before) (tableOf x) p k i e r before after
 
 abbrev pub OpensLoggedPacked : Slices → ℕ → ℕ → List ℕ → List ℕ → ℕ → List ℕ → List ℕ → Type 0
 OpensLoggedPacked x p r before after used log log′ =
-    LogsAtEndPacked (openFault (slicesFault x) (tableOf x) p before (length log - used)) (tableOf x) p Opening r before after used log log′
+    LogsAtEndPacked (opensFault x p before (length log - used)) (tableOf x) p Opening r before after used log log′
 
 abbrev pub HearsLoggedPacked : Slices → ℕ → List ℕ → ℕ → List ℕ → List ℕ → ℕ → List ℕ → List ℕ → Type 0
 HearsLoggedPacked x p frame r before after used log log′ =
-    LogsAtEndPacked (hearFault (slicesFault x) (tableOf x) p before frame (length log - used)) (tableOf x) p (heardOf (tableOf x) (frameOf frame)) r before after used log log′
+    LogsAtEndPacked (hearsFault x p before frame (length log - used)) (tableOf x) p (heardOf (tableOf x) (frameOf frame)) r before after used log log′

@@ -6,7 +6,7 @@ use mathlib.Core.List.{List}
 use lib.Dec.{eqb}
 use lib.ListN.{length, set}
 use Rattle.table.specs.Table.{Table}
-use Rattle.table.specs.Slices.{Slices, tableOf, slicesFault}
+use Rattle.table.specs.Slices.{Slices, tableOf}
 use Rattle.probe_frame.specs.Frame.{frameOf}
 use Rattle.wake_log.specs.declared.Entry.{Entry}
 use Rattle.wake_log.specs.declared.Answer.{Answer}
@@ -15,8 +15,7 @@ use Rattle.probe_rules.specs.declared.Event.the-variants.{Opening}
 use Rattle.wake_log.specs.Entry.{answerOf}
 use Rattle.probe_rules.specs.Rules.{befalls, alter, entryOf}
 use Rattle.probe_rules.specs.Frames.{heardOf}
-use Rattle.probe_checks.specs.Checks.{hearFault, openFault}
-use Rattle.probe.specs.Answers.{Befallen}
+use Rattle.probe.specs.Answers.{Befallen, opensFault, hearsFault}
 use Rattle.wake_log.specs.declared.storing.Told.{Told}
 use Rattle.wake_log.specs.Log.{toldOf}
 
@@ -34,16 +33,16 @@ pub record ToldCall (fault : ℕ) (t : Table) (p : ℕ) (event : Event) (used ro
 
 abbrev pub OpensLogged : Slices → ℕ → Answer → List ℕ → List ℕ → ℕ → List Entry → List Entry → Type 0
 OpensLogged x p r before after used log log′ =
-    LogsAtEnd (openFault (slicesFault x) (tableOf x) p before (length log - used)) (tableOf x) p Opening r before after used log log′
+    LogsAtEnd (opensFault x p before (length log - used)) (tableOf x) p Opening r before after used log log′
 
 abbrev pub HearsLogged : Slices → ℕ → List ℕ → Answer → List ℕ → List ℕ → ℕ → List Entry → List Entry → Type 0
 HearsLogged x p frame r before after used log log′ =
-    LogsAtEnd (hearFault (slicesFault x) (tableOf x) p before frame (length log - used)) (tableOf x) p (heardOf (tableOf x) (frameOf frame)) r before after used log log′
+    LogsAtEnd (hearsFault x p before frame (length log - used)) (tableOf x) p (heardOf (tableOf x) (frameOf frame)) r before after used log log′
 
 abbrev pub OpensTold : Slices → ℕ → ℕ → ℕ → Told → List ℕ → List ℕ → Type 0
 OpensTold x p used room r before after =
-    ToldCall (openFault (slicesFault x) (tableOf x) p before (room - used)) (tableOf x) p Opening used room r before after
+    ToldCall (opensFault x p before (room - used)) (tableOf x) p Opening used room r before after
 
 abbrev pub HearsTold : Slices → ℕ → List ℕ → ℕ → ℕ → Told → List ℕ → List ℕ → Type 0
 HearsTold x p frame used room r before after =
-    ToldCall (hearFault (slicesFault x) (tableOf x) p before frame (room - used)) (tableOf x) p (heardOf (tableOf x) (frameOf frame)) used room r before after
+    ToldCall (hearsFault x p before frame (room - used)) (tableOf x) p (heardOf (tableOf x) (frameOf frame)) used room r before after

@@ -11,7 +11,7 @@ use Rattle.table.specs.Slices.{Slices, tableOf, slicesFault}
 use Rattle.output.specs.Output.{outputReply, Prints}
 use Rattle.output.specs.declared.Output.{Output}
 use Rattle.output.specs.declared.Output.the-variants as output
-use Rattle.output.proofs.Printing.{prints-answer, long-enough}
+use Rattle.output.proofs.Printing.{long-enough, prints-answer}
 use Rattle.script_theory.specs.Script.{Script, endText, afterPiece}
 use Rattle.script_steps.specs.declared.Progress.{Progress}
 use Rattle.script_steps.proofs.PieceLaws.{piece-short}

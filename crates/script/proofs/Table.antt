@@ -43,7 +43,7 @@ text-fine s z =
     let x = inSlices t in
     let none = blank-found true s ∙ z in
     read-fine s (Read (t .number) (t .probes) (t .links) (textEnd t)) (x .needs) (x .lows) (x .highs) (x .costs)
-    (record { answer = rw none; need = rw none; low = rw none; high = rw none; cost = rw none }) (t .number) (t .probes) (t .links) (textEnd t) refl
+    (record { answer = rw none; lent = record { need = rw none; low = rw none; high = rw none; cost = rw none } }) (t .number) (t .probes) (t .links) (textEnd t) refl
 
 head-none : (s : List ℕ) → textFault 256 2048 true s ≡ 0 → headFault 256 2048 s ≡ 0
 unfolding textFault

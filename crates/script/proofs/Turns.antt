@@ -12,9 +12,9 @@ use Rattle.script_theory.proofs.Pieces.{in-pieces, onto, carried-onto, piece-on
 use Rattle.script_steps.specs.declared.Progress.{Progress}
 use Rattle.script_steps.proofs.PieceLaws.{short-take, usable-after}
 use Rattle.script_steps.proofs.Ends.{zeros-are, zeros-pass}
+use Rattle.script_output.proofs.Answers.{handles-answer}
 use Rattle.script_output.specs.Handling.{before, Handles}
 use Rattle.script_output.specs.declared.Handling.the-variants.{Printed}
-use Rattle.script_output.proofs.Answers.{handles-answer}
 use Rattle.script_output.proofs.Calls.{held-few, next-call}
 use Rattle.script.specs.Writing.{Turn, Turns, readBy, writtenBy, noProgress}
 

@@ -3,12 +3,13 @@ use Prim.Native.Nat.{ℕ, _≤_}
 use mathlib.Core.Path.{_≡_}
 use mathlib.Core.Bool.{true}
 use mathlib.Core.List.{List, [], _∷_, _++_}
-use lib.ListN.{length, take}
-use Rattle.table.specs.Text.{ofText, textFault}
-use Rattle.table.specs.Slices.{Slices}
+use lib.ListN.{length, take, replicate}
+use Rattle.table.specs.Slices.{Slices, slicesOf}
+use Rattle.table_read.specs.Reading.{Lent, lentOf, ReadsTable}
+use Rattle.table_read.specs.declared.Reading.the-variants.{Table, Refused}
 use Rattle.fleet_theory.specs.Fleet.{start}
 use Rattle.output.specs.Output.{refusalLine}
-use Rattle.script_theory.specs.Script.{afterPiece, endText, inSlices, together, scriptOutput}
+use Rattle.script_theory.specs.Script.{afterPiece, endText, together, scriptOutput}
 use Rattle.script_steps.specs.declared.Progress.{Progress}
 use Rattle.script_output.specs.Handling.{before, Handles}
 use Rattle.script_output.specs.declared.Handling.the-variants.{Printed}
@@ -46,10 +47,15 @@ writtenBy x p rec (t ∷ ts) = t .written ++ writtenBy x (t .progress) (t .bytes
 abbrev pub noProgress : Progress
 noProgress = record { used = 0; held = 0; changed = 0 }
 
+-- the program's slices before the table is read into them
+abbrev pub zeroSlices : Lent
+zeroSlices = lentOf (replicate 256 0) (replicate 2048 0) (replicate 2048 0) (replicate 2048 0)
+
 -- "The script program reads a table and, after its closing line, script lines .. For each it prints the entry"; "a refused table prints only that"
+-- The table is read from its own bytes into slices b, by `read_table_prefix`; then the turns, whose pieces are the rest of the input, write all that it prints.
 pub record ScriptWrites (input : List ℕ) : Type 0 where
-  pub refused : (n : ℕ) → n ≡ textFault 256 2048 true (tableText input) → (n ≡ 0 → ⊥) → refusalLine n ≡ scriptOutput input
-  pub writes : textFault 256 2048 true (tableText input) ≡ 0
-      → (let x = inSlices (ofText (tableText input)) in
+  pub refused : (n : ℕ) (b : Lent) → ReadsTable 256 2048 true (tableText input) (Refused n) zeroSlices b → refusalLine n ≡ scriptOutput input
+  pub writes : (number probes links rest : ℕ) (b : Lent) → ReadsTable 256 2048 true (tableText input) (Table number probes links rest) zeroSlices b
+      → (let x = slicesOf number probes links (b .needs) (b .lows) (b .highs) (b .costs) in
       (line : List ℕ) (ts : List Turn) → 16 ≤ length line → Turns x noProgress (start x .bytes) line ts → tableText input ++ together (readBy ts) ≡ input
       → writtenBy x noProgress (start x .bytes) ts ≡ scriptOutput input)

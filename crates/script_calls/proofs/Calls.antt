@@ -16,7 +16,6 @@ use Rattle.table.specs.Slices.{Slices, tableOf, slicesFault}
 use Rattle.table.specs.Legal.{lentFault}
 use Rattle.output.specs.Output.{shortFault, Prints}
 use Rattle.output.specs.declared.Output.{Output}
-use Rattle.output.specs.declared.Output.the-variants.{Length}
 use Rattle.output.proofs.Printing.{prints-answer}
 use Rattle.fleet_theory.specs.Fleet.{fleetFault, start}
 use Rattle.fleet_theory.proofs.Run.{start-holds, fleet-passes}
@@ -25,12 +24,11 @@ use Rattle.fleet_calls.proofs.Same.{same-fleet}
 use Rattle.fleet_calls.proofs.Promises.{same-fine}
 use Rattle.script_theory.specs.Script.{Script, scriptText, afterByte, afterPiece, begun, endText, together, carried, printedBy}
 use Rattle.script_theory.proofs.Pieces.{any-pieces}
-use Rattle.script_steps.specs.declared.Progress.{Progress}
 use Rattle.script_steps.proofs.PieceLaws.{usable-after}
 use Rattle.script_output.specs.Handling.{before, siteFault, Handles, pieceCallFault, endCallFault}
 use Rattle.script_output.specs.declared.Handling.{Handling}
 use Rattle.script_output.specs.declared.Handling.the-variants.{Printed, Refused}
-use Rattle.script_output.proofs.Answers.{handles-answer}
+use Rattle.script_output.proofs.Answers.{progressAfter, handles-answer}
 use Rattle.script_output.proofs.Calls.{held-few, next-call}
 use Rattle.script_calls.specs.Calls.{PieceCall, PieceLeft, freshPiece, leftByPiece, KeptPiece, PieceCalls, leftAfterPieces, handledPiece, textOfPieces, printedPiece, printedByPieces, printedEnd, ScriptOfCalls}
 use Rattle.script_calls.proofs.Same.{same-after-piece, same-end}
@@ -38,9 +36,6 @@ use Rattle.script_calls.proofs.Same.{same-after-piece, same-end}
 -- the script under way that a call gets
 abbrev scriptOf : PieceLeft → Script
 scriptOf b = before (b .progress) (b .bytes) (b .line)
-
-abbrev progressOf : Script → Progress
-progressOf q = record { used = q .used; held = length (q .held); changed = q .changed }
 
 -- the pieces that were handled
 abbrev withPiece : Handling → List ℕ → List (List ℕ) → List (List ℕ)
@@ -84,7 +79,7 @@ module _ (x : Slices) (fine : slicesFault x ≡ 0) where
 
   -- a call has printed, or its output slice is too short and nothing has changed
   data Called (b : PieceLeft) (c : PieceCall) : Type 0 where
-    printed : c .answer ≡ Printed (length (after b c .out)) (progressOf (after b c)) → c .bytes ≡ after b c .bytes
+    printed : c .answer ≡ Printed (length (after b c .out)) (progressAfter (after b c)) → c .bytes ≡ after b c .bytes
         → c .line ≡ after b c .held ++ drop (length (after b c .held)) (b .line) → c .out′ ≡ after b c .out ++ drop (length (after b c .out)) (c .out) → Called b c
     short : c .answer ≡ Refused 8 → c .bytes ≡ b .bytes → c .line ≡ b .line → length (c .out) < length (after b c .out) → Called b c
 
@@ -193,7 +188,7 @@ module _ (x : Slices) (fine : slicesFault x ≡ 0) where
           isPrinted (Printed length q) = true
           isPrinted (Refused k) = false
 
-          unlike : Printed (length (after b c .out)) (progressOf (after b c)) ≡ Refused n → ⊥
+          unlike : Printed (length (after b c .out)) (progressAfter (after b c)) ≡ Refused n → ⊥
           unlike e = true≢false (ap isPrinted e)
       go (short a r line s) = (same 8 (sym e ∙ a), s)
 

@@ -36,12 +36,12 @@ abbrev pub freshPiece : Slices → List ℕ → PieceLeft
 freshPiece x line = record { progress = record { used = 0; held = 0; changed = 0 }; bytes = start x .bytes; line = line }
 
 -- a refused call leaves the progress as it was
-abbrev pub progressAfter : Progress → Handling → Progress
-progressAfter p (Printed length q) = q
-progressAfter p (Refused n) = p
+abbrev pub progressLeft : Progress → Handling → Progress
+progressLeft p (Printed length q) = q
+progressLeft p (Refused n) = p
 
 abbrev pub leftByPiece : PieceLeft → PieceCall → PieceLeft
-leftByPiece b c = record { progress = progressAfter (b .progress) (c .answer); bytes = c .bytes; line = c .line }
+leftByPiece b c = record { progress = progressLeft (b .progress) (c .answer); bytes = c .bytes; line = c .line }
 
 -- the call gets the table of x and what the last one left, and does what `script_piece` promises
 pub record KeptPiece (x : Slices) (b : PieceLeft) (c : PieceCall) : Type 0 where

@@ -16,7 +16,7 @@ use Rattle.script_steps.specs.declared.Progress.{Progress}
 use Rattle.script_output.specs.declared.Handling.{Handling}
 use Rattle.script_output.specs.declared.Handling.the-variants as handling
 use Rattle.script_output.specs.Handling.{Handles}
-use Rattle.script_output.proofs.Answers.{scriptProgress, handles-answer}
+use Rattle.script_output.proofs.Answers.{progressAfter, handles-answer}
 use Rattle.script_exports.specs.Packed.{PiecePacked}
 
 -- A piece: refused before the call, refused by it, or handled.
@@ -31,7 +31,7 @@ module _ (fault : ℕ) (q : Script) (a : Handling) (rec rec′ line line′ out 
   refused-is n e = go (decided (eqb fault 0)) (sym e ∙ handles-answer h) (h .record-after) (h .line-after) (h .out-after)
     where
       go : (eqb fault 0 ≡ true) ⊎ (eqb fault 0 ≡ false)
-          → handling.Refused n ≡ cond (eqb fault 0) (handling.Printed (length (q .out)) (scriptProgress q)) (handling.Refused fault)
+          → handling.Refused n ≡ cond (eqb fault 0) (handling.Printed (length (q .out)) (progressAfter q)) (handling.Refused fault)
           → rec′ ≡ cond (eqb fault 0) (q .bytes) rec → line′ ≡ cond (eqb fault 0) (q .held ++ drop (length (q .held)) line) line
           → out′ ≡ cond (eqb fault 0) (q .out ++ drop (length (q .out)) out) out → (n ≡ fault) × (fault ≡ 0 → ⊥) × (rec′ ≡ rec) × (line′ ≡ line) × (out′ ≡ out)
       go (inl f) s r l o = let w = rw f at s in let z : _≡_ {A = ℕ} 0 1 = cc in absurd (omega arith)
@@ -47,12 +47,12 @@ module _ (fault : ℕ) (q : Script) (a : Handling) (rec rec′ line line′ out 
   printed-is n p e = go (decided (eqb fault 0)) (sym e ∙ handles-answer h)
     where
       go : (eqb fault 0 ≡ true) ⊎ (eqb fault 0 ≡ false)
-          → handling.Printed n p ≡ cond (eqb fault 0) (handling.Printed (length (q .out)) (scriptProgress q)) (handling.Refused fault)
+          → handling.Printed n p ≡ cond (eqb fault 0) (handling.Printed (length (q .out)) (progressAfter q)) (handling.Refused fault)
           → (fault ≡ 0) × (n ≡ length (q .out)) × (p .used ≡ q .used) × (p .held ≡ length (q .held)) × (p .changed ≡ q .changed)
       go (inl f) s =
           let w = rw f at s in
           let m : n ≡ length (q .out) = cc in
-          let is : p ≡ scriptProgress q = cc in
+          let is : p ≡ progressAfter q = cc in
           (eqb-true fault 0 f, m, ap (λ (x : Progress). x .used) is, ap (λ (x : Progress). x .held) is, ap (λ (x : Progress). x .changed) is)
       go (inr f) s = let w = rw f at s in let z : _≡_ {A = ℕ} 0 1 = cc in absurd (omega arith)
 

@@ -134,16 +134,16 @@ module _ (x : Slices) (b p : Progress) (piece rec line : List ℕ) (room fault :
       }
 
 -- how far the script q has come
-abbrev pub scriptProgress : Script → Progress
-scriptProgress q = record { used = q .used; held = length (q .held); changed = q .changed }
+abbrev pub progressAfter : Script → Progress
+progressAfter q = record { used = q .used; held = length (q .held); changed = q .changed }
 
 -- the answer, by the fault found
 pub handles-answer : {fault : ℕ} {q : Script} {r : Handling} {rec rec′ line line′ out out′ : List ℕ} → Handles fault q r rec rec′ line line′ out out′
-    → r ≡ cond (eqb fault 0) (handling.Printed (length (q .out)) (scriptProgress q)) (handling.Refused fault)
+    → r ≡ cond (eqb fault 0) (handling.Printed (length (q .out)) (progressAfter q)) (handling.Refused fault)
 handles-answer {fault} {q} {r} h = go r (eqb fault 0) (h .answer)
   where
     go : (r : Handling) (none : Bool) → handlingReply r ≡ cond none (values (pieceValues q)) (refusal fault)
-        → r ≡ cond none (handling.Printed (length (q .out)) (scriptProgress q)) (handling.Refused fault)
+        → r ≡ cond none (handling.Printed (length (q .out)) (progressAfter q)) (handling.Refused fault)
     go (handling.Printed n p) true e =
         let long : n ≡ length (q .out) = cc in
         let used : p .used ≡ q .used = cc in
@@ -162,7 +162,7 @@ pub handled-within : (fault n : ℕ) (p : Progress) (q : Script) (r : Handling) 
     → r ≡ handling.Printed n p → length out′ ≡ length out → n ≤ length out
 handled-within fault n p q r rec rec′ line line′ out out′ h e l = go (eqb fault 0) (sym e ∙ handles-answer h) (h .out-after)
   where
-    go : (b : Bool) → handling.Printed n p ≡ cond b (handling.Printed (length (q .out)) (scriptProgress q)) (handling.Refused fault)
+    go : (b : Bool) → handling.Printed n p ≡ cond b (handling.Printed (length (q .out)) (progressAfter q)) (handling.Refused fault)
         → out′ ≡ cond b (q .out ++ drop (length (q .out)) out) out → n ≤ length out
     go true a o = let k = filled-within (q .out) out out′ o l in let m : n ≡ length (q .out) = cc in omega arith
     go false a o = let z : _≡_ {A = ℕ} 0 1 = cc in absurd (omega arith)

@@ -54,7 +54,7 @@ module _ (s : List ℕ) (r : Reading) (needs lows highs costs : List ℕ)
     is : (number ≡ ofText s .number) × (probes ≡ ofText s .probes) × (links ≡ ofText s .links) × (rest ≡ textEnd (ofText s))
     is = read-numbers true s r blank b read number probes links rest e
 
-    slices-are : slicesOf number probes links needs lows highs costs ≡ inSlices (ofText s)
+    pub slices-are : slicesOf number probes links needs lows highs costs ≡ inSlices (ofText s)
     slices-are = rw (is .0, is .1, is .2, rw none at (read .lent .need), rw none at (read .lent .low), rw none at (read .lent .high), rw none at (read .lent .cost))
 
     pub read-fine : slicesFault (slicesOf number probes links needs lows highs costs) ≡ 0
