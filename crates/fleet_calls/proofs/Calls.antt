@@ -91,7 +91,7 @@ log-next x room s l rest = go (eqb (faultOf x room s l) 0)
     go false = refl
 
 -- the log of the run has the entries of its answers
-run-log : (x : Slices) (room : ℕ) (s : State) (ls : List (List ℕ)) → run x room s ls .log ≡ s .log ++ entriesIn (answersTo x room s ls)
+pub run-log : (x : Slices) (room : ℕ) (s : State) (ls : List (List ℕ)) → run x room s ls .log ≡ s .log ++ entriesIn (answersTo x room s ls)
 unfolding run answersTo
 run-log x room s [] = sym (append-nil (s .log))
 run-log x room s (l ∷ ls) = run-log x room (next x room s l) ls ∙ log-next x room s l (answersTo x room (next x room s l) ls)

@@ -22,7 +22,7 @@ use Rattle.fleet.specs.declared.Finishing.{Finishing}
 use Rattle.fleet.specs.declared.Finishing.the-variants.{Says}
 use Rattle.fleet.specs.Answers.{finishingReply, whetherFinished}
 use Rattle.fleet.proofs.Calls.{finishing-is, handled-next}
-use Rattle.fleet_calls.specs.Calls.{SameTable, LoggedCall, LoggedLeft, freshLogged, KeptLogged, LoggedCalls, leftAfterLogged, loggedLines}
+use Rattle.fleet_calls.specs.Calls.{SameTable, LoggedCall, LoggedLeft, freshLogged, leftByLogged, KeptLogged, LoggedCalls, leftAfterLogged, loggedLines}
 use Rattle.fleet_calls.specs.Demand3.{recordsOver, LeadsToFinish, Demand3}
 use Rattle.fleet_calls.proofs.Same.{same-own, same-fleet, same-finished}
 use Rattle.fleet_calls.proofs.Promises.{same-fine, fine-room}
@@ -37,6 +37,13 @@ same-self x fine =
       same = record { number = refl; probes = refl; links = refl; need = λ v l. refl; low = λ i l. refl; high = λ i l. refl; cost = λ i l. refl };
       passes-8 = fine-room x fine;
     }
+
+-- calls with these lines, in the slices of x
+made-lines : (x : Slices) → slicesFault x ≡ 0 → (b : LoggedLeft) (ls : List (List ℕ)) → (ds : List LoggedCall) × (loggedLines ds ≡ ls) × LoggedCalls x b ds
+made-lines x fine b [] = ([], refl, tt)
+made-lines x fine b (l ∷ ls) =
+    let rest = made-lines x fine (leftByLogged b (madeLogged b x l)) ls in
+    (madeLogged b x l ∷ rest .0, ap (λ (ms : List (List ℕ)). l ∷ ms) (rest .1), (made-kept x x (same-self x fine) b l, rest .2))
 
 module _ (x : Slices) (fine : slicesFault x ≡ 0) (digits : x .number < 65536) (log : List Entry) where
   abbrev t : Table
@@ -190,7 +197,7 @@ module _ (x : Slices) (fine : slicesFault x ≡ 0) (digits : x .number < 65536) 
         accepted-usable = λ before later c is. accepted-here before later c (rw is at k);
         sent-passes = claimed .sent-passes;
         unsent-by-27 = λ before later c is. by-27-here before later c (rw is at k);
-        goes-on = (claimed .goes-on .0, further cs k);
+        goes-on = (claimed .goes-on .0, λ log′ has fits. (made-lines x fine (withLog cs k log′) (claimed .goes-on .0), further cs k log′ has fits));
         says-finished = (finished-unaltered cs k, unaltered-finished cs k);
         rests-plan = λ e. rw (same .bytes) (claimed .rests-plan (rw (same .bytes) at e));
         ends-agree = λ e. rw (same .bytes) (claimed .ends-agree (rw (same .bytes) at e));

@@ -28,7 +28,7 @@ use Rattle.wake_log.specs.Entry.{answerOf, acceptedBy}
 use Rattle.probe_rules.specs.declared.Event.{Event}
 use Rattle.probe_rules.specs.declared.Event.the-variants.{Opening}
 use Rattle.probe_rules.specs.declared.Outcome.{Outcome}
-use Rattle.probe_rules.specs.Rules.{befalls, alter, entryOf, sendable}
+use Rattle.probe_rules.specs.Rules.{befalls, alter, entryOf, sendable, rests}
 use Rattle.probe_rules.specs.Frames.{numberFault, heardOf}
 use Rattle.probe_rules.specs.Within.{EventWithin, OwnLink}
 use Rattle.probe_rules.proofs.OutcomeLaws.{befalls-within}
@@ -36,10 +36,12 @@ use Rattle.probe_checks.specs.Checks.{frameKindFault, toFault, probeFault, ownL
 use Rattle.probe.specs.declared.Kind.{Kind}
 use Rattle.probe.specs.declared.Asked.{Asked}
 use Rattle.probe.specs.declared.Asked.the-variants.{Written}
-use Rattle.probe.proofs.Answers.{befallen-answer}
-use Rattle.probe.specs.Answers.{Befallen, Asks, Opens, Hears, AsksFor, askFault, askedEvent, askedFrame, askedLine}
+use Rattle.probe.specs.declared.Resting.{Resting}
+use Rattle.probe.specs.declared.Resting.the-variants.{Rests}
+use Rattle.probe.proofs.Answers.{befallen-answer, resting-is}
+use Rattle.probe.specs.Answers.{Befallen, Asks, Opens, Hears, AsksFor, askFault, askedEvent, askedFrame, askedLine, restingReply, whetherRests}
 use Rattle.fleet_theory.specs.Fleet.{own, eventLineFault, eventOf, State, start, faultOf, answerTo, next, run}
-use Rattle.fleet_theory.specs.Words.{IsFrame, MaySend}
+use Rattle.fleet_theory.specs.Words.{IsFrame, MaySend, endRests}
 use Rattle.fleet_theory.specs.Ends.{SameAlone, EndsAlone}
 use Rattle.fleet_theory.proofs.Ends.{ends-alone}
 use Rattle.fleet_theory.proofs.Run.{slices-legal}
@@ -228,6 +230,13 @@ module _ (x : Slices) (fine : slicesFault x ≡ 0) (log : List Entry) where
         go (inl kind) = alone .opens-alone (loggedLines before) [] l refl none kind 1 (omega arith) .others-same q differs
         go (inr frame) = alone .hears-alone (loggedLines before) [] l refl none frame 1 (omega arith) .others-same q differs
 
+  -- an own link's end is a probe
+  own-below : (y : Slices) → SameTable y x → (p i : ℕ) → OwnLink t p i → p < tableOf y .probes
+  own-below y same p i is-own =
+      let ends = legal-table 256 2048 t legal .ends i (is-own .0) in
+      let rises = ends .rises in
+      rw (same .same .probes) (at-end t (λ v. v < t .probes) p i (is-own .1) (omega (arith, ends .below)) (ends .below))
+
   asked-same : (before : List LoggedCall) → LoggedCalls x (freshLogged x log) before → (k : Kind) (p i : ℕ) → OwnLink t p i
       → (y : Slices) → SameTable y x → (out : List ℕ) → 15 ≤ length out → (a : Asked) (out′ : List ℕ)
       → (let bytes = leftAfterLogged (freshLogged x log) before .bytes in
@@ -236,15 +245,24 @@ module _ (x : Slices) (fine : slicesFault x ≡ 0) (log : List Entry) where
       let s = run x room (start x) (loggedLines before) in
       let e = own t p (s .bytes) in
       let follows = left-follows x fine log before calls in
-      let ends = legal-table 256 2048 t legal .ends i (is-own .0) in
-      let rises = ends .rises in
-      let below : p < tableOf y .probes = rw (same .same .probes) (at-end t (λ v. v < t .probes) p i (is-own .1) (omega (arith, ends .below)) (ends .below)) in
+      let below = own-below y same p i is-own in
       let n = askFault y p i e out in
       let m = askFault x p i e out in
       let is : n ≡ m = ap (orElse (lentFault (length out) 15)) (same-link-call (tableOf y) t (same .same) p below e (slicesFault y) (slicesFault x) i (same-fine x y fine same ∙ sym fine)) in
       rw (follows .bytes)
       (ends-alone x fine room (loggedLines before) .asked-writes (loggedLines before) [] (sym (append-nil (loggedLines before))) k p i is-own out long a out′
       (asks-same (tableOf y) t (same .same) p below e n m is k i (rw (same .same .links) (is-own .0)) a out out′ (rw (follows .bytes) at h)))
+
+  rests-same : (before : List LoggedCall) → LoggedCalls x (freshLogged x log) before → (p i : ℕ) → OwnLink t p i → (y : Slices) → SameTable y x → (q : Resting)
+      → (let bytes = leftAfterLogged (freshLogged x log) before .bytes in restingReply q ≡ whetherRests y p (own t p bytes) i → q ≡ Rests (endRests t bytes p i))
+  rests-same before calls p i is-own y same q h =
+      let s = run x room (start x) (loggedLines before) in
+      let e = own t p (s .bytes) in
+      let follows = left-follows x fine log before calls in
+      let n = linkCallFault (slicesFault y) (tableOf y) p e i in
+      let passes : n ≡ 0 = same-link-call (tableOf y) t (same .same) p (own-below y same p i is-own) e (slicesFault y) (slicesFault x) i (same-fine x y fine same ∙ sym fine)
+      ∙ ends-alone x fine room (loggedLines before) .asked-passes (loggedLines before) [] (sym (append-nil (loggedLines before))) p i is-own in
+      rw (follows .bytes) (resting-is q n (rests e i) (rw (follows .bytes) at h) ∙ rw passes)
 
   pub ends-of-calls : (cs : List LoggedCall) → LoggedCalls x (freshLogged x log) cs → EndsOfCalls x log cs
   ends-of-calls cs k =
@@ -253,4 +271,5 @@ module _ (x : Slices) (fine : slicesFault x ≡ 0) (log : List Entry) where
         hears-alone = λ before later c here frame y same free some a own′. hears-same before later c (rw (here .place) at k) (here .entry) (here .logged) y same free some a own′ frame;
         others-same = λ before later c here. others before later c (rw (here .place) at k) (here .entry) (here .logged);
         asked-writes = λ before later is. asked-same before (calls-before x (freshLogged x log) before later (rw is at k));
+        rests-alone = λ before later is. rests-same before (calls-before x (freshLogged x log) before later (rw is at k));
       }

@@ -1,6 +1,6 @@
 -- Calls without a lent log are the run over their lines, by induction on the calls: the record and the count are those of the state.
 use Prim.Native.Nat.{ℕ, _+_}
-use mathlib.Core.Path.{_≡_, refl, _∙_, ap}
+use mathlib.Core.Path.{_≡_, refl, sym, _∙_, ap}
 use mathlib.Core.List.{List, [], _∷_}
 use lib.ListN.{length}
 use Rattle.table.specs.Slices.{Slices, slicesFault}
@@ -9,9 +9,9 @@ use Rattle.wake_log.specs.declared.Answer.{Answer}
 use Rattle.fleet_theory.specs.Fleet.{State, start, answerTo, next, run}
 use Rattle.fleet.specs.Answers.{Handled}
 use Rattle.fleet.proofs.Calls.{handled-next}
-use Rattle.fleet_calls.specs.Calls.{EventCall, EventLeft, freshEvent, leftByEvent, KeptEvent, EventCalls, leftAfterEvents, eventLines, eventAnswers, answersTo, EventRun}
+use Rattle.fleet_calls.specs.Calls.{entriesIn, EventCall, EventLeft, freshEvent, leftByEvent, KeptEvent, EventCalls, leftAfterEvents, eventLines, eventAnswers, answersTo, EventRun}
 use Rattle.fleet_calls.proofs.Promises.{same-fine, handled-same}
-use Rattle.fleet_calls.proofs.Calls.{used-next}
+use Rattle.fleet_calls.proofs.Calls.{used-next, run-log}
 
 record FollowsEvents (s : State) (b : EventLeft) : Type 0 where
   bytes : b .bytes ≡ s .bytes
@@ -47,4 +47,4 @@ module _ (x : Slices) (fine : slicesFault x ≡ 0) (room : ℕ) where
   pub event-run : (cs : List EventCall) → EventCalls x room (freshEvent x) cs → EventRun x room cs
   event-run cs k =
       let all = events-follow (start x) (freshEvent x) (record { bytes = refl; used = refl }) cs k in
-      record { answers = all .0; bytes = all .1 .bytes; used = all .1 .used }
+      record { answers = all .0; bytes = all .1 .bytes; used = all .1 .used; entries-answered = ap entriesIn (all .0) ∙ sym (run-log x room (start x) (eventLines cs)) }

@@ -12,7 +12,7 @@ use Rattle.range.proofs.Faults.{or-left, or-none, or-same}
 use Rattle.table.specs.Table.{Table}
 use Rattle.table.specs.Legal.{tableFault}
 use Rattle.table.specs.Same.{Same}
-use Rattle.table.specs.Slices.{Slices, tableOf, slicesFault}
+use Rattle.table.specs.Slices.{Slices, tableOf, slicesFault, slicesRoomFault}
 use Rattle.table.proofs.Same.{same-fault}
 use Rattle.probe_frame.specs.Frame.{Frame, frameOf}
 use Rattle.wake_log.specs.declared.Entry.{Entry}
@@ -30,7 +30,7 @@ use Rattle.fleet.proofs.Calls.{handled-answer, handled-is}
 use Rattle.fleet.proofs.Checks.{line-to, line-within}
 use Rattle.fleet.proofs.Passing.{passed-line}
 use Rattle.fleet_log.specs.Logged.{LogsInFleet}
-use Rattle.fleet_calls.specs.Calls.{slicesRoomFault, SameTable}
+use Rattle.fleet_calls.specs.Calls.{SameTable}
 use Rattle.fleet_calls.proofs.Same.{same-own, same-fleet, same-event, same-line, same-unsent, same-befalls, same-entry, same-alter}
 
 -- a legal table's slices that 8 lets pass have no fault

@@ -4,9 +4,8 @@ use Prim.Native.Nat.{ℕ, _+_, _<_, _≤_}
 use mathlib.Core.Path.{_≡_}
 use mathlib.Core.List.{List, [], _∷_}
 use lib.ListN.{length, take, drop, getD}
-use Rattle.table.specs.Legal.{roomFault}
 use Rattle.table.specs.Same.{Same}
-use Rattle.table.specs.Slices.{Slices, tableOf}
+use Rattle.table.specs.Slices.{Slices, tableOf, slicesRoomFault}
 use Rattle.wake_log.specs.declared.Entry.{Entry}
 use Rattle.wake_log.specs.declared.Answer.{Answer}
 use Rattle.wake_log.specs.declared.Answer.the-variants.{Logged, Refused}
@@ -16,10 +15,6 @@ use Rattle.wake_log.specs.Log.{noEntry, slotOf}
 use Rattle.fleet_theory.specs.Fleet.{State, start, answerTo, next, run}
 use Rattle.fleet.specs.Answers.{Handled}
 use Rattle.fleet_log.specs.Logged.{LogsInFleet}
-
--- 8, of a table's slices
-abbrev pub slicesRoomFault : Slices → ℕ
-slicesRoomFault x = roomFault (x .probes) (x .links) (length (x .needs)) (length (x .lows)) (length (x .highs)) (length (x .costs))
 
 -- "the same .. table, in slices that 8 lets pass": those of y have the table of x. They may be longer or shorter, with anything behind the table's own entries.
 pub record SameTable (y x : Slices) : Type 0 where
@@ -169,3 +164,5 @@ module _ (x : Slices) (room : ℕ) (cs : List EventCall) where
     pub answers : eventAnswers cs ≡ answersTo x room (start x) (eventLines cs)
     pub bytes : leftAfterEvents (freshEvent x) cs .bytes ≡ eventsReached .bytes
     pub used : leftAfterEvents (freshEvent x) cs .used ≡ length (eventsReached .log)
+    -- "one for each accepted event"
+    pub entries-answered : entriesIn (eventAnswers cs) ≡ eventsReached .log

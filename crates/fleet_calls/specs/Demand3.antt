@@ -88,8 +88,9 @@ module _ (x : Slices) (log : List Entry) (cs : List LoggedCall) where
         → (c .answer ≡ Refused 27) ↔ (TrulySent t (frameOf (c .line)) (momentsAt before) → ⊥)
     -- "From there some further list of openings and truly sent frames, none turned down, leads to the finish": "the log lent has an entry free for each of them". It is one list of lines, whatever calls give them; such calls can be made (`callable`).
     pub goes-on : (ms : List (List ℕ))
-        × ((log′ : List Entry) → HasEntries log′ → after .used + length ms ≤ length log′ → (ds : List LoggedCall) → loggedLines ds ≡ ms → LoggedCalls x (withLog log′) ds
-        → LeadsToFinish t (momentsAt cs) bytes ds)
+        × ((log′ : List Entry) → HasEntries log′ → after .used + length ms ≤ length log′
+        → ((ds : List LoggedCall) × (loggedLines ds ≡ ms) × LoggedCalls x (withLog log′) ds)
+        × ((ds : List LoggedCall) → loggedLines ds ≡ ms → LoggedCalls x (withLog log′) ds → LeadsToFinish t (momentsAt cs) bytes ds))
     -- "The fleet says finished exactly when no opening and no frame that may be sent would change anything": called with an entry free
     pub says-finished : (finished t bytes ≡ true)
         ↔ ((log′ : List Entry) → HasEntries log′ → after .used < length log′ → (d : LoggedCall) → KeptLogged x (withLog log′) d

@@ -15,9 +15,11 @@ use Rattle.probe_rules.specs.Within.{OwnLink}
 use Rattle.probe.specs.declared.Kind.{Kind}
 use Rattle.probe.specs.declared.Asked.{Asked}
 use Rattle.probe.specs.declared.Asked.the-variants.{Written}
-use Rattle.probe.specs.Answers.{Opens, Hears, AsksFor, askedFrame, askedLine}
+use Rattle.probe.specs.declared.Resting.{Resting}
+use Rattle.probe.specs.declared.Resting.the-variants.{Rests}
+use Rattle.probe.specs.Answers.{Opens, Hears, AsksFor, askedFrame, askedLine, restingReply, whetherRests}
 use Rattle.fleet_theory.specs.Fleet.{own}
-use Rattle.fleet_theory.specs.Words.{IsFrame, MaySend}
+use Rattle.fleet_theory.specs.Words.{IsFrame, MaySend, endRests}
 use Rattle.fleet_calls.specs.Calls.{SameTable, LoggedCall, freshLogged, leftAfterLogged}
 
 module _ (x : Slices) (log : List Entry) (cs : List LoggedCall) where
@@ -56,3 +58,6 @@ module _ (x : Slices) (log : List Entry) (cs : List LoggedCall) where
     pub asked-writes : (before later : List LoggedCall) → cs ≡ before ++ later → (k : Kind) (p i : ℕ) → OwnLink t p i
         → (y : Slices) → SameTable y x → (out : List ℕ) → 15 ≤ length out → (r : Asked) (out′ : List ℕ) → AsksFor y p k i (ownAt before p) r out out′
         → ((r ≡ Written) × (out′ ≡ sets out 0 (askedLine t p k i))) ↔ MaySend t (bytesAt before) (askedFrame t p k i)
+    -- "A probe rests a link when its own two bytes are both 1": at any moment, called alone on its own bytes, it says so, and refuses nothing
+    pub rests-alone : (before later : List LoggedCall) → cs ≡ before ++ later → (p i : ℕ) → OwnLink t p i
+        → (y : Slices) → SameTable y x → (q : Resting) → restingReply q ≡ whetherRests y p (ownAt before p) i → q ≡ Rests (endRests t (bytesAt before) p i)

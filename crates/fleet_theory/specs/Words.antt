@@ -17,7 +17,7 @@ use Rattle.fleet_theory.specs.Fleet.{own, eventLineFault}
 abbrev pub IsFrame : Frame → Type 0
 IsFrame f = (f .kind ≡ 1) ⊎ (f .kind ≡ 2)
 
--- a frame of the table: of its number
+-- a frame of the table: of its number, and of kind 01 or 02
 abbrev pub FrameOfTable : Table → Frame → Type 0
 FrameOfTable t f = (f .number ≡ t .number) × IsFrame f
 

@@ -1,32 +1,37 @@
--- A log of packed entries is the log of the entries, place by place.
+-- A log of packed entries is the log of the entries, place by place, with numbers of any value behind the used ones. By induction on the used entries.
 use Prim.Native.Nat.{ℕ, zero, suc, _<_}
 use mathlib.Core.Path.{_≡_, refl, ap}
 use mathlib.Core.Bool.{Bool, true, false, cond, _&&_}
-use mathlib.Core.List.{List, [], _∷_, map}
+use mathlib.Core.List.{List, [], _∷_, _++_, map}
 use native.Mathlib.Omega.{arith}
-use borrow.Author.Tests.{ltb-true}
+use borrow.Author.Tests.{ltb-true, lt-ltb}
 use lib.Dec.{ltb}
-use lib.ListN.{length, getD, set, length-map}
+use lib.ListN.{length, getD, length-append, length-map}
 use Rattle.wake_log.specs.declared.Entry.{Entry}
 use Rattle.wake_log.specs.declared.Answer.the-variants.{Logged}
 use Rattle.wake_log.specs.declared.Slot.the-variants.{Used, Unused}
 use Rattle.wake_log.specs.Log.{noEntry, slotOf}
 use Rattle.packed_answers.specs.Packed.{packedEntry, packedSlot, packedAt, packedAfter}
 
-packed-entry : (entries : List Entry) (i : ℕ) → i < length entries → getD (map packedEntry entries) i 0 ≡ packedEntry (getD entries i noEntry)
-packed-entry [] i l = absurd (omega (arith, l))
-packed-entry (e ∷ es) zero l = refl
-packed-entry (e ∷ es) (suc i) l = packed-entry es i (omega (arith, l))
+packed-entry : (es : List Entry) (rest : List ℕ) (i : ℕ) → i < length es → getD (map packedEntry es ++ rest) i 0 ≡ packedEntry (getD es i noEntry)
+packed-entry [] rest i l = absurd (omega (arith, l))
+packed-entry (e ∷ es) rest zero l = refl
+packed-entry (e ∷ es) rest (suc i) l = packed-entry es rest i (omega (arith, l))
 
-pub packed-at : (entries : List Entry) (used i : ℕ) → packedAt (map packedEntry entries) used i ≡ packedSlot (slotOf entries used i)
-packed-at entries used i = rw (length-map entries packedEntry) (go (ltb i used) (ltb i (length entries)) refl)
+-- reading
+pub packed-at : (es : List Entry) (rest : List ℕ) (i : ℕ) → packedAt (map packedEntry es ++ rest) (length es) i ≡ packedSlot (slotOf es (length es) i)
+packed-at es rest i = go (ltb i (length es)) refl
   where
-    go : (a b : Bool) → ltb i (length entries) ≡ b → cond (a && b) (getD (map packedEntry entries) i 0) 0 ≡ packedSlot (cond (a && b) (Used (getD entries i noEntry)) Unused)
-    go true true e = packed-entry entries i (ltb-true i (length entries) e)
-    go true false e = refl
-    go false b e = refl
+    go : (b : Bool) → ltb i (length es) ≡ b
+        → packedAt (map packedEntry es ++ rest) (length es) i ≡ packedSlot (cond (ltb i (length es) && ltb i (length es)) (Used (getD es i noEntry)) Unused)
+    go true e =
+        let less = ltb-true i (length es) e in
+        let n = length-append (map packedEntry es) rest in
+        let m = length-map es packedEntry in
+        rw (e, lt-ltb i (length (map packedEntry es ++ rest)) (omega (arith, less, n, m))) (packed-entry es rest i less)
+    go false e = rw e
 
-pub packed-after : (entries : List Entry) (used : ℕ) (e : Entry) → packedAfter (map packedEntry entries) used (Logged e) ≡ map packedEntry (set entries used e)
-packed-after [] used e = refl
-packed-after (x ∷ xs) zero e = refl
-packed-after (x ∷ xs) (suc used) e = ap (λ (ns : List ℕ). packedEntry x ∷ ns) (packed-after xs used e)
+-- an accepted event's entry behind the used ones
+pub packed-after : (es : List Entry) (n : ℕ) (rest : List ℕ) (e : Entry) → packedAfter (map packedEntry es ++ n ∷ rest) (length es) (Logged e) ≡ map packedEntry (es ++ (e ∷ [])) ++ rest
+packed-after [] n rest e = refl
+packed-after (x ∷ es) n rest e = ap (λ (ns : List ℕ). packedEntry x ∷ ns) (packed-after es n rest e)

@@ -76,7 +76,6 @@ demand-2 x fine fits =
     record {
       by-rule = plan-rule t order;
       only-by-rule = only-by-rule t order;
-      remains = λ i. refl;
       by-spares = plan-criterion t order;
       only-by-spares = plan-unique t order;
       by-offers = settled-is-plan t order;

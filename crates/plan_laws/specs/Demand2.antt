@@ -2,7 +2,7 @@
 use Prim.Native.Nat.{ℕ, _*_, _≤_, _<_}
 use mathlib.Core.Path.{_≡_}
 use mathlib.Core.Logic.{_⊎_}
-use mathlib.Core.Bool.{Bool, not}
+use mathlib.Core.Bool.{Bool}
 use mathlib.Core.List.{List}
 use lib.ListN.{length, take, replicate}
 use Rattle.table.specs.Table.{Table, item}
@@ -38,7 +38,6 @@ module _ (x : Slices) where
     -- "The plan is what remains when links are gone through from dearest to cheapest, by 01's order, and a link is rested exactly when both ends still have more links than they need."
     pub by-rule : PlanRule t (rested t)
     pub only-by-rule : (r : ℕ → Bool) → PlanRule t r → (i : ℕ) → i < x .links → r i ≡ rested t i
-    pub remains : (i : ℕ) → kept t i ≡ not (rested t i)
     -- the same counted against the spares, and by no other set
     pub by-spares : Criterion t (rested t)
     pub only-by-spares : (r : ℕ → Bool) → Criterion t r → (i : ℕ) → i < x .links → r i ≡ rested t i

@@ -47,8 +47,8 @@ abbrev pub foundOf : Taken → Found
 foundOf t = record { line = t .line; next = t .rest .at }
 
 -- its machine value
-abbrev pub spelled : Taken → Val
-spelled t = LL.val F.the-type F′.the-laws (foundOf t)
+abbrev pub takenVal : Taken → Val
+takenVal t = LL.val F.the-type F′.the-laws (foundOf t)
 
 -- what `next_line` ensures
 abbrev pub Said : Reader → Taken → Type 0
@@ -59,8 +59,8 @@ found-is r t e = rw (e .0, e .2)
 
 -- the types of a reader and of what `next_line` returns, at the lifetime κ; the latter with its laws as a local of a body has it
 module _ (κ : Lft) where
-  abbrev pub Lent : RattleType
-  Lent = T.the-row (namedLft 1 0 tt (κ, tt))
+  abbrev pub LentReader : RattleType
+  LentReader = T.the-row (namedLft 1 0 tt (κ, tt))
 
   abbrev pub Row : RattleType
   Row = K.the-row (namedLft 1 0 tt (κ, tt))
@@ -90,7 +90,7 @@ made s i = record { text = s; at = i }
 
 module _ {M : Type 1} (𝓤 : URA M) (H : Heap 𝓤) (A : Atoms 𝓤) (W : Given 𝓤 H A) (κ : Lft) (s : RefT (List ℕ)) (i : ℕ) where
   -- what they own is what the reader owns
-  pub makes-lent : ent 𝓤 (sem 𝓤 H A (owns (ShrSlice (named 0) κ u8 ∷ usize ∷ []) (s, (i, tt)) (passed s i))) (sem 𝓤 H A (Lent κ .own (made s i) (T′.lowered (made s i) ∷ [])))
+  pub makes-lent : ent 𝓤 (sem 𝓤 H A (owns (ShrSlice (named 0) κ u8 ∷ usize ∷ []) (s, (i, tt)) (passed s i))) (sem 𝓤 H A (LentReader κ .own (made s i) (T′.lowered (made s i) ∷ [])))
   makes-lent = own-shut 𝓤 H A W (T.the-type (namedLft 1 0 tt (κ, tt))) (T′.the-laws (namedLft 1 0 tt (κ, tt))) (s, (i, tt))
 
   -- the reader has its machine type
@@ -103,18 +103,18 @@ module _ {M : Type 1} (𝓤 : URA M) (H : Heap 𝓤) (A : Atoms 𝓤) (W : Given
     abbrev pub to-next-line : Reader → Val → NextLine 𝓤 H A mem run .Ghost
     to-next-line r u = (((κ, tt), (q, tt), tt, (r, tt), (u ∷ [], tt)), tt)
 
-    pub goes-next-line : (r : Reader) (u : Val) → ent 𝓤 (⋆ 𝓤 H A (‵ (Lent κ .own r (u ∷ [])) ∷ (‵ (flft κ q) ⊛ ‵ ftrue) ∷ [])) (NextLine 𝓤 H A mem run .pre (to-next-line r u))
-    goes-next-line r u = qed W (‵ (Lent κ .own r (u ∷ [])) ∷ (‵ (flft κ q) ⊛ ‵ ftrue) ∷ []) ∵ nothing ! $ move ! (1 ∷ 0 ∷ []) $ fjoin ! $ move ! (1 ∷ 0 ∷ []) $ join ! $ frame ! $ done !
+    pub goes-next-line : (r : Reader) (u : Val) → ent 𝓤 (⋆ 𝓤 H A (‵ (LentReader κ .own r (u ∷ [])) ∷ (‵ (flft κ q) ⊛ ‵ ftrue) ∷ [])) (NextLine 𝓤 H A mem run .pre (to-next-line r u))
+    goes-next-line r u = qed W (‵ (LentReader κ .own r (u ∷ [])) ∷ (‵ (flft κ q) ⊛ ‵ ftrue) ∷ []) ∵ nothing ! $ move ! (1 ∷ 0 ∷ []) $ fjoin ! $ move ! (1 ∷ 0 ∷ []) $ join ! $ frame ! $ done !
 
   pub next-line-said : (r : Reader) (t : Taken) → ent 𝓤 (ensured 𝓤 H A next-line.ended (next-line.clauses 𝓤 H A mem run) (κ, tt) (r, tt) tt t) (fact 𝓤 (Said r t))
   next-line-said r t = exE 𝓤 _ (λ ws. snd∗ 𝓤 (sem 𝓤 H A (lasts next-line.ended (κ, tt) (r, tt) ws)) (fact 𝓤 (Said r t)))
 
   -- the answer has its machine type
-  pub typed : (t : Taken) {u : Val} → Is (Row κ) t (u ∷ []) → Holds (hasTy F′.mir (spelled t)) × WT (spelled t)
+  pub typed : (t : Taken) {u : Val} → Is (Row κ) t (u ∷ []) → Holds (hasTy F′.mir (takenVal t)) × WT (takenVal t)
   typed t is = LL.lawful F.the-type F′.the-laws 𝓤 H A W .typed (foundOf t) _ (LL.owes F.the-type F′.the-laws (foundOf t) (LL.owed (D κ) (L κ) t _ is .0, ((refl, next-fits κ t is), tt))) .0
 
   -- the line is taken out of what `next_line` returned, and put beside the next offset
-  pub makes-found : (t : Taken) (u : Val) → t .rest .at < 2 ^ 64 → ent 𝓤 (⋆ 𝓤 H A (‵ (Row κ .own t (u ∷ [])) ∷ [])) (sem 𝓤 H A (F.the-row .own (foundOf t) (spelled t ∷ [])))
+  pub makes-found : (t : Taken) (u : Val) → t .rest .at < 2 ^ 64 → ent 𝓤 (⋆ 𝓤 H A (‵ (Row κ .own t (u ∷ [])) ∷ [])) (sem 𝓤 H A (F.the-row .own (foundOf t) (takenVal t ∷ [])))
   makes-found t u fits =
       qed W (‵ (Row κ .own t (u ∷ [])) ∷ []) ∵
       use1 W (given (u ∷ [] ≡ LL.val (D κ) (L κ) t ∷ []) (‵ (all-own (D κ .parts) (L κ) (t .line, (t .rest, tt))))) (own-open 𝓤 H A W (D κ) (L κ) (t .line, (t .rest, tt)) u) $ learn ! (λ _.

@@ -36,8 +36,8 @@ abbrev pub entriesTy : Ty
 entriesTy = tyArray T′.mir 16
 
 -- an array's machine value
-abbrev pub held : List Entry → Val
-held xs = only (array-vals (LL.vals T.the-type T′.the-laws) xs)
+abbrev pub entriesVal : List Entry → Val
+entriesVal xs = only (array-vals (LL.vals T.the-type T′.the-laws) xs)
 
 pub room-16 : (xs : List Entry) → length xs ≡ 16 → Room T.the-row (length xs)
 room-16 xs l = (omega (arith, l), omega (arith, l))
@@ -50,12 +50,12 @@ module _ {M : Type 1} (𝓤 : URA M) (H : Heap 𝓤) (A : Atoms 𝓤) (W : Given
       use1 W (‵ (cellAt fullShare (Entries .mir) (v ∷ []) b 0)) (W .laws .at-raw fullShare entriesTy b 0 v) $ fjoin ! $
       fpack ! (List Val) (λ us. fsep (cellAt fullShare (Entries .mir) us b 0) (Entries .own xs us)) (v ∷ []) $ done !
 
-  part-out : (xs : List Entry) (b : ℕ) → ent 𝓤 (sem 𝓤 H A (partAt Entries fullShare xs b 0)) (guard 𝓤 (Is Entries xs (held xs ∷ [])) (sem 𝓤 H A (fat fullShare entriesTy b 0 (held xs))))
+  part-out : (xs : List Entry) (b : ℕ) → ent 𝓤 (sem 𝓤 H A (partAt Entries fullShare xs b 0)) (guard 𝓤 (Is Entries xs (entriesVal xs ∷ [])) (sem 𝓤 H A (fat fullShare entriesTy b 0 (entriesVal xs))))
   unfolding partOf
   part-out xs b =
       qed W (‵ (partAt Entries fullShare xs b 0) ∷ []) ∵ fpick ! (λ vs. fsplit ! $ move ! (1 ∷ []) $ facts ! Entries (Is Entries) (shows 𝓤 H A Entries) xs vs (λ is.
       rewrite ! 0 (λ (us : List Val). ‵ (cellAt fullShare (Entries .mir) us b 0)) (array-tells T.the-row (LL.vals T.the-type T′.the-laws) (LL.tells T.the-type T′.the-laws) 16 xs vs is) refl $
-      use1 W (‵ (fat fullShare entriesTy b 0 (held xs))) (W .laws .raw-at fullShare entriesTy b 0 (held xs)) $
+      use1 W (‵ (fat fullShare entriesTy b 0 (entriesVal xs))) (W .laws .raw-at fullShare entriesTy b 0 (entriesVal xs)) $
       check ! (subst (Is Entries xs) (array-tells T.the-row (LL.vals T.the-type T′.the-laws) (LL.tells T.the-type T′.the-laws) 16 xs vs is) is) $ done !))
 
   -- the elements, any number of them as far as a shared loan says
@@ -65,7 +65,7 @@ module _ {M : Type 1} (𝓤 : URA M) (H : Heap 𝓤) (A : Atoms 𝓤) (W : Given
       use1 W (‵ (arr-parts (shares T.the-row) 16 .part fullShare xs b 0)) (array-apart 𝓤 H A W T.the-row fullShare tt 16 xs b 0) $ fsplit ! $ drop ! $
       feqI ! ℕ (length xs) (length xs) refl $ fjoin ! $ done !
 
-  pub parts-out : (xs : List Entry) (b : ℕ) → length xs ≡ 16 → ent 𝓤 (sem 𝓤 H A (arr-parts (shares T.the-row) (length xs) .part fullShare xs b 0)) (guard 𝓤 (Is Entries xs (held xs ∷ [])) (sem 𝓤 H A (fat fullShare entriesTy b 0 (held xs))))
+  pub parts-out : (xs : List Entry) (b : ℕ) → length xs ≡ 16 → ent 𝓤 (sem 𝓤 H A (arr-parts (shares T.the-row) (length xs) .part fullShare xs b 0)) (guard 𝓤 (Is Entries xs (entriesVal xs ∷ [])) (sem 𝓤 H A (fat fullShare entriesTy b 0 (entriesVal xs))))
   parts-out xs b l =
       qed W (‵ (arr-parts (shares T.the-row) (length xs) .part fullShare xs b 0) ∷ []) ∵ fsplit ! $ drop ! $ feqI ! ℕ (length xs) 16 l $ fjoin ! $
       use1 W (‵ (partAt Entries fullShare xs b 0)) (array-whole 𝓤 H A W T.the-row fullShare 16 xs b 0) $ by ! (part-out xs b)
@@ -82,7 +82,7 @@ module _ {M : Type 1} (𝓤 : URA M) (H : Heap 𝓤) (A : Atoms 𝓤) (W : Given
       qed W (‵ (fat fullShare entriesTy b 0 v) ∷ []) ∵ use1 W (‵ (arr-parts (shares T.the-row) (length xs) .part fullShare xs b 0)) (parts-in xs v b is) $ fsplit ! $ drop ! $
       rewrite ! 0 (λ (F : Fml). ‵ F) (parts-cells T.the-row fullShare xs b 0) refl $ done !
 
-  pub cells-out : (xs : List Entry) (n b : ℕ) → length xs ≡ 16 → ent 𝓤 (sem 𝓤 H A (Arr (mem T.the-row) n .lies xs b 0)) (guard 𝓤 (Is Entries xs (held xs ∷ [])) (sem 𝓤 H A (fat fullShare entriesTy b 0 (held xs))))
+  pub cells-out : (xs : List Entry) (n b : ℕ) → length xs ≡ 16 → ent 𝓤 (sem 𝓤 H A (Arr (mem T.the-row) n .lies xs b 0)) (guard 𝓤 (Is Entries xs (entriesVal xs ∷ [])) (sem 𝓤 H A (fat fullShare entriesTy b 0 (entriesVal xs))))
   cells-out xs n b l =
       qed W (‵ (Arr (mem T.the-row) n .lies xs b 0) ∷ []) ∵ fsplit ! $ drop ! $ rewrite ! 0 (λ (F : Fml). ‵ F) (sym (parts-cells T.the-row fullShare xs b 0)) refl $
       feqI ! ℕ (length xs) (length xs) refl $ fjoin ! $ by ! (parts-out xs b l)

@@ -25,11 +25,13 @@ slicesOf number probes links needs lows highs costs =
 abbrev pub tableOf : Slices → Table
 tableOf x = ofSlices (x .number) (x .probes) (x .links) (x .needs) (x .lows) (x .highs) (x .costs)
 
+-- 8, of a table's slices
+abbrev pub slicesRoomFault : Slices → ℕ
+slicesRoomFault x = roomFault (x .probes) (x .links) (length (x .needs)) (length (x .lows)) (length (x .highs)) (length (x .costs))
+
 -- "Slices of numbers: 8, 3, then 4 and 5 link by link, 7."
 abbrev pub sliceFault : ℕ → ℕ → Slices → ℕ
-sliceFault pmax lmax x =
-    orElse (roomFault (x .probes) (x .links) (length (x .needs)) (length (x .lows)) (length (x .highs)) (length (x .costs)))
-    (tableFault pmax lmax (tableOf x))
+sliceFault pmax lmax x = orElse (slicesRoomFault x) (tableFault pmax lmax (tableOf x))
 
 abbrev pub slicesFault : Slices → ℕ
 slicesFault x = sliceFault 256 2048 x

@@ -12,7 +12,7 @@ use Rattle.wake_log.specs.declared.Slot.{Slot}
 use Rattle.wake_log.specs.declared.Slot.the-variants.{Used, Unused}
 use Rattle.wake_log.specs.declared.storing.Told.{Told}
 
--- stands where there is no entry, in a refused `Told` and as the default of a place of a list; no answer gives it
+-- stands where there is no entry, in a refused `Told` and as the default of a place of a list; no answer gives it in place of an entry
 abbrev pub noEntry : Entry
 noEntry = record { probe = 0; what = NothingToOpen }
 

@@ -39,7 +39,7 @@ use denote.Triple.Walked.{says, Stays, stay-dropped, walkOf, goes-dropped, Walks
 use denote.Exit.{yes}
 use denote.Triple.Clauses.{ensured, lasts}
 use Rattle.reader.proofs.Reader.Laws as T′
-use Rattle.reader.proofs.Walk.{Lent, passed, made, makes-lent, typed-lent}
+use Rattle.reader.proofs.Walk.{LentReader, passed, made, makes-lent, typed-lent}
 use Rattle.reader.proofs.at_end as at-end
 use Rattle.reader.proofs.at_end.Symbol as at-end-def
 use Rattle.reader.proofs.at_end.Symbol.{name as #reader·at-end}
@@ -78,7 +78,7 @@ module _ {M : Type 1} (𝓤 : URA M) (H : Heap 𝓤) (A : Atoms 𝓤) (W : Given
   goes : ent 𝓤 (onEntry 𝓤 H A ends-at′.signature (κ, tt) (q, tt) (s, (i, tt)) (passed s i)) (AtEnd 𝓤 H A mem run .pre to)
   goes =
       qed W ((‵ (flft κ q) ⊛ ‵ ftrue) ∷ ‵ (owns (ShrSlice (named 0) κ u8 ∷ usize ∷ []) (s, (i, tt)) (passed s i)) ∷ []) ∵
-      move ! (1 ∷ []) $ use1 W (‵ (Lent κ .own (made s i) (T′.lowered (made s i) ∷ []))) (makes-lent 𝓤 H A W κ s i) $ nothing ! $ move ! (1 ∷ 0 ∷ []) $ fjoin ! $ move ! (1 ∷ 0 ∷ []) $ join ! $ frame ! $ done !
+      move ! (1 ∷ []) $ use1 W (‵ (LentReader κ .own (made s i) (T′.lowered (made s i) ∷ []))) (makes-lent 𝓤 H A W κ s i) $ nothing ! $ move ! (1 ∷ 0 ∷ []) $ fjoin ! $ move ! (1 ∷ 0 ∷ []) $ join ! $ frame ! $ done !
 
   said : (r : Bool) → ent 𝓤 (ensured 𝓤 H A at-end.ended (at-end.clauses 𝓤 H A mem run) (κ, tt) (made s i, tt) tt r) (fact 𝓤 (r ≡ found))
   said r = exE 𝓤 _ (λ ws. snd∗ 𝓤 (sem 𝓤 H A (lasts at-end.ended (κ, tt) (made s i, tt) ws)) (fact 𝓤 (r ≡ found)))

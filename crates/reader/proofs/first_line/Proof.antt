@@ -46,7 +46,7 @@ use Rattle.lines.proofs.Line.Laws as S′
 use Rattle.reader.proofs.Reader as T
 use Rattle.reader.proofs.Reader.Laws as T′
 use Rattle.reader.proofs.Taken.Laws as K′
-use Rattle.reader.proofs.Walk.{foundOf, spelled, Said, found-is, Lent, Row, αᵉ, D, L, next-fits, NextLine, to-next-line, goes-next-line, next-line-said, typed, makes-found}
+use Rattle.reader.proofs.Walk.{foundOf, takenVal, Said, found-is, LentReader, Row, αᵉ, D, L, next-fits, NextLine, to-next-line, goes-next-line, next-line-said, typed, makes-found}
 use Rattle.reader.proofs.new as new
 use Rattle.reader.proofs.new.Symbol as new-def
 use Rattle.reader.proofs.new.Symbol.{name as #reader·new}
@@ -85,10 +85,10 @@ module _ {M : Type 1} (𝓤 : URA M) (H : Heap 𝓤) (A : Atoms 𝓤) (W : Given
   new-said : (r : Reader) → ent 𝓤 (ensured 𝓤 H A new.ended (new.clauses 𝓤 H A mem run) (κ, tt) (s, tt) tt r) (fact 𝓤 ((r .text ≡ s) × (r .at ≡ 0)))
   new-said r = exE 𝓤 _ (λ ws. snd∗ 𝓤 (sem 𝓤 H A (lasts new.ended (κ, tt) (s, tt) ws)) (fact 𝓤 ((r .text ≡ s) × (r .at ≡ 0))))
 
-  exits : (t : Taken) (u : Val) → foundOf t ≡ lineAt (now s) 0 → t .rest .at < 2 ^ 64 → ent 𝓤 (⋆ 𝓤 H A (‵ (Row κ .own t (u ∷ [])) ∷ (‵ (flft κ q) ⊛ ‵ ftrue) ∷ [])) (Post (spelled t))
+  exits : (t : Taken) (u : Val) → foundOf t ≡ lineAt (now s) 0 → t .rest .at < 2 ^ 64 → ent 𝓤 (⋆ 𝓤 H A (‵ (Row κ .own t (u ∷ [])) ∷ (‵ (flft κ q) ⊛ ‵ ftrue) ∷ [])) (Post (takenVal t))
   exits t u e fits =
       qed W (‵ (Row κ .own t (u ∷ [])) ∷ (‵ (flft κ q) ⊛ ‵ ftrue) ∷ []) ∵
-      suffices ! _ (ends-at 𝓤 H A first-line.ended stayed (first-line.clauses 𝓤 H A mem run) W (((κ, tt), (q, tt), tt, (s, tt), (v ∷ [], tt)), tt) (spelled t) (foundOf t) (tt, tt) (tt, tt)) $ says ! e $
+      suffices ! _ (ends-at 𝓤 H A first-line.ended stayed (first-line.clauses 𝓤 H A mem run) W (((κ, tt), (q, tt), tt, (s, tt), (v ∷ [], tt)), tt) (takenVal t) (foundOf t) (tt, tt) (tt, tt)) $ says ! e $
       move ! (1 ∷ []) $ frame ! $ nothing ! $ nothing ! $ fjoin ! $ frame ! $ by ! (makes-found 𝓤 H A W mem run κ t u fits)
 
   module _ (C : Calls 𝓤 H) (Λ : Loops 𝓤 H) (fm : FmC 𝓤 H (W .laws) C) (known-new : Triple 𝓤 (C #reader·new) (New 𝓤 H A mem run)) (known-next-line : Triple 𝓤 (C #reader·next-line) (NextLine 𝓤 H A mem run)) where
@@ -98,10 +98,10 @@ module _ {M : Type 1} (𝓤 : URA M) (H : Heap 𝓤) (A : Atoms 𝓤) (W : Given
         alloc1 ! (λ l₀. alloc1 ! (λ l₁. alloc1 ! (λ l₂. alloc1 ! (λ l₃. alloc1 ! (λ l₄. alloc1 ! (λ l₅. alloc0 ! $ params1 ! $ pass1 ! (init ! 8 refl (shr-slice-lawful 𝓤 H A W (named 0) κ u8 .typed s (v ∷ []) p .0)) $ pass0 ! $
         move ! (12 ∷ []) $ use1 W (raw (New 𝓤 H A mem run .pre to-new)) goes-new $
         calls-at ! fm (New 𝓤 H A mem run) known-new to-new (and-then ! (load ! (from ! (stop !)) (look ! 9 refl)) (no-more !)) (λ u.
-        use1 W (later (some (λ (r : Reader). ((‵ (flft κ q) ⊛ ‵ ftrue) ⊛ ‵ (Lent κ .own r (u ∷ []))) ⊛ raw (ensured 𝓤 H A new.ended (new.clauses 𝓤 H A mem run) (κ, tt) (s, tt) tt r)))) (id⊢ 𝓤 _) $ await ! tt $ pick ! (λ r.
+        use1 W (later (some (λ (r : Reader). ((‵ (flft κ q) ⊛ ‵ ftrue) ⊛ ‵ (LentReader κ .own r (u ∷ []))) ⊛ raw (ensured 𝓤 H A new.ended (new.clauses 𝓤 H A mem run) (κ, tt) (s, tt) tt r)))) (id⊢ 𝓤 _) $ await ! tt $ pick ! (λ r.
         split ! $ move ! (1 ∷ []) $ use1 W (raw (fact 𝓤 ((r .text ≡ s) × (r .at ≡ 0)))) (new-said r) $ heard ! ((r .text ≡ s) × (r .at ≡ 0)) (λ e. split ! $ move ! (1 ∷ []) $
         -- [what the reader owns; the token; room for _5; …; room for _4; …; room for _3; …; room for _2; …; _1; …; room for _0; …]
-        peeks ! (Lent κ) (Is (Lent κ)) (shows 𝓤 H A (Lent κ)) r (u ∷ []) (λ is.
+        peeks ! (LentReader κ) (Is (LentReader κ)) (shows 𝓤 H A (LentReader κ)) r (u ∷ []) (λ is.
         land ! (from ! (stop !)) (init ! 6 refl (LL.lawful (T.the-type (αᵉ κ)) (T′.the-laws (αᵉ κ)) 𝓤 H A W .typed r _ is .0)) $
         use2 W (raw (NextLine 𝓤 H A mem run .pre (to-next-line 𝓤 H A W mem run κ q r u))) (goes-next-line 𝓤 H A W mem run κ q r u) $
         calls-at ! fm (NextLine 𝓤 H A mem run) known-next-line (to-next-line 𝓤 H A W mem run κ q r u) (and-then ! (load ! (from ! (stop !)) (look ! 5 refl)) (no-more !)) (λ u′.

@@ -45,7 +45,7 @@ use Rattle.lines.proofs.Line as S
 use Rattle.lines.proofs.Line.Laws as S′
 use Rattle.reader.proofs.Reader.Laws as T′
 use Rattle.reader.proofs.Taken.Laws as K′
-use Rattle.reader.proofs.Walk.{foundOf, spelled, Said, found-is, Lent, Row, D, L, next-fits, NextLine, passed, made, makes-lent, typed-lent, to-next-line, goes-next-line, next-line-said, typed, makes-found}
+use Rattle.reader.proofs.Walk.{foundOf, takenVal, Said, found-is, LentReader, Row, D, L, next-fits, NextLine, passed, made, makes-lent, typed-lent, to-next-line, goes-next-line, next-line-said, typed, makes-found}
 use Rattle.reader.proofs.next_line as next-line
 use Rattle.reader.proofs.next_line.Symbol as next-line-def
 use Rattle.reader.proofs.next_line.Symbol.{name as #reader·next-line}
@@ -76,12 +76,12 @@ module _ {M : Type 1} (𝓤 : URA M) (H : Heap 𝓤) (A : Atoms 𝓤) (W : Given
   goes : ent 𝓤 (onEntry 𝓤 H A line-at.signature (κ, tt) (q, tt) (s, (i, tt)) (passed s i)) (NextLine 𝓤 H A mem run .pre to)
   goes =
       qed W ((‵ (flft κ q) ⊛ ‵ ftrue) ∷ ‵ (owns (ShrSlice (named 0) κ u8 ∷ usize ∷ []) (s, (i, tt)) (passed s i)) ∷ []) ∵
-      move ! (1 ∷ []) $ use1 W (‵ (Lent κ .own (made s i) (T′.lowered (made s i) ∷ []))) (makes-lent 𝓤 H A W κ s i) $ by ! (goes-next-line 𝓤 H A W mem run κ q (made s i) (T′.lowered (made s i)))
+      move ! (1 ∷ []) $ use1 W (‵ (LentReader κ .own (made s i) (T′.lowered (made s i) ∷ []))) (makes-lent 𝓤 H A W κ s i) $ by ! (goes-next-line 𝓤 H A W mem run κ q (made s i) (T′.lowered (made s i)))
 
-  exits : (t : Taken) (u : Val) → foundOf t ≡ lineAt (now s) i → t .rest .at < 2 ^ 64 → ent 𝓤 (⋆ 𝓤 H A (‵ (Row κ .own t (u ∷ [])) ∷ (‵ (flft κ q) ⊛ ‵ ftrue) ∷ [])) (Post (spelled t))
+  exits : (t : Taken) (u : Val) → foundOf t ≡ lineAt (now s) i → t .rest .at < 2 ^ 64 → ent 𝓤 (⋆ 𝓤 H A (‵ (Row κ .own t (u ∷ [])) ∷ (‵ (flft κ q) ⊛ ‵ ftrue) ∷ [])) (Post (takenVal t))
   exits t u e fits =
       qed W (‵ (Row κ .own t (u ∷ [])) ∷ (‵ (flft κ q) ⊛ ‵ ftrue) ∷ []) ∵
-      suffices ! _ (ends-at 𝓤 H A line-at.ended stayed (line-at.clauses 𝓤 H A mem run) W bound (spelled t) (foundOf t) (tt, (tt, tt)) (tt, (tt, tt))) $ says ! e $
+      suffices ! _ (ends-at 𝓤 H A line-at.ended stayed (line-at.clauses 𝓤 H A mem run) W bound (takenVal t) (foundOf t) (tt, (tt, tt)) (tt, (tt, tt))) $ says ! e $
       move ! (1 ∷ []) $ frame ! $ nothing ! $ nothing ! $ fjoin ! $ nothing ! $ fjoin ! $ frame ! $ by ! (makes-found 𝓤 H A W mem run κ t u fits)
 
   module _ (C : Calls 𝓤 H) (Λ : Loops 𝓤 H) (fm : FmC 𝓤 H (W .laws) C) (known : Triple 𝓤 (C #reader·next-line) (NextLine 𝓤 H A mem run)) where

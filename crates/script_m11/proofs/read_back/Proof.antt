@@ -54,7 +54,7 @@ use Rattle.wake_log.proofs.entry_at as entry-at
 use Rattle.wake_log.proofs.entry_at.Symbol as entry-at-def
 use Rattle.wake_log.proofs.entry_at.Symbol.{name as #wake-log·entry-at}
 use Rattle.wake_log.proofs.entry_at.Met as entry-at-thm
-use Rattle.script_m11.proofs.Lent.{Entries, entriesTy, held, room-16, parts-in, parts-out, shared-back}
+use Rattle.script_m11.proofs.Lent.{Entries, entriesTy, entriesVal, room-16, parts-in, parts-out, shared-back}
 use Rattle.script_m11.proofs.read_back.Key.{name as #script-m11·read-back}
 use Rattle.script_m11.proofs.read_back as read-back
 use Rattle.script_m11.proofs.read_back.Statement as stated
@@ -84,7 +84,7 @@ module _ {M : Type 1} (𝓤 : URA M) (H : Heap 𝓤) (A : Atoms 𝓤) (W : Given
 
 module _ {M : Type 1} (𝓤 : URA M) (H : Heap 𝓤) (A : Atoms 𝓤) (W : Given 𝓤 H A) (mem : Memory → SProp 𝓤) (run : Routine → Fun 𝓤) (xs : List Entry) (used i : ℕ) where
   abbrev vals : Vals read-back.signature tt
-  vals = (held xs ∷ [], (vint w64 used ∷ [], (vint w64 i ∷ [], tt)))
+  vals = (entriesVal xs ∷ [], (vint w64 used ∷ [], (vint w64 i ∷ [], tt)))
 
   abbrev bound : walkOf 𝓤 H A read-back.ended stayed (read-back.clauses 𝓤 H A mem run) .Ghost
   bound = ((tt, tt, tt, (xs, (used, (i, tt))), vals), tt)
@@ -101,22 +101,22 @@ module _ {M : Type 1} (𝓤 : URA M) (H : Heap 𝓤) (A : Atoms 𝓤) (W : Given
   abbrev lent : GName → ℕ → RefT (List Entry)
   lent γ b = record { ptr = (b, 0); name = γ; now = xs }
 
-  module _ (C : Calls 𝓤 H) (Λ : Loops 𝓤 H) (fm : FmC 𝓤 H (W .laws) C) (known : Triple 𝓤 (C #wake-log·entry-at) (EntryAt 𝓤 H A mem run)) (is : Is Entries xs (held xs ∷ [])) (f : used < 2 ^ 64) (g : i < 2 ^ 64) where
+  module _ (C : Calls 𝓤 H) (Λ : Loops 𝓤 H) (fm : FmC 𝓤 H (W .laws) C) (known : Triple 𝓤 (C #wake-log·entry-at) (EntryAt 𝓤 H A mem run)) (is : Is Entries xs (entriesVal xs ∷ [])) (f : used < 2 ^ 64) (g : i < 2 ^ 64) where
     size : length xs ≡ 16
     size = is .1 .0 .1
 
-    walk : ent 𝓤 (onEntry 𝓤 H A read-back.signature tt tt (xs, (used, (i, tt))) vals) (WpFn 𝓤 H C Λ code.function (held xs ∷ vint w64 used ∷ vint w64 i ∷ []) Post)
+    walk : ent 𝓤 (onEntry 𝓤 H A read-back.signature tt tt (xs, (used, (i, tt))) vals) (WpFn 𝓤 H C Λ code.function (entriesVal xs ∷ vint w64 used ∷ vint w64 i ∷ []) Post)
     walk =
-        qed W (raw (onEntry 𝓤 H A read-back.signature tt tt (xs, (used, (i, tt))) vals) ∷ []) ∵ enter ! C Λ code.function (held xs ∷ vint w64 used ∷ vint w64 i ∷ []) _ $
+        qed W (raw (onEntry 𝓤 H A read-back.signature tt tt (xs, (used, (i, tt))) vals) ∷ []) ∵ enter ! C Λ code.function (entriesVal xs ∷ vint w64 used ∷ vint w64 i ∷ []) _ $
         alloc1 ! (λ l₀. alloc1 ! (λ l₁. alloc1 ! (λ l₂. alloc1 ! (λ l₃. alloc1 ! (λ l₄. alloc1 ! (λ l₅. alloc1 ! (λ l₆. alloc0 ! $ params1 ! $
-        pass1 ! (init ! 10 refl (array-typed T.the-row (LL.lawful T.the-type T′.the-laws 𝓤 H A W .typed) 16 xs (held xs ∷ []) is .0)) $ pass1 ! (init ! 8 refl (tt, record { fits = f })) $ pass1 ! (init ! 6 refl (tt, record { fits = g })) $ pass0 ! $
+        pass1 ! (init ! 10 refl (array-typed T.the-row (LL.lawful T.the-type T′.the-laws 𝓤 H A W .typed) 16 xs (entriesVal xs ∷ []) is .0)) $ pass1 ! (init ! 8 refl (tt, record { fits = f })) $ pass1 ! (init ! 6 refl (tt, record { fits = g })) $ pass0 ! $
         -- [_6; …; _5; …; _4; …; _3; …; _2; …; _1; …; room for _0; …; what is had at entry]
-        assigns ! (of-opd ! (load ! (from ! (stop !)) (look ! 10 refl))) (from ! (stop !)) (init ! 4 refl (array-typed T.the-row (LL.lawful T.the-type T′.the-laws 𝓤 H A W .typed) 16 xs (held xs ∷ []) is .0)) $
+        assigns ! (of-opd ! (load ! (from ! (stop !)) (look ! 10 refl))) (from ! (stop !)) (init ! 4 refl (array-typed T.the-row (LL.lawful T.the-type T′.the-laws 𝓤 H A W .typed) 16 xs (entriesVal xs ∷ []) is .0)) $
         assigns ! (addr ! (from ! (stop !))) (from ! (stop !)) (init ! 2 refl (tt, tt)) $
         assigns ! (agg ! (and-then ! (load ! (from ! (stop !)) (look ! 2 refl)) (and-then ! (lit ! tt) (no-more !)))) (from ! (stop !)) (init ! 0 refl (tt, (tt, (record { fits = lit< tt }, tt)))) $
         rewrite ! 0 (λ (n : ℕ). ‵ (fat fullShare slice l₆ 0 (sliceVal (l₄, 0) n))) (sym size) refl $
         -- the log is lent for a lifetime that is made here
-        move ! (4 ∷ []) $ use1 W (‵ (arr-parts (shares T.the-row) (length xs) .part fullShare xs l₄ 0)) (parts-in 𝓤 H A W xs (held xs) l₄ is) $ lft-new ! tt (λ α. move ! (1 ∷ []) $
+        move ! (4 ∷ []) $ use1 W (‵ (arr-parts (shares T.the-row) (length xs) .part fullShare xs l₄ 0)) (parts-in 𝓤 H A W xs (entriesVal xs) l₄ is) $ lft-new ! tt (λ α. move ! (1 ∷ []) $
         use1 W (later (some (λ (γ : GName). ‵ (ShrSlice (named 0) (α ∷ []) T.the-row .own (lent γ l₄) (sliceVal (l₄, 0) (length xs) ∷ [])) ⊛ ‵ (flent (α ∷ []) (arr-parts (shares T.the-row) (length xs) .part fullShare xs l₄ 0)))))
         (lends-shr-slice 𝓤 H A W T.the-row (named 0) (α ∷ []) fullShare xs l₄ 0 (room-16 xs size)) $ await ! tt $ pick ! (λ γ. split ! $ move ! (2 ∷ 0 ∷ []) $
         use2 W (raw (EntryAt 𝓤 H A mem run .pre (to 𝓤 H A W mem run (α ∷ []) (lent γ l₄) used i))) (goes 𝓤 H A W mem run (α ∷ []) (lent γ l₄) used i f g) $
@@ -127,7 +127,7 @@ module _ {M : Type 1} (𝓤 : URA M) (H : Heap 𝓤) (A : Atoms 𝓤) (W : Given
         move ! (1 ∷ []) $ facts ! S.the-row (Is S.the-row) (shows 𝓤 H A S.the-row) r (w ∷ []) (λ is-r. split ! $ move ! (1 ∷ []) $ drop ! $
         -- [the token; the lender's part; _6; …; _5; …; …; _3; …; _2; …; _1; …; room for _0; …; what is had at entry]
         land ! (from ! (stop !)) (init ! 13 refl (EL.lawful S.the-type S′.the-laws 𝓤 H A W tt .typed r _ is-r .0)) $
-        lft-end ! tt $ use2 W (later (‵ (arr-parts (shares T.the-row) (length xs) .part fullShare xs l₄ 0))) (shared-back 𝓤 H A W (α ∷ []) xs l₄) $ await ! tt $ use1 W (given (Is Entries xs (held xs ∷ [])) (‵ (fat fullShare entriesTy l₄ 0 (held xs)))) (parts-out 𝓤 H A W xs l₄ size) $ learn ! (λ _.
+        lft-end ! tt $ use2 W (later (‵ (arr-parts (shares T.the-row) (length xs) .part fullShare xs l₄ 0))) (shared-back 𝓤 H A W (α ∷ []) xs l₄) $ await ! tt $ use1 W (given (Is Entries xs (entriesVal xs ∷ [])) (‵ (fat fullShare entriesTy l₄ 0 (entriesVal xs)))) (parts-out 𝓤 H A W xs l₄ size) $ learn ! (λ _.
         -- [_4; _6; …; _5; …; …; _3; …; _2; …; _1; …; _0; …; what is had at entry]
         returns ! (look ! 12 refl) $ forget ! 0 refl $ forget ! 1 refl $ forget ! 3 refl $ forget ! 6 refl $ forget ! 8 refl $ forget ! 10 refl $ forget ! 12 refl $
         move ! (12 ∷ 13 ∷ []) $ free1 ! $ move ! (10 ∷ 11 ∷ []) $ free1 ! $ move ! (8 ∷ 9 ∷ []) $ free1 ! $ move ! (6 ∷ 7 ∷ []) $ free1 ! $ move ! (0 ∷ 5 ∷ []) $ free1 ! $ move ! (2 ∷ 3 ∷ []) $ free1 ! $ free1 ! $ free0 ! $
