@@ -4,8 +4,8 @@ use mathlib.Core.Path.{_≡_, sym, _∙_, ap}
 use mathlib.Core.List.{List}
 use native.Mathlib.Omega.{arith}
 use native.Mathlib.Decide.{decLt}
-use lib.ListN.{length, take, drop}
-use lib.Seq.{take-all, take-append-seam}
+use lib.ListN.{length, take}
+use lib.Seq.{take-all}
 use Rattle.output.specs.Output.{shortFault, outputReply, Prints}
 use Rattle.output.specs.declared.Output.{Output}
 use Rattle.output.specs.declared.Output.the-variants.{Length, Refused}
@@ -13,6 +13,7 @@ use Rattle.output.proofs.Printing.{long-enough, prints-answer}
 use Rattle.plan_output.specs.Output.{outputOf}
 use Rattle.plan_output.proofs.Long.{long-output}
 use Rattle.plan_output.proofs.Most.{most, always-printed}
+use Rattle.standard_io.proofs.Writing.{wrote-is}
 use Rattle.plan.specs.Writing.{PlanWrites}
 
 same-output : (input : List ℕ) → outputOf (take 27923 input) ≡ outputOf input
@@ -23,13 +24,7 @@ same-output input = go (decLt 27922 (length input))
     go (no d) = ap outputOf (take-all 27923 input (omega arith))
 
 pub plan-writes : (input : List ℕ) → PlanWrites input
-plan-writes input =
-    record {
-      writes = λ n out out′ p.
-          let printed = outputOf (take 27923 input) in
-          let k : n ≡ length printed = (let e = prints-answer p in cc) in
-          ap (λ (m : ℕ). take m out′) k ∙ ap (take (length printed)) (p .out) ∙ take-append-seam printed (drop (length printed) out) ∙ same-output input;
-    }
+plan-writes input = record { writes = λ written w. wrote-is (outputOf (take 27923 input)) written w ∙ same-output input }
 
 -- the program's slice holds every output, so the text is printed and no refusal occurs
 module _ (s : List ℕ) (r : Output) (out out′ : List ℕ) (long : 26646 ≤ length out) (p : Prints (shortFault (length out) (outputOf s)) (outputOf s) r out out′) where

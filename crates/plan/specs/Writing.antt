@@ -3,10 +3,9 @@ use Prim.Native.Nat.{ℕ}
 use mathlib.Core.Path.{_≡_}
 use mathlib.Core.List.{List}
 use lib.ListN.{take}
-use Rattle.output.specs.Output.{Prints}
-use Rattle.output.specs.declared.Output.the-variants.{Length}
+use Rattle.standard_io.specs.Writing.{Wrote}
 use Rattle.plan_output.specs.Output.{outputOf}
 
--- "The plan program reads a table on standard input. It prints ..": `print` on the first bytes of the input, and what is then written
+-- "The plan program reads a table on standard input. It prints ..": what is written after `print` on the first bytes of the input
 pub record PlanWrites (input : List ℕ) : Type 0 where
-  pub writes : (n : ℕ) (out out′ : List ℕ) → Prints 0 (outputOf (take 27923 input)) (Length n) out out′ → take n out′ ≡ outputOf input
+  pub writes : (written : List ℕ) → Wrote (outputOf (take 27923 input)) written → written ≡ outputOf input

@@ -1,7 +1,7 @@
 -- What the turns write, one behind the other, is what their pieces print.
 use Prim.Native.Nat.{ℕ, _*_, _≤_}
 use mathlib.Core.Path.{_≡_, sym, _∙_, ap}
-use mathlib.Core.List.{List, [], _∷_, _++_}
+use mathlib.Core.List.{List, [], _∷_, _++_, append-assoc}
 use native.Mathlib.Omega.{arith}
 use lib.ListN.{length, take, drop, replicate, length-append, length-drop, take-append-drop}
 use lib.Seq.{take-take, take-append-seam, length-take-le}
@@ -13,10 +13,11 @@ use Rattle.script_steps.specs.declared.Progress.{Progress}
 use Rattle.script_steps.proofs.PieceLaws.{short-take, usable-after}
 use Rattle.script_steps.proofs.Ends.{zeros-are, zeros-pass}
 use Rattle.script_output.proofs.Answers.{handles-answer}
+use Rattle.standard_io.proofs.Writing.{wrote-is}
 use Rattle.script_output.specs.Handling.{before, Handles}
 use Rattle.script_output.specs.declared.Handling.the-variants.{Printed}
 use Rattle.script_output.proofs.Calls.{held-few, next-call}
-use Rattle.script.specs.Writing.{Turn, Turns, readBy, writtenBy, noProgress}
+use Rattle.script.specs.Writing.{Turn, Turns, Ends, readBy, writtenBy, noProgress}
 
 -- of an unfinished line at most 16 bytes are held
 pub before-few : (p : Progress) (rec line : List ℕ) → length (before p rec line .held) ≤ 16
@@ -98,20 +99,21 @@ module _ (x : Slices) (fine : slicesFault x ≡ 0) where
       }
 
 -- all turns, and the end
-pub turns-write : (x : Slices) (p : Progress) (rec line : List ℕ) (ts : List Turn) → p .held ≤ 16 → 16 ≤ length line → Turns x p rec line ts
-    → writtenBy x p rec ts ≡ printedBy x 1024 (before p rec line) (readBy ts)
-unfolding Turns readBy writtenBy printedBy
-turns-write x p rec line [] most long ts =
+pub turns-write : (x : Slices) (p : Progress) (rec line : List ℕ) (ts : List Turn) (last : List ℕ) → p .held ≤ 16 → 16 ≤ length line → Turns x p rec line ts → Ends x p rec ts last
+    → writtenBy ts ++ last ≡ printedBy x 1024 (before p rec line) (readBy ts)
+unfolding Turns Ends readBy writtenBy printedBy
+turns-write x p rec line [] last most long ts w =
     let n = length-take-le (p .held) line (omega arith) in
     let e : length (take (p .held) (take 16 line)) ≡ p .held = ap length (take-take (p .held) 16 line most) ∙ n in
-    ap (λ (k : ℕ). endText x rec k (p .changed)) (sym e)
-turns-write x p rec line (t ∷ ts) most long (k, rest) =
+    wrote-is (endText x rec (p .held) (p .changed)) last w ∙ ap (λ (k : ℕ). endText x rec k (p .changed)) (sym e)
+turns-write x p rec line (t ∷ ts) last most long (k, rest) w =
     let h = k .handled in
     let q = afterPiece x 1024 (before p rec line) (t .piece) in
-    let w : t .written ≡ q .out = k .answers ∙ written-is x 1024 p (t .progress) rec (t .bytes) line (t .line) (t .piece) (k .out) (k .out′) (length (t .written)) h in
+    let a : t .written ≡ q .out = k .answers ∙ written-is x 1024 p (t .progress) rec (t .bytes) line (t .line) (t .piece) (k .out) (k .out′) (length (t .written)) h in
     let l = left-is x 1024 p (t .progress) rec (t .bytes) line (t .line) (t .piece) (k .out) (k .out′) (length (t .written)) h in
     let i =
-    turns-write x (t .progress) (t .bytes) (t .line) ts (held-most x 1024 p (t .progress) rec (t .bytes) line (t .line) (t .piece) (k .out) (k .out′) (length (t .written)) h)
-    (line-long x 1024 p (t .progress) rec (t .bytes) line (t .line) (t .piece) (k .out) (k .out′) (length (t .written)) h long) rest in
-    ap (λ (z : List ℕ). z ++ writtenBy x (t .progress) (t .bytes) ts) w
+    turns-write x (t .progress) (t .bytes) (t .line) ts last (held-most x 1024 p (t .progress) rec (t .bytes) line (t .line) (t .piece) (k .out) (k .out′) (length (t .written)) h)
+    (line-long x 1024 p (t .progress) rec (t .bytes) line (t .line) (t .piece) (k .out) (k .out′) (length (t .written)) h long) rest w in
+    append-assoc (t .written) (writtenBy ts) last
+    ∙ ap (λ (z : List ℕ). z ++ (writtenBy ts ++ last)) a
     ∙ ap (λ (z : List ℕ). q .out ++ z) (i ∙ ap (λ (s : Script). printedBy x 1024 s (readBy ts)) l)

@@ -9,6 +9,7 @@ use Rattle.table_read.specs.Reading.{Lent, lentOf, ReadsTable}
 use Rattle.table_read.specs.declared.Reading.the-variants.{Table, Refused}
 use Rattle.fleet_theory.specs.Fleet.{start}
 use Rattle.output.specs.Output.{refusalLine}
+use Rattle.standard_io.specs.Writing.{Wrote}
 use Rattle.script_theory.specs.Script.{afterPiece, endText, together, scriptOutput}
 use Rattle.script_steps.specs.declared.Progress.{Progress}
 use Rattle.script_output.specs.Handling.{before, Handles}
@@ -39,10 +40,14 @@ unfoldable pub readBy : List Turn → List (List ℕ)
 readBy [] = []
 readBy (t ∷ ts) = t .piece ∷ readBy ts
 
--- what the turns write, and the end behind them
-unfoldable pub writtenBy : Slices → Progress → List ℕ → List Turn → List ℕ
-writtenBy x p rec [] = endText x rec (p .held) (p .changed)
-writtenBy x p rec (t ∷ ts) = t .written ++ writtenBy x (t .progress) (t .bytes) ts
+unfoldable pub writtenBy : List Turn → List ℕ
+writtenBy [] = []
+writtenBy (t ∷ ts) = t .written ++ writtenBy ts
+
+-- what is written behind the turns: what `end` printed of the record and the progress that they left
+unfoldable pub Ends : Slices → Progress → List ℕ → List Turn → List ℕ → Type 0
+Ends x p rec [] last = Wrote (endText x rec (p .held) (p .changed)) last
+Ends x p rec (t ∷ ts) last = Ends x (t .progress) (t .bytes) ts last
 
 abbrev pub noProgress : Progress
 noProgress = record { used = 0; held = 0; changed = 0 }
@@ -52,10 +57,11 @@ abbrev pub zeroSlices : Lent
 zeroSlices = lentOf (replicate 256 0) (replicate 2048 0) (replicate 2048 0) (replicate 2048 0)
 
 -- "The script program reads a table and, after its closing line, script lines .. For each it prints the entry"; "a refused table prints only that"
--- The table is read from its own bytes into slices b, by `read_table_prefix`; then the turns, whose pieces are the rest of the input, write all that it prints.
+-- The table is read from its own bytes into slices b, by `read_table_prefix`; then the turns, whose pieces are the rest of the input, and the end write all that it prints.
 pub record ScriptWrites (input : List ℕ) : Type 0 where
-  pub refused : (n : ℕ) (b : Lent) → ReadsTable 256 2048 true (tableText input) (Refused n) zeroSlices b → refusalLine n ≡ scriptOutput input
+  pub refused : (n : ℕ) (b : Lent) (written : List ℕ) → ReadsTable 256 2048 true (tableText input) (Refused n) zeroSlices b → Wrote (refusalLine n) written
+      → written ≡ scriptOutput input
   pub writes : (number probes links rest : ℕ) (b : Lent) → ReadsTable 256 2048 true (tableText input) (Table number probes links rest) zeroSlices b
       → (let x = slicesOf number probes links (b .needs) (b .lows) (b .highs) (b .costs) in
-      (line : List ℕ) (ts : List Turn) → 16 ≤ length line → Turns x noProgress (start x .bytes) line ts → tableText input ++ together (readBy ts) ≡ input
-      → writtenBy x noProgress (start x .bytes) ts ≡ scriptOutput input)
+      (line : List ℕ) (ts : List Turn) (last : List ℕ) → 16 ≤ length line → Turns x noProgress (start x .bytes) line ts → Ends x noProgress (start x .bytes) ts last
+      → tableText input ++ together (readBy ts) ≡ input → writtenBy ts ++ last ≡ scriptOutput input)
