@@ -24,8 +24,8 @@ before p rec line = record { bytes = rec; used = p .used; changed = p .changed; 
 abbrev pub siteFault : Slices → List ℕ → ℕ
 siteFault x rec = orElse (slicesFault x) (fleetFault (tableOf x) rec)
 
--- the fault of a piece behind the script p, with so many bytes for an unfinished line and so many for what is printed
--- 8 for fewer than 16 bytes for an unfinished line comes first; 8 for what is printed comes last, exactly where it is longer than its slice
+-- The fault of a piece behind the script p, with so many bytes for an unfinished line and so many for what is printed: "a lent .. output slice too short".
+-- 8 for fewer than 16 bytes for an unfinished line comes first; 8 for what is printed comes last, exactly where it is longer than its slice.
 abbrev pub pieceFault : Slices → Script → List ℕ → ℕ → ℕ → ℕ
 pieceFault x p piece line room = orElse (lentFault line 16) (orElse (siteFault x (p .bytes)) (shortFault room (afterPiece x 1024 p piece .out)))
 
