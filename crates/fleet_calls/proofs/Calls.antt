@@ -20,7 +20,7 @@ use Rattle.wake_log.specs.declared.Answer.{Answer}
 use Rattle.wake_log.specs.declared.Answer.the-variants.{Logged, Refused}
 use Rattle.wake_log.specs.Log.{noEntry}
 use Rattle.wake_log.specs.Entry.{acceptedBy}
-use Rattle.wake_log.proofs.Slots.{slot-used, slot-past-used, slot-of-used}
+use Rattle.wake_log.proofs.Slots.{slot-used, slot-past-used, slot-of-used, slot-is}
 use Rattle.probe_rules.specs.Rules.{entryOf}
 use Rattle.fleet_theory.specs.Fleet.{own, fleetFault, eventLineFault, eventOf, unsentFault, outcomeOf, State, start, faultOf, answerTo, accepted, next, run}
 use Rattle.fleet.proofs.Calls.{handled-next}
@@ -199,8 +199,10 @@ module _ (x : Slices) (fine : slicesFault x ≡ 0) where
         used-within = rw (f .used, f .log-is) (let long = length-append es rest in omega arith);
         entries = rw (f .used, f .log-is) (take-append-seam es rest);
         entries-answered = rw (f .used, f .log-is) (take-append-seam es rest) ∙ run-log x (length log) (start x) (loggedLines cs) ∙ ap entriesIn (sym (all .0));
-        entry-read = λ i l. let u = rw (f .used) at l in rw (f .used, f .log-is) (slot-of-used es rest i ∙ slot-used es (length es) i u u);
-        none-read = λ i l. slot-past-used (leftAfterLogged (freshLogged x log) cs .log) (leftAfterLogged (freshLogged x log) cs .used) i l;
+        entry-read = λ i r q l.
+            let u = rw (f .used) at l in
+            slot-is r (after .log) (after .used) i q ∙ rw (f .used, f .log-is) (slot-of-used es rest i ∙ slot-used es (length es) i u u);
+        none-read = λ i r q l. slot-is r (after .log) (after .used) i q ∙ slot-past-used (after .log) (after .used) i l;
         free = rw (f .used, f .log-is) (drop-append-seam es rest);
         long = f .long;
       }

@@ -4,14 +4,16 @@ use Prim.Native.Nat.{ℕ, _+_, _<_, _≤_}
 use mathlib.Core.Path.{_≡_}
 use mathlib.Core.List.{List, [], _∷_}
 use lib.ListN.{length, take, drop, getD}
+use Rattle.range.specs.Reply.{values}
 use Rattle.table.specs.Same.{Same}
 use Rattle.table.specs.Slices.{Slices, tableOf, slicesRoomFault}
 use Rattle.wake_log.specs.declared.Entry.{Entry}
 use Rattle.wake_log.specs.declared.Answer.{Answer}
 use Rattle.wake_log.specs.declared.Answer.the-variants.{Logged, Refused}
+use Rattle.wake_log.specs.declared.Slot.{Slot}
 use Rattle.wake_log.specs.declared.Slot.the-variants.{Used, Unused}
 use Rattle.wake_log.specs.Entry.{acceptedBy}
-use Rattle.wake_log.specs.Log.{noEntry, slotOf}
+use Rattle.wake_log.specs.Log.{noEntry, slotReply, slotValues}
 use Rattle.fleet_theory.specs.Fleet.{State, start, answerTo, next, run}
 use Rattle.fleet.specs.Answers.{Handled}
 use Rattle.fleet_log.specs.Logged.{LogsInFleet}
@@ -150,8 +152,8 @@ module _ (x : Slices) (log : List Entry) (cs : List LoggedCall) where
     -- "one for each accepted event"
     pub entries-answered : take (after .used) (after .log) ≡ entriesIn (loggedAnswers cs)
     -- `entry_at` of a used place gives the run's entry; past the used ones it answers that there is none
-    pub entry-read : (i : ℕ) → i < after .used → slotOf (after .log) (after .used) i ≡ Used (getD (reached .log) i noEntry)
-    pub none-read : (i : ℕ) → after .used ≤ i → slotOf (after .log) (after .used) i ≡ Unused
+    pub entry-read : (i : ℕ) (r : Slot) → slotReply r ≡ values (slotValues (after .log) (after .used) i) → i < after .used → r ≡ Used (getD (reached .log) i noEntry)
+    pub none-read : (i : ℕ) (r : Slot) → slotReply r ≡ values (slotValues (after .log) (after .used) i) → after .used ≤ i → r ≡ Unused
     pub free : drop (after .used) (after .log) ≡ drop (after .used) log
     pub long : length (after .log) ≡ length log
 

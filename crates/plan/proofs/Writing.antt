@@ -9,7 +9,7 @@ use lib.Seq.{take-all}
 use Rattle.output.specs.Output.{shortFault, outputReply, Prints}
 use Rattle.output.specs.declared.Output.{Output}
 use Rattle.output.specs.declared.Output.the-variants.{Length, Refused}
-use Rattle.output.proofs.Printing.{long-enough, prints-answer}
+use Rattle.output.proofs.Printing.{long-enough}
 use Rattle.plan_output.specs.Output.{outputOf}
 use Rattle.plan_output.proofs.Long.{long-output}
 use Rattle.plan_output.proofs.Most.{most, always-printed}

@@ -84,17 +84,14 @@ module _ (more : Bool) (s : List ℕ) (r : Reading) (a b : Lent) (read : ReadsTa
         let costs = same-length (t .cost) (t .links) (a .costs) (b .costs) (rw none at (read .lent .cost)) in
         record { needed = omega arith; linked = omega arith; equal = omega arith; equal₂ = omega arith }
 
-  answer-is : r ≡ cond (eqb fault 0) (Read (t .number) (t .probes) (t .links) (textEnd t)) (Unread fault)
-  answer-is = reads-answer read
-
   pub refusal-is : (refusal : ℕ) → r ≡ Unread refusal → (refusal ≡ fault) × (fault ≡ 0 → ⊥)
   refusal-is refusal e =
-      let n = answer-unread (eqb fault 0) fault refusal t (sym e ∙ answer-is) in
+      let n = answer-unread (eqb fault 0) fault refusal t (sym e ∙ reads-answer read) in
       (n .1, eqb-false fault 0 (n .0))
 
   module _ (number probes links rest : ℕ) (e : r ≡ Read number probes links rest) where
     said : (eqb fault 0 ≡ true) × (number ≡ t .number) × (probes ≡ t .probes) × (links ≡ t .links) × (rest ≡ textEnd t)
-    said = answer-read (eqb fault 0) fault number probes links rest t (sym e ∙ answer-is)
+    said = answer-read (eqb fault 0) fault number probes links rest t (sym e ∙ reads-answer read)
 
     pub read-none : fault ≡ 0
     read-none = eqb-true fault 0 (said .0)

@@ -30,8 +30,8 @@ what-is (what.Refused link) = refl
 what-is (what.RefusalLearnt link) = refl
 what-is (what.NoChange link) = refl
 
-pub same-entry : (e e′ : Entry) → entryValues e ≡ entryValues e′ → e ≡ e′
-same-entry e e′ s =
+pub entry-is : (e e′ : Entry) → entryValues e ≡ entryValues e′ → e ≡ e′
+entry-is e e′ s =
     let probe : e .probe ≡ e′ .probe = cc in
     let code : codeOf (e .what) ≡ codeOf (e′ .what) = cc in
     let link : linkOf (e .what) ≡ linkOf (e′ .what) = cc in
@@ -44,7 +44,7 @@ pub answer-is : (r : Answer) (fault : ℕ) (e : Entry) → answerReply r ≡ rep
 answer-is r fault e s = go r (eqb fault 0) s
   where
     go : (r : Answer) (none : Bool) → answerReply r ≡ cond none (values (entryValues e)) (refusal fault) → r ≡ cond none (Logged e) (Refused fault)
-    go (Logged d) true s = ap Logged (same-entry d e (cc))
+    go (Logged d) true s = ap Logged (entry-is d e (cc))
     go (Logged d) false s = let z : _≡_ {A = ℕ} 0 1 = cc in absurd (omega arith)
     go (Refused n) true s = let z : _≡_ {A = ℕ} 0 1 = cc in absurd (omega arith)
     go (Refused n) false s = cc

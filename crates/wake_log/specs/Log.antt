@@ -1,10 +1,12 @@
 -- The wake log: document 01, "The wake log is a lent list of entries, one for each accepted event."
 use Prim.Native.Nat.{ℕ}
 use mathlib.Core.Bool.{cond, _&&_}
-use mathlib.Core.List.{List}
+use mathlib.Core.List.{List, []}
 use lib.Dec.{ltb}
 use lib.ListN.{length, getD}
+use Rattle.range.specs.Reply.{Reply, values}
 use Rattle.wake_log.specs.declared.Entry.{Entry}
+use Rattle.wake_log.specs.Entry.{entryValues}
 use Rattle.wake_log.specs.declared.What.the-variants.{NothingToOpen}
 use Rattle.wake_log.specs.declared.Answer.{Answer}
 use Rattle.wake_log.specs.declared.Answer.the-variants.{Logged, Refused}
@@ -24,3 +26,11 @@ toldOf used room (Refused n) = record { at = room; entry = noEntry; answer = Ref
 -- what a place holds: a used one its entry; past the used ones, or past the log's end, there is none
 abbrev pub slotOf : List Entry → ℕ → ℕ → Slot
 slotOf log used i = cond (ltb i used && ltb i (length log)) (Used (getD log i noEntry)) Unused
+
+-- the values of its entry, or none
+abbrev pub slotReply : Slot → Reply
+slotReply (Used e) = values (entryValues e)
+slotReply Unused = values []
+
+abbrev pub slotValues : List Entry → ℕ → ℕ → List ℕ
+slotValues log used i = cond (ltb i used && ltb i (length log)) (entryValues (getD log i noEntry)) []

@@ -1,7 +1,8 @@
 // The entries of the wake log, the answer to an event, and the log in a lent slice. The count of used entries goes beside it.
 ghost use mathlib.Core.Path.{_≡_};
 ghost use lib.ListN.{set};
-ghost use Rattle.wake_log.specs.Log.{slotOf};
+ghost use Rattle.range.specs.Reply.{values};
+ghost use Rattle.wake_log.specs.Log.{slotReply, slotValues};
 
 pub mod codes;
 pub mod storing;
@@ -45,7 +46,7 @@ pub fn append(log: &mut [Entry], used: usize, e: Entry)
 
 // What stands at a place of the log: past the used entries, or past the log's end, none.
 pub fn entry_at(log: &[Entry], used: usize, i: usize) -> Slot
-    ensures { λ r. ⌜ r ≡ slotOf (now (log .entry)) used i ⌝ }
+    ensures { λ r. ⌜ slotReply r ≡ values (slotValues (now (log .entry)) used i) ⌝ }
 {
     if used <= i {
         return Slot::Unused;

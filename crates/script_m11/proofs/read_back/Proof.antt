@@ -44,8 +44,10 @@ use denote.Triple.Statement.{Contract, Triple}
 use denote.Triple.Table.{entered, cited}
 use denote.Triple.Walked.{says, Stays, stay-dropped, walkOf, ends-at, walked, goes-dropped, walk-meets}
 use Rattle.wake_log.specs.declared.Entry.{Entry}
+use Rattle.range.specs.Reply.{values}
 use Rattle.wake_log.specs.declared.Slot.{Slot}
-use Rattle.wake_log.specs.Log.{slotOf}
+use Rattle.wake_log.specs.Log.{slotOf, slotReply, slotValues}
+use Rattle.wake_log.proofs.Slots.{slot-is}
 use Rattle.wake_log.proofs.Entry as T
 use Rattle.wake_log.proofs.Entry.Laws as T′
 use Rattle.wake_log.proofs.Slot as S
@@ -79,8 +81,8 @@ module _ {M : Type 1} (𝓤 : URA M) (H : Heap 𝓤) (A : Atoms 𝓤) (W : Given
       qed W (‵ (flft κ fullShare) ∷ ‵ (ShrSlice (named 0) κ T.the-row .own x (sliceVal (x .ptr) (length (x .now)) ∷ [])) ∷ []) ∵
       nothing ! $ owned ! usize (Is usize) (uint-makes 𝓤 H A W w64) i _ (refl, g) $ fjoin ! $ owned ! usize (Is usize) (uint-makes 𝓤 H A W w64) used _ (refl, f) $ fjoin ! $ move ! (2 ∷ 0 ∷ []) $ fjoin ! $ nothing ! $ move ! (2 ∷ 0 ∷ []) $ join ! $ join ! $ frame ! $ done !
 
-  said : (r : Slot) → ent 𝓤 (ensured 𝓤 H A entry-at.ended (entry-at.clauses 𝓤 H A mem run) (κ, tt) (x, (used, (i, tt))) tt r) (fact 𝓤 (r ≡ slotOf (x .now) used i))
-  said r = exE 𝓤 _ (λ ws. snd∗ 𝓤 (sem 𝓤 H A (lasts entry-at.ended (κ, tt) (x, (used, (i, tt))) ws)) (fact 𝓤 (r ≡ slotOf (x .now) used i)))
+  said : (r : Slot) → ent 𝓤 (ensured 𝓤 H A entry-at.ended (entry-at.clauses 𝓤 H A mem run) (κ, tt) (x, (used, (i, tt))) tt r) (fact 𝓤 (slotReply r ≡ values (slotValues (x .now) used i)))
+  said r = exE 𝓤 _ (λ ws. snd∗ 𝓤 (sem 𝓤 H A (lasts entry-at.ended (κ, tt) (x, (used, (i, tt))) ws)) (fact 𝓤 (slotReply r ≡ values (slotValues (x .now) used i))))
 
 module _ {M : Type 1} (𝓤 : URA M) (H : Heap 𝓤) (A : Atoms 𝓤) (W : Given 𝓤 H A) (mem : Memory → SProp 𝓤) (run : Routine → Fun 𝓤) (xs : List Entry) (used i : ℕ) where
   abbrev vals : Vals read-back.signature tt
@@ -123,7 +125,7 @@ module _ {M : Type 1} (𝓤 : URA M) (H : Heap 𝓤) (A : Atoms 𝓤) (W : Given
         -- [what entry_at asks; the lender's part; _6; …; _5; …; …; _3; …; _2; …; _1; …; room for _0; …; what is had at entry]
         calls-at ! fm (EntryAt 𝓤 H A mem run) known (to 𝓤 H A W mem run (α ∷ []) (lent γ l₄) used i) (and-then ! (load ! (from ! (stop !)) (look ! 2 refl)) (and-then ! (load ! (from ! (stop !)) (look ! 9 refl)) (and-then ! (load ! (from ! (stop !)) (look ! 7 refl)) (no-more !)))) (λ w.
         use1 W (later (some (λ (r : Slot). ((‵ (flft (α ∷ []) fullShare) ⊛ ‵ ftrue) ⊛ ‵ (S.the-row .own r (w ∷ []))) ⊛ raw (ensured 𝓤 H A entry-at.ended (entry-at.clauses 𝓤 H A mem run) (α ∷ [], tt) (lent γ l₄, (used, (i, tt))) tt r)))) (id⊢ 𝓤 _) $ await ! tt $ pick ! (λ r. split ! $
-        move ! (1 ∷ []) $ use1 W (raw (fact 𝓤 (r ≡ slotOf xs used i))) (said 𝓤 H A W mem run (α ∷ []) (lent γ l₄) used i r) $ heard ! (r ≡ slotOf xs used i) (λ e. split ! $
+        move ! (1 ∷ []) $ use1 W (raw (fact 𝓤 (slotReply r ≡ values (slotValues xs used i)))) (said 𝓤 H A W mem run (α ∷ []) (lent γ l₄) used i r) $ heard ! (slotReply r ≡ values (slotValues xs used i)) (λ e. split ! $
         move ! (1 ∷ []) $ facts ! S.the-row (Is S.the-row) (shows 𝓤 H A S.the-row) r (w ∷ []) (λ is-r. split ! $ move ! (1 ∷ []) $ drop ! $
         -- [the token; the lender's part; _6; …; _5; …; …; _3; …; _2; …; _1; …; room for _0; …; what is had at entry]
         land ! (from ! (stop !)) (init ! 13 refl (EL.lawful S.the-type S′.the-laws 𝓤 H A W tt .typed r _ is-r .0)) $
@@ -131,7 +133,7 @@ module _ {M : Type 1} (𝓤 : URA M) (H : Heap 𝓤) (A : Atoms 𝓤) (W : Given
         -- [_4; _6; …; _5; …; …; _3; …; _2; …; _1; …; _0; …; what is had at entry]
         returns ! (look ! 12 refl) $ forget ! 0 refl $ forget ! 1 refl $ forget ! 3 refl $ forget ! 6 refl $ forget ! 8 refl $ forget ! 10 refl $ forget ! 12 refl $
         move ! (12 ∷ 13 ∷ []) $ free1 ! $ move ! (10 ∷ 11 ∷ []) $ free1 ! $ move ! (8 ∷ 9 ∷ []) $ free1 ! $ move ! (6 ∷ 7 ∷ []) $ free1 ! $ move ! (0 ∷ 5 ∷ []) $ free1 ! $ move ! (2 ∷ 3 ∷ []) $ free1 ! $ free1 ! $ free0 ! $
-        drop ! $ by ! (exits r w e is-r)))))))))))))))
+        drop ! $ by ! (exits r w (slot-is r xs used i e) is-r)))))))))))))))
 
 read-back-meets : {M : Type 1} (𝓤 : URA M) (H : Heap 𝓤) (A : Atoms 𝓤) → Given 𝓤 H A → (mem : Memory → SProp 𝓤) (run : Routine → Fun 𝓤) (𝓣 : Tables 𝓤 H) → Triple 𝓤 (𝓣 .C #wake-log·entry-at) (EntryAt 𝓤 H A mem run)
     → Meets 𝓤 H A read-back.signature (WpFn 𝓤 H (𝓣 .C) (𝓣 .Λ) code.function) (read-back.spec 𝓤 H A mem run)

@@ -44,7 +44,7 @@ use Rattle.wake_log.proofs.Entry.Laws as T′
 use Rattle.wake_log.proofs.Slot as S
 use Rattle.wake_log.proofs.Slot.Laws as S′
 use Rattle.wake_log.specs.Log.{noEntry, slotOf}
-use Rattle.wake_log.proofs.Slots.{slot-used, slot-past-used, slot-past-end}
+use Rattle.wake_log.proofs.Slots.{slot-used, slot-past-used, slot-past-end, slot-reply}
 use Rattle.wake_log.proofs.Walk.{spelled, scaled, ifs}
 use Rattle.wake_log.proofs.entry_at.Key.{name as #wake-log·entry-at}
 use Rattle.wake_log.proofs.entry_at as entry-at
@@ -77,7 +77,7 @@ module _ {M : Type 1} (𝓤 : URA M) (H : Heap 𝓤) (A : Atoms 𝓤) (W : Given
   exits : (r : Slot) → r ≡ slotOf ys used i → Is S.the-row r (slotted r ∷ []) → ent 𝓤 (⋆ 𝓤 H A (‵ (flft κ q) ∷ [])) (Post (slotted r))
   exits r e is =
       qed W (‵ (flft κ q) ∷ []) ∵
-      suffices ! _ (ends-at 𝓤 H A entry-at.ended stayed (entry-at.clauses 𝓤 H A mem run) W bound (slotted r) r (tt, (tt, (tt, tt))) (tt, (tt, (tt, tt)))) $ says ! e $
+      suffices ! _ (ends-at 𝓤 H A entry-at.ended stayed (entry-at.clauses 𝓤 H A mem run) W bound (slotted r) r (tt, (tt, (tt, tt))) (tt, (tt, (tt, tt)))) $ says ! (slot-reply r ys used i e) $
       nothing ! $ move ! (1 ∷ 0 ∷ []) $ join ! $ frame ! $ owned ! S.the-row (Is S.the-row) (EL.makes S.the-type S′.the-plain 𝓤 H A) r (slotted r ∷ []) is $ nothing ! $ nothing ! $ fjoin ! $ nothing ! $ fjoin ! $ nothing ! $ fjoin ! $ done !
 
   module _ (C : Calls 𝓤 H) (Λ : Loops 𝓤 H) where
