@@ -190,6 +190,7 @@ module _ (x : Slices) (fine : slicesFault x ≡ 0) where
   logged-run log cs k =
       let all = calls-follow log (start x) (freshLogged x log) (fresh-follows x log) cs k in
       let f = all .1 in
+      let after = leftAfterLogged (freshLogged x log) cs in
       let es = run x (length log) (start x) (loggedLines cs) .log in
       let rest = drop (length es) log in
       record {
