@@ -6,9 +6,10 @@ use native.Mathlib.Omega.{arith}
 use lib.Dec.{eqb}
 use lib.ListN.{length}
 use borrow.Author.Tests.{le-ltb}
+use Rattle.range.proofs.Faults.{or-none}
 use Rattle.fleet_theory.specs.Fleet.{fleetFault}
 use Rattle.table.specs.Slices.{Slices, tableOf, slicesFault}
-use Rattle.output.specs.Output.{outputReply, Prints}
+use Rattle.output.specs.Output.{outputReply, shortFault, Prints}
 use Rattle.output.specs.declared.Output.{Output}
 use Rattle.output.specs.declared.Output.the-variants as output
 use Rattle.output.proofs.Printing.{long-enough, prints-answer}
@@ -16,7 +17,7 @@ use Rattle.script_theory.specs.Script.{Script, endText, afterPiece}
 use Rattle.script_steps.specs.declared.Progress.{Progress}
 use Rattle.script_steps.proofs.PieceLaws.{piece-short}
 use Rattle.script_steps.proofs.Ends.{length-end, end-most}
-use Rattle.script_output.specs.Handling.{before, handlingReply, Handles, pieceCallFault, endCallFault}
+use Rattle.script_output.specs.Handling.{before, siteFault, handlingReply, Handles, pieceCallFault, endCallFault}
 use Rattle.script_output.specs.declared.Handling.{Handling}
 use Rattle.script_output.specs.declared.Handling.the-variants.{Printed, Refused}
 use Rattle.script_output.proofs.Answers.{handles-answer}
@@ -33,7 +34,8 @@ module _ (x : Slices) (fine : slicesFault x ≡ 0) (rec : List ℕ) (good : flee
   end-passes held changed out room =
       let n = length-end x rec held changed in
       let m = end-most (eqb held 0) in
-      rw (fine, good) (long-enough (length out) (endText x rec held changed) (omega arith))
+      let room-none = long-enough (length out) (endText x rec held changed) (omega arith) in
+      or-none (shortFault (length out) (endText x rec held changed)) (siteFault x rec) room-none ∙ rw (fine, good)
 
 -- handled, and not refused
 module _ (fault : ℕ) (q : Script) (r : Handling) (rec rec′ line line′ out out′ : List ℕ) (none : fault ≡ 0) (h : Handles fault q r rec rec′ line line′ out out′) where

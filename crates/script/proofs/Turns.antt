@@ -7,10 +7,10 @@ use lib.ListN.{length, take, drop, replicate, length-append, length-drop, take-a
 use lib.Seq.{take-take, take-append-seam, length-take-le}
 use Rattle.fleet_theory.specs.Fleet.{fleetFault}
 use Rattle.table.specs.Slices.{Slices, tableOf, slicesFault}
-use Rattle.script_theory.specs.Script.{Script, endText, afterByte, afterPiece, begun, carried, printedBy}
+use Rattle.script_theory.specs.Script.{Script, endText, afterPiece, begun, carried, printedBy}
 use Rattle.script_theory.proofs.Pieces.{in-pieces, onto, carried-onto, piece-onto}
 use Rattle.script_steps.specs.declared.Progress.{Progress}
-use Rattle.script_steps.proofs.PieceLaws.{short-take, usable-after}
+use Rattle.script_steps.proofs.PieceLaws.{short-take, usable-piece}
 use Rattle.script_steps.proofs.Ends.{zeros-are, zeros-pass}
 use Rattle.script_output.proofs.Answers.{handles-answer}
 use Rattle.standard_io.proofs.Writing.{wrote-is}
@@ -61,13 +61,6 @@ module _ (x : Slices) (room : ℕ) (p p′ : Progress) (rec rec′ line line′ 
 
   pub written-is : take n out′ ≡ q .out
   written-is = ap (λ (m : ℕ). take m out′) length-is ∙ ap (take (length (q .out))) (h .out-after) ∙ take-append-seam (q .out) (drop (length (q .out)) out)
-
--- the record stays usable
-pub usable-piece : (x : Slices) (room : ℕ) → slicesFault x ≡ 0 → (p : Script) (a : List ℕ) → fleetFault (tableOf x) (p .bytes) ≡ 0
-    → fleetFault (tableOf x) (afterPiece x room p a .bytes) ≡ 0
-unfolding afterPiece
-usable-piece x room fine p [] good = good
-usable-piece x room fine p (b ∷ a) good = usable-piece x room fine (afterByte x room p b) a (usable-after x room p b fine good)
 
 -- the script's state after a text, and after a piece more
 pub reached-next : (x : Slices) (room : ℕ) (s : Script) (text piece : List ℕ) → s ≡ carried (afterPiece x room (begun x) text)

@@ -16,15 +16,15 @@ use Rattle.table.specs.Slices.{Slices, tableOf, slicesFault}
 use Rattle.table.specs.Legal.{lentFault}
 use Rattle.output.specs.Output.{shortFault, Prints}
 use Rattle.output.specs.declared.Output.{Output}
-use Rattle.output.proofs.Printing.{prints-answer}
+use Rattle.output.proofs.Printing.{prints-answer, long-enough}
 use Rattle.fleet_theory.specs.Fleet.{fleetFault, start}
 use Rattle.fleet_theory.proofs.Run.{start-holds, fleet-passes}
 use Rattle.fleet_calls.specs.Calls.{SameTable}
 use Rattle.fleet_calls.proofs.Same.{same-fleet}
 use Rattle.fleet_calls.proofs.Promises.{same-fine}
-use Rattle.script_theory.specs.Script.{Script, scriptText, afterByte, afterPiece, begun, endText, together, carried, printedBy}
-use Rattle.script_theory.proofs.Pieces.{any-pieces}
-use Rattle.script_steps.proofs.PieceLaws.{usable-after}
+use Rattle.script_theory.specs.Script.{Script, scriptText, afterPiece, begun, endText, together, carried, printedBy}
+use Rattle.script_theory.proofs.Pieces.{in-pieces, carried-piece, reached, any-pieces}
+use Rattle.script_steps.proofs.PieceLaws.{usable-piece}
 use Rattle.script_output.specs.Handling.{before, siteFault, Handles, pieceCallFault, endCallFault}
 use Rattle.script_output.specs.declared.Handling.{Handling}
 use Rattle.script_output.specs.declared.Handling.the-variants.{Printed, Refused}
@@ -63,11 +63,6 @@ module _ (x : Slices) (fine : slicesFault x ≡ 0) where
     pub few : b .progress .held ≤ 16
     pub passes : fleetFault (tableOf x) (b .bytes) ≡ 0
 
-  usable-piece : (p : Script) (a : List ℕ) → fleetFault (tableOf x) (p .bytes) ≡ 0 → fleetFault (tableOf x) (afterPiece x 1024 p a .bytes) ≡ 0
-  unfolding afterPiece
-  usable-piece p [] e = e
-  usable-piece p (b ∷ a) e = usable-piece (afterByte x 1024 p b) a (usable-after x 1024 p b fine e)
-
   held-length : (b : PieceLeft) → Left b → length (scriptOf b .held) ≡ b .progress .held
   held-length b l =
       let n = b .progress .held in
@@ -81,7 +76,7 @@ module _ (x : Slices) (fine : slicesFault x ≡ 0) where
   data Called (b : PieceLeft) (c : PieceCall) : Type 0 where
     printed : c .answer ≡ Printed (length (after b c .out)) (progressAfter (after b c)) → c .bytes ≡ after b c .bytes
         → c .line ≡ after b c .held ++ drop (length (after b c .held)) (b .line) → c .out′ ≡ after b c .out ++ drop (length (after b c .out)) (c .out) → Called b c
-    short : c .answer ≡ Refused 8 → c .bytes ≡ b .bytes → c .line ≡ b .line → length (c .out) < length (after b c .out) → Called b c
+    short : c .answer ≡ Refused 8 → c .bytes ≡ b .bytes → c .line ≡ b .line → c .out′ ≡ c .out → length (c .out) < length (after b c .out) → Called b c
 
   module _ (b : PieceLeft) (l : Left b) (c : PieceCall) (k : KeptPiece x b c) where
     fine′ : slicesFault (c .slices) ≡ 0
@@ -114,7 +109,7 @@ module _ (x : Slices) (fine : slicesFault x ≡ 0) where
     called = go (decided (ltb (length (c .out)) (length (after b c .out))))
       where
         go : (ltb (length (c .out)) (length (after b c .out)) ≡ true) ⊎ (ltb (length (c .out)) (length (after b c .out)) ≡ false) → Called b c
-        go (inl e) = let h = rw e at handles in short (handles-answer h) (h .record-after) (h .line-after) (ltb-true _ _ e)
+        go (inl e) = let h = rw e at handles in short (handles-answer h) (h .record-after) (h .line-after) (h .out-after) (ltb-true _ _ e)
         go (inr e) = let h = rw e at handles in printed (handles-answer h) (h .record-after) (h .line-after) (h .out-after)
 
     held-16 : length (after b c .held) ≤ 16
@@ -132,8 +127,25 @@ module _ (x : Slices) (fine : slicesFault x ≡ 0) where
     left-next = go called
       where
         go : Called b c → Left (leftByPiece b c)
-        go (printed a r line o) = record { long = rw line line-long; few = rw a held-16; passes = rw r (usable-piece (scriptOf b) (c .piece) (l .passes)) }
-        go (short a r line s) = record { long = rw line (l .long); few = rw a (l .few); passes = rw r (l .passes) }
+        go (printed a r line o) = record { long = rw line line-long; few = rw a held-16; passes = rw r (usable-piece x 1024 fine (scriptOf b) (c .piece) (l .passes)) }
+        go (short a r line o s) = record { long = rw line (l .long); few = rw a (l .few); passes = rw r (l .passes) }
+
+    printed-next : c .answer ≡ Printed (length (after b c .out)) (progressAfter (after b c)) → c .bytes ≡ after b c .bytes
+        → c .line ≡ after b c .held ++ drop (length (after b c .held)) (b .line) → scriptOf (leftByPiece b c) ≡ carried (after b c)
+    printed-next a r line = rw (a, r, line) (next-call (after b c) (b .line) held-16)
+
+    -- the script under way after it is that after its piece, and the pieces behind it
+    under-way : (rest : List ℕ)
+        → carried (afterPiece x 1024 (scriptOf (leftByPiece b c)) rest) ≡ carried (afterPiece x 1024 (scriptOf b) (handledPiece (c .answer) (c .piece) ++ rest))
+    under-way rest = go called
+      where
+        go : Called b c → carried (afterPiece x 1024 (scriptOf (leftByPiece b c)) rest) ≡ carried (afterPiece x 1024 (scriptOf b) (handledPiece (c .answer) (c .piece) ++ rest))
+        go (printed a r line o) =
+            ap (λ (p : Script). carried (afterPiece x 1024 p rest)) (printed-next a r line)
+            ∙ carried-piece x 1024 (after b c) rest
+            ∙ ap carried (sym (in-pieces x 1024 (scriptOf b) (c .piece) rest))
+            ∙ ap (λ (r : Handling). carried (afterPiece x 1024 (scriptOf b) (handledPiece r (c .piece) ++ rest))) (sym a)
+        go (short a r line o s) = rw (a, r, line)
 
     -- what it prints, before what the others print
     step : (cs : List PieceCall) (end : List ℕ) → printedByPieces cs ++ end ≡ printedBy x 1024 (scriptOf (leftByPiece b c)) (piecesOf cs)
@@ -145,10 +157,10 @@ module _ (x : Slices) (fine : slicesFault x ≡ 0) where
             → (printedPiece (c .answer) (c .out′) ++ printedByPieces cs) ++ end ≡ printedBy x 1024 (scriptOf b) (withPiece (c .answer) (c .piece) (piecesOf cs))
         go (printed a r line o) is =
             let q = after b c in
-            let next : scriptOf (leftByPiece b c) ≡ carried q = rw (a, r, line) (next-call q (b .line) held-16) in
+            let next = printed-next a r line in
             let own : take (length (q .out)) (c .out′) ≡ q .out = rw o (take-append-seam (q .out) (drop (length (q .out)) (c .out))) in
             rw (a, own) (append-assoc (q .out) (printedByPieces cs) end ∙ ap (λ (z : List ℕ). q .out ++ z) (is ∙ ap (λ (p : Script). printedBy x 1024 p (piecesOf cs)) next))
-        go (short a r line s) is = rw a (is ∙ ap (λ (p : Script). printedBy x 1024 p (piecesOf cs)) (rw (a, r, line)))
+        go (short a r line o s) is = rw a (is ∙ ap (λ (p : Script). printedBy x 1024 p (piecesOf cs)) (rw (a, r, line)))
 
   -- what the end prints
   abbrev endOf : PieceLeft → List ℕ
@@ -160,6 +172,12 @@ module _ (x : Slices) (fine : slicesFault x ≡ 0) where
   calls-print b l [] k = ap (λ (n : ℕ). endText x (b .bytes) n (b .progress .changed)) (sym (held-length b l))
   calls-print b l (c ∷ cs) k =
       step b l c (k .0) cs (endOf (leftAfterPieces (leftByPiece b c) cs)) (calls-print (leftByPiece b c) (left-next b l c (k .0)) cs (k .1))
+
+  calls-reach : (b : PieceLeft) → Left b → (cs : List PieceCall) → PieceCalls x b cs
+      → scriptOf (leftAfterPieces b cs) ≡ carried (afterPiece x 1024 (scriptOf b) (textOfPieces cs))
+  unfolding afterPiece
+  calls-reach b l [] k = refl
+  calls-reach b l (c ∷ cs) k = calls-reach (leftByPiece b c) (left-next b l c (k .0)) cs (k .1) ∙ under-way b l c (k .0) (textOfPieces cs)
 
   left-after : (b : PieceLeft) → Left b → (cs : List PieceCall) → PieceCalls x b cs → Left (leftAfterPieces b cs)
   left-after b l [] k = l
@@ -190,7 +208,14 @@ module _ (x : Slices) (fine : slicesFault x ≡ 0) where
 
           unlike : Printed (length (after b c .out)) (progressAfter (after b c)) ≡ Refused n → ⊥
           unlike e = true≢false (ap isPrinted e)
-      go (short a r line s) = (same 8 (sym e ∙ a), s)
+      go (short a r line o s) = (same 8 (sym e ∙ a), s)
+
+  short-here : (b : PieceLeft) → Left b → (c : PieceCall) → KeptPiece x b c → length (c .out) < length (after b c .out)
+      → (c .answer ≡ Refused 8) × (leftByPiece b c ≡ b) × (c .out′ ≡ c .out)
+  short-here b l c k few =
+      let h = rw (lt-ltb (length (c .out)) (length (after b c .out)) few) at (handles b l c k) in
+      let a = handles-answer h in
+      (a, rw (a, h .record-after, h .line-after), h .out-after)
 
 module _ (x : Slices) (fine : slicesFault x ≡ 0) (line : List ℕ) (long : 16 ≤ length line) (cs : List PieceCall) (k : PieceCalls x (freshPiece x line) cs) where
   abbrev fresh : PieceLeft
@@ -198,6 +223,10 @@ module _ (x : Slices) (fine : slicesFault x ≡ 0) (line : List ℕ) (long : 16 
 
   left : Left x fine fresh
   left = record { long = long; few = omega arith; passes = fleet-passes x fine (start x) (start-holds x fine) }
+
+  -- from the start
+  is-reached : scriptOf (leftAfterPieces fresh cs) ≡ carried (afterPiece x 1024 (begun x) (textOfPieces cs))
+  is-reached = calls-reach x fine fresh left cs k
 
   end-prints : (y : Slices) → SameTable y x → (r : Output) (out out′ : List ℕ)
       → (let b = leftAfterPieces fresh cs in let printed = endText y (b .bytes) (b .progress .held) (b .progress .changed) in
@@ -208,7 +237,7 @@ module _ (x : Slices) (fine : slicesFault x ≡ 0) (line : List ℕ) (long : 16 
       let fine′ = same-fine x y fine same in
       let passes = same-fleet (tableOf y) (tableOf x) (same .same) (b .bytes) ∙ left-after x fine fresh left cs k .passes in
       let site = or-none (slicesFault y) (fleetFault (tableOf y) (b .bytes)) fine′ ∙ passes in
-      let none : endCallFault y (b .bytes) printed out ≡ 0 = or-none (siteFault y (b .bytes)) (shortFault (length out) printed) site ∙ rw (le-ltb (length out) (length printed) room) in
+      let none : endCallFault y (b .bytes) printed out ≡ 0 = or-none (shortFault (length out) printed) (siteFault y (b .bytes)) (long-enough (length out) printed room) ∙ site in
       let h = rw none at p in
       rw (prints-answer h, h .out) (take-append-seam printed (drop (length printed) out)) ∙ same-end y x (same .same) fine′ fine 1024 (b .bytes) (b .progress .held) (b .progress .changed)
 
@@ -218,6 +247,12 @@ module _ (x : Slices) (fine : slicesFault x ≡ 0) (line : List ℕ) (long : 16 
         refused-short = λ earlier later c is n e.
             let at = at-place x fine fresh left earlier later c (rw is at k) in
             refused-here x fine (leftAfterPieces fresh earlier) (at .0) c (at .1) n e;
+        short-refused = λ earlier later c is few.
+            let at = at-place x fine fresh left earlier later c (rw is at k) in
+            short-here x fine (leftAfterPieces fresh earlier) (at .0) c (at .1) few;
+        bytes = ap (λ (p : Script). p .bytes) is-reached ∙ reached x 1024 fine (textOfPieces cs) .0;
+        used = ap (λ (p : Script). p .used) is-reached ∙ reached x 1024 fine (textOfPieces cs) .1;
+        changed = ap (λ (p : Script). p .changed) is-reached ∙ reached x 1024 fine (textOfPieces cs) .2;
         prints = λ y same r out out′ p room.
             ap (λ (end : List ℕ). printedByPieces cs ++ end) (end-prints y same r out out′ p room)
             ∙ calls-print x fine fresh left cs k

@@ -1,6 +1,6 @@
 -- Calls of a script, one after the other: `script_piece` for each piece of the text behind a table, and `script_end` at the text's end.
 -- "Every call gets the same legal table, in slices that 8 lets pass, and the record and log as the last call left them": so also the unfinished line and the progress.
-use Prim.Native.Nat.{ℕ, _≤_, _<_}
+use Prim.Native.Nat.{ℕ, _≤_, _<_, _%_}
 use mathlib.Core.Path.{_≡_}
 use mathlib.Core.List.{List, [], _∷_, _++_}
 use lib.ListN.{length, take}
@@ -8,9 +8,9 @@ use Rattle.table.specs.Slices.{Slices}
 use Rattle.output.specs.Output.{Prints}
 use Rattle.output.specs.declared.Output.{Output}
 use Rattle.output.specs.declared.Output.the-variants.{Length, Refused as Unprinted}
-use Rattle.fleet_theory.specs.Fleet.{start}
+use Rattle.fleet_theory.specs.Fleet.{State, start, run, allChanges}
 use Rattle.fleet_calls.specs.Calls.{SameTable}
-use Rattle.script_theory.specs.Script.{afterPiece, endText, scriptText}
+use Rattle.script_theory.specs.Script.{linesFrom, afterPiece, endText, scriptText}
 use Rattle.script_steps.specs.declared.Progress.{Progress}
 use Rattle.script_output.specs.Handling.{before, HandlesPiece, endCallFault}
 use Rattle.script_output.specs.declared.Handling.{Handling}
@@ -56,6 +56,15 @@ abbrev pub leftAfterPieces : PieceLeft → List PieceCall → PieceLeft
 leftAfterPieces b [] = b
 leftAfterPieces b (c ∷ cs) = leftAfterPieces (leftByPiece b c) cs
 
+-- pieces, each with slices of the table of x and an output slice; calls can be made for any of them (`piece-callable`)
+abbrev pub GivenPieces : Slices → List (Slices × List ℕ × List ℕ) → Type 0
+GivenPieces x [] = Unit
+GivenPieces x (g ∷ gs) = SameTable (g .0) x × GivenPieces x gs
+
+abbrev pub piecesGiven : List PieceCall → List (Slices × List ℕ × List ℕ)
+piecesGiven [] = []
+piecesGiven (c ∷ cs) = (c .slices, c .piece, c .out) ∷ piecesGiven cs
+
 -- the text of the pieces that were handled: a refused call has done nothing, and its piece may be given again
 abbrev pub handledPiece : Handling → List ℕ → List ℕ
 handledPiece (Printed length q) piece = piece
@@ -86,10 +95,25 @@ module _ (x : Slices) (line : List ℕ) (cs : List PieceCall) where
   abbrev after : PieceLeft
   after = leftAt cs
 
+  -- the lines of the text of the pieces, and the run over them; a last one without its line feed is refused and changes nothing
+  abbrev lines : List (List ℕ)
+  lines = linesFrom [] (textOfPieces cs)
+
+  abbrev reached : State
+  reached = run x 1024 (start x) lines
+
   pub record ScriptOfCalls : Type 0 where
     -- a call is refused by 8 alone, where its output slice is shorter than what its piece prints
     pub refused-short : (earlier later : List PieceCall) (c : PieceCall) → cs ≡ earlier ++ c ∷ later → (n : ℕ) → c .answer ≡ Refused n
         → (let b = leftAt earlier in (n ≡ 8) × (length (c .out) < length (afterPiece x 1024 (before (b .progress) (b .bytes) (b .line)) (c .piece) .out)))
+    -- and every such call is refused: it leaves what the last one left, and its output slice as it was
+    pub short-refused : (earlier later : List PieceCall) (c : PieceCall) → cs ≡ earlier ++ c ∷ later
+        → (let b = leftAt earlier in length (c .out) < length (afterPiece x 1024 (before (b .progress) (b .bytes) (b .line)) (c .piece) .out)
+        → (c .answer ≡ Refused 8) × (leftByPiece b c ≡ b) × (c .out′ ≡ c .out))
+    -- the record, the used entries and the changes, as far as eight digits print them, are the run's
+    pub bytes : after .bytes ≡ reached .bytes
+    pub used : after .progress .used ≡ length (reached .log)
+    pub changed : after .progress .changed ≡ allChanges x 1024 (start x) lines % 4294967296
     -- in slices y of the table, `script_end` is called on what they left, with room: all print, one behind the other, what the text of the pieces prints whole
     pub prints : (y : Slices) → SameTable y x → (r : Output) (out out′ : List ℕ)
         → (let printed = endText y (after .bytes) (after .progress .held) (after .progress .changed) in

@@ -14,8 +14,7 @@ use Rattle.range.specs.Reply.{refusal, values}
 use Rattle.range.proofs.Bools.{when-none}
 use Rattle.range.proofs.Faults.{or-left, or-right, or-here, or-next}
 use Rattle.range.proofs.Sets.{sets-start}
-use Rattle.output.specs.Output.{shortFault, Prints}
-use Rattle.output.specs.declared.Output.the-variants.{Refused}
+use Rattle.output.specs.Output.{shortFault}
 use Rattle.output.proofs.Printing.{filled-within}
 use Rattle.fleet_theory.specs.Fleet.{fleetFault}
 use Rattle.table.specs.Legal.{lentFault}
@@ -90,10 +89,6 @@ module _ (x : Slices) (p : Script) (piece : List ℕ) (line room state : ℕ) (l
 
   pub fault-short : (n : ℕ) → state ≡ 0 → n ≡ shortFault room printed → n ≡ pieceFault x p piece line room
   fault-short n none e = rw (le-ltb line 16 long) (or-next state (siteFault x (p .bytes)) (shortFault room printed) n f none e)
-
--- refused after nothing was stored
-pub prints-kept : (fault n : ℕ) (printed out out′ : List ℕ) → n ≡ fault → (n ≡ 0 → ⊥) → out′ ≡ out → Prints fault printed (Refused n) out out′
-prints-kept fault n printed out out′ e some same = let f = ne-eqb fault 0 (λ z. some (e ∙ z)) in record { answer = rw f (ap refusal e); out = rw f same }
 
 -- what a piece's call has found, where it found no fault
 pub record Given (x : Slices) (q : Script) (rec line : List ℕ) (held room : ℕ) : Type 0 where

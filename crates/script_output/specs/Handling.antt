@@ -45,12 +45,12 @@ pub record Handles (fault : ℕ) (q : Script) (r : Handling) (rec rec′ line li
   pub line-after : line′ ≡ cond (eqb fault 0) (q .held ++ drop (length (q .held)) line) line
   pub out-after : out′ ≡ printedInto fault (q .out) out
 
--- the faults of a piece and of the text's end
 abbrev pub pieceCallFault : Slices → Progress → List ℕ → List ℕ → List ℕ → List ℕ → ℕ
 pieceCallFault x p piece rec line out = pieceFault x (before p rec line) piece (length line) (length out)
 
+-- the fault of the text's end: the length of what it prints does not depend on the table, so 8 comes first
 abbrev pub endCallFault : Slices → List ℕ → List ℕ → List ℕ → ℕ
-endCallFault x rec printed out = orElse (siteFault x rec) (shortFault (length out) printed)
+endCallFault x rec printed out = orElse (shortFault (length out) printed) (siteFault x rec)
 
 -- "For each it prints the entry .. A refused line prints its refusal and the script goes on." "Its log has 1,024 entries."
 abbrev pub HandlesPiece : Slices → Progress → List ℕ → Handling → List ℕ → List ℕ → List ℕ → List ℕ → List ℕ → List ℕ → Type 0

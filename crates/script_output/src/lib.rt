@@ -168,6 +168,9 @@ pub fn script_end(
         let printed = endText x (now (rec .entry)) (progress .held) (progress .changed) in
         ⌜ Prints (endCallFault x (now (rec .entry)) printed (now (out .entry))) printed r (now (out .entry)) (now (out .exit)) ⌝ }
 {
+    if out.len() < script_steps::pieces::end_length(progress.held) {
+        return Output::Refused(8);
+    }
     let probe_count = probes as usize;
     let link_count = links as usize;
     let fault = fleet_state::checks::state_fault(
@@ -194,9 +197,6 @@ pub fn script_end(
         out,
         0,
     );
-    if out.len() < length {
-        return Output::Refused(8);
-    }
     Output::Length(length)
 }
 

@@ -49,7 +49,7 @@ module _ (x : Slices) (room : ℕ) where
     q = afterByte x room p b
 
     -- the record stays usable
-    pub usable-after : slicesFault x ≡ 0 → fleetFault (tableOf x) (p .bytes) ≡ 0 → fleetFault (tableOf x) (q .bytes) ≡ 0
+    usable-after : slicesFault x ≡ 0 → fleetFault (tableOf x) (p .bytes) ≡ 0 → fleetFault (tableOf x) (q .bytes) ≡ 0
     usable-after fine good = go (decided (eqb b 10))
       where
         l : List ℕ
@@ -86,7 +86,12 @@ module _ (x : Slices) (room : ℕ) where
             let s = short-take l in
             rw e (omega (arith, s .0), s .1)
 
-  -- and so by a piece
+  pub usable-piece : slicesFault x ≡ 0 → (p : Script) (a : List ℕ) → fleetFault (tableOf x) (p .bytes) ≡ 0 → fleetFault (tableOf x) (afterPiece x room p a .bytes) ≡ 0
+  unfolding afterPiece
+  usable-piece fine p [] good = good
+  usable-piece fine p (b ∷ a) good = usable-piece fine (afterByte x room p b) a (usable-after p b fine good)
+
+  -- five bytes for each byte of a piece
   pub piece-short : (p : Script) (a : List ℕ) → (let q = afterPiece x room p a in length (q .out) + 5 * length (q .held) ≤ length (p .out) + 5 * (length (p .held) + length a))
   unfolding afterPiece
   piece-short p [] = omega arith

@@ -198,7 +198,7 @@ pub fn take_piece(
 }
 
 // The length of what the text's end prints.
-fn end_length(held: u32) -> usize
+pub fn end_length(held: u32) -> usize
     ensures { λ r. ⌜ r ≡ cond (eqb held 0) 11 16 ⌝ }
 {
     if held == 0 {

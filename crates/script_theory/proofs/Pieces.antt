@@ -1,5 +1,5 @@
 -- A script handled in pieces prints what it prints handled whole.
-use Prim.Native.Nat.{ℕ, _+_, _%_}
+use Prim.Native.Nat.{ℕ, _+_, _%_, _<_}
 use mathlib.Core.Path.{_≡_, refl, sym, _∙_, ap}
 use mathlib.Core.Logic.{_⊎_, inl, inr}
 use mathlib.Core.Bool.{true, false, cond, true≢false}
@@ -46,6 +46,10 @@ module _ (x : Slices) (room : ℕ) where
   unfolding afterPiece
   piece-onto o p [] = refl
   piece-onto o p (b ∷ a) = ap (λ (q : Script). afterPiece x room q a) (byte-onto o p b) ∙ piece-onto o (afterByte x room p b) a
+
+  -- what was printed before does not bear on what is carried on
+  pub carried-piece : (q : Script) (a : List ℕ) → carried (afterPiece x room (carried q) a) ≡ carried (afterPiece x room q a)
+  carried-piece q a = ap carried (sym (piece-onto (q .out) (carried q) a)) ∙ ap (λ (p : Script). carried (afterPiece x room p a)) (carried-onto q)
 
   -- pieces one after the other print what they print together
   together-prints : (p : Script) (rest : List (List ℕ)) → p .out ≡ []
@@ -111,19 +115,26 @@ module _ (x : Slices) (room : ℕ) where
         let ls = linesFrom h text in
         q .out ++ endText x (q .bytes) (length (q .held)) (q .changed) ≡ o ++ (printed x room s ls ++ lastLine (finished (tableOf x) (run x room s ls .bytes)) (c + allChanges x room s ls))
 
+    -- a line without its line feed is refused by 1 and leaves the state
+    unclosed-fault : (s : State) → HoldsAfter (tableOf x) s → (h : List ℕ) → Unclosed h → faultOf x room s h ≡ 1
+    unclosed-fault s hs h u = let one = fault-is x fine s hs room h in one ∙ rw (unclosed-refused h u)
+
+    refused-stays : (s : State) (l : List ℕ) → faultOf x room s l ≡ 1 → (next x room s l ≡ s) × (allChanges x room s (l ∷ []) ≡ 0)
+    unfolding next
+    refused-stays s l f =
+        let stays : next x room s l ≡ s = rw f in
+        let n = changes-first s l [] in
+        let m = ap (λ (s′ : State). sum (x .links) (linkChanges (s .bytes) (s′ .bytes)) + allChanges x room s′ []) stays in
+        let k = changes-none s in
+        let w = no-changes (s .bytes) (x .links) in
+        (stays, omega arith)
+
     ends : (s : State) → HoldsAfter (tableOf x) s → (c : ℕ) (h o : List ℕ) → Unclosed h → Prints s c h o []
     unfolding afterPiece linesFrom printed run next
     ends s hs c [] o u = let z : c + allChanges x room s [] ≡ c = (let n = changes-none s in omega arith) in rw z
     ends s hs c (a ∷ h) o u =
-        let one = fault-is x fine s hs room (a ∷ h) in
-        let f : faultOf x room s (a ∷ h) ≡ 1 = one ∙ rw (unclosed-refused (a ∷ h) u) in
-        let stays : next x room s (a ∷ h) ≡ s = rw f in
-        let z : c + allChanges x room s ((a ∷ h) ∷ []) ≡ c =
-        (let n = changes-first s (a ∷ h) [] in
-        let m = ap (λ (s′ : State). sum (x .links) (linkChanges (s .bytes) (s′ .bytes)) + allChanges x room s′ []) stays in
-        let k = changes-none s in
-        let w = no-changes (s .bytes) (x .links) in
-        omega arith) in
+        let f = unclosed-fault s hs (a ∷ h) u in
+        let z : c + allChanges x room s ((a ∷ h) ∷ []) ≡ c = (let n = refused-stays s (a ∷ h) f .1 in omega arith) in
         rw (ne-eqb (length (a ∷ h)) 0 (λ e. omega arith), ne-eqb (length (a ∷ take 15 h)) 0 (λ e. omega arith), z, f)
 
     by-text : (s : State) → HoldsAfter (tableOf x) s → (c : ℕ) (h o text : List ℕ) → Unclosed h → Prints s c h o text
@@ -154,6 +165,54 @@ module _ (x : Slices) (room : ℕ) where
             (r ∙ append-assoc o a (printed x room s′ ls ++ done (c′ + allChanges x room s′ ls))
             ∙ ap (λ (z : List ℕ). o ++ z) (sym (append-assoc a (printed x room s′ ls) (done (c′ + allChanges x room s′ ls)))))
         go (inr e) rest = rw (e, take-again h b) (rest s hs c l o (unclosed-next h b u e))
+
+    -- record, used entries and changes, from a state and the bytes of an unfinished line
+    abbrev Reaches : State → ℕ → List ℕ → List ℕ → List ℕ → Type 0
+    Reaches s c h o text =
+        let q = afterPiece x room (beside s c (take 16 h) o) text in
+        let ls = linesFrom h text in
+        (q .bytes ≡ run x room s ls .bytes) × (q .used ≡ length (run x room s ls .log)) × (q .changed ≡ (c + allChanges x room s ls) % 4294967296)
+
+    ends-reached : (s : State) → HoldsAfter (tableOf x) s → (c : ℕ) → c < 4294967296 → (h o : List ℕ) → Unclosed h → Reaches s c h o []
+    unfolding afterPiece linesFrom run
+    ends-reached s hs c small [] o u = let n = changes-none s in (refl, refl, omega arith)
+    ends-reached s hs c small (a ∷ h) o u =
+        let stays = refused-stays s (a ∷ h) (unclosed-fault s hs (a ∷ h) u) in
+        let n = stays .1 in
+        rw (ne-eqb (length (a ∷ h)) 0 (λ e. omega arith)) (ap (λ (s′ : State). s′ .bytes) (sym (stays .0)), ap (λ (s′ : State). length (s′ .log)) (sym (stays .0)), omega arith)
+
+    reached-by : (s : State) → HoldsAfter (tableOf x) s → (c : ℕ) → c < 4294967296 → (h o text : List ℕ) → Unclosed h → Reaches s c h o text
+    unfolding afterPiece linesFrom run
+    reached-by s hs c small h o [] u = ends-reached s hs c small h o u
+    reached-by s hs c small h o (b ∷ bs) u = go (decided (eqb b 10)) (λ s′ hs′ c′ small′ h′ o′ u′. reached-by s′ hs′ c′ small′ h′ o′ bs u′)
+      where
+        l : List ℕ
+        l = h ++ (b ∷ [])
+
+        go : (eqb b 10 ≡ true) ⊎ (eqb b 10 ≡ false)
+            → ((s′ : State) → HoldsAfter (tableOf x) s′ → (c′ : ℕ) → c′ < 4294967296 → (h′ o′ : List ℕ) → Unclosed h′ → Reaches s′ c′ h′ o′ bs)
+            → (let q = afterPiece x room (afterByte x room (beside s c (take 16 h) o) b) bs in
+            let ls = cond (eqb b 10) (l ∷ linesFrom [] bs) (linesFrom l bs) in
+            (q .bytes ≡ run x room s ls .bytes) × (q .used ≡ length (run x room s ls .log)) × (q .changed ≡ (c + allChanges x room s ls) % 4294967296))
+        go (inl e) rest =
+            let s′ = next x room s l in
+            let k : ℕ = sum (x .links) (linkChanges (s .bytes) (s′ .bytes)) in
+            let ls = linesFrom [] bs in
+            let c′ : ℕ = (c + k) % 4294967296 in
+            let r = rest s′ (next-holds x fine s hs room l) c′ (omega arith) [] (o ++ answerLine (answerTo x room s l)) unclosed-none in
+            let n = changes-first s l ls in
+            let m : (c′ + allChanges x room s′ ls) % 4294967296 ≡ (c + allChanges x room s (l ∷ ls)) % 4294967296 = omega arith in
+            rw (e, line-capped (beside s c (take 16 h) o) h b, line-beside s c (take 16 h) o l) (r .0, r .1, r .2 ∙ m)
+        go (inr e) rest = rw (e, take-again h b) (rest s hs c small l o (unclosed-next h b u e))
+
+    -- after a text from the start, record, used entries and changes are those of the run over its lines
+    pub reached : (text : List ℕ) → (let q = afterPiece x room (begun x) text in
+        let ls = linesFrom [] text in
+        (q .bytes ≡ run x room (start x) ls .bytes) × (q .used ≡ length (run x room (start x) ls .log)) × (q .changed ≡ allChanges x room (start x) ls % 4294967296))
+    reached text =
+        let r = reached-by (start x) (start-holds x fine) 0 (omega arith) [] [] text unclosed-none in
+        let z : 0 + allChanges x room (start x) (linesFrom [] text) ≡ allChanges x room (start x) (linesFrom [] text) = omega arith in
+        (r .0, r .1, r .2 ∙ ap (λ (n : ℕ). n % 4294967296) z)
 
     -- a text handled byte by byte from the start, then ended, prints what it prints whole
     pub whole : (text : List ℕ) → (let q = afterPiece x room (begun x) text in q .out ++ endText x (q .bytes) (length (q .held)) (q .changed) ≡ scriptText x room text)

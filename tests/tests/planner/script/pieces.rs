@@ -149,8 +149,9 @@ const OF_RECORD: [Fault<Pieces>; 3] = [
     (|pieces| set_record(pieces, &[1; 12]), 22),
 ];
 
-/// Of any faults together the first decides; too few bytes for an unfinished line or too few
-/// numbers go before all others, too few for the output behind them.
+/// Of any faults together the first decides; too few bytes for an unfinished line, too few
+/// numbers or too few for the end's output go before all others, too few for a piece's output
+/// behind them.
 #[test]
 fn refused_pieces_and_ends() {
     let random = &mut Random::new(77);
@@ -161,7 +162,7 @@ fn refused_pieces_and_ends() {
         let enough = 5 * piece.len();
         let expected = refusals.first().copied();
         assert_eq!(pieces.end(11, random).err(), expected);
-        assert_eq!(pieces.end(10, random).err(), expected.or(Some(8)));
+        assert_eq!(pieces.end(10, random), Err(8));
         let short = pieces.piece(piece, 14, random);
         assert_eq!(short.err(), expected.or(Some(8)));
         let mut fitting = pieces.clone();
