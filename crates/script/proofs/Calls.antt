@@ -1,11 +1,12 @@
 -- No call of the program is refused: its slices hold what is printed.
-use Prim.Native.Nat.{ℕ, _+_, _*_, _≤_}
+use Prim.Native.Nat.{ℕ, _+_, _*_, _≤_, _<_}
 use mathlib.Core.Path.{_≡_, sym, _∙_, ap}
 use mathlib.Core.List.{List}
 use native.Mathlib.Omega.{arith}
+use native.Mathlib.Decide.{decLe}
 use lib.Dec.{eqb}
 use lib.ListN.{length}
-use borrow.Author.Tests.{le-ltb}
+use borrow.Author.Tests.{le-ltb, lt-ltb}
 use Rattle.range.proofs.Faults.{or-none}
 use Rattle.fleet_theory.specs.Fleet.{fleetFault}
 use Rattle.table.specs.Slices.{Slices, tableOf, slicesFault}
@@ -21,7 +22,7 @@ use Rattle.script_output.specs.Handling.{before, siteFault, handlingReply, Hand
 use Rattle.script_output.specs.declared.Handling.{Handling}
 use Rattle.script_output.specs.declared.Handling.the-variants.{Printed, Refused}
 use Rattle.script_output.proofs.Answers.{handles-answer}
-use Rattle.script.proofs.Turns.{before-few}
+use Rattle.script.proofs.Chain.{before-few}
 
 module _ (x : Slices) (fine : slicesFault x ≡ 0) (rec : List ℕ) (good : fleetFault (tableOf x) rec ≡ 0) where
   pub piece-passes : (p : Progress) (line piece out : List ℕ) → 16 ≤ length line → 5 * (16 + length piece) ≤ length out → pieceCallFault x p piece rec line out ≡ 0
@@ -38,25 +39,35 @@ module _ (x : Slices) (fine : slicesFault x ≡ 0) (rec : List ℕ) (good : flee
       or-none (shortFault (length out) (endText x rec held changed)) (siteFault x rec) room-none ∙ rw (fine, good)
 
 -- handled, and not refused
-module _ (fault : ℕ) (q : Script) (r : Handling) (rec rec′ line line′ out out′ : List ℕ) (none : fault ≡ 0) (h : Handles fault q r rec rec′ line line′ out out′) where
-  pub handled-passes : (n : ℕ) (p : Progress) → r ≡ Printed n p → Handles 0 q (Printed n p) rec rec′ line line′ out out′
-  handled-passes n p e =
-      let k = rw none at h in
-      record { answer = ap handlingReply (sym e) ∙ k .answer; record-after = k .record-after; line-after = k .line-after; out-after = k .out-after }
+module _ (fault : ℕ) (q : Script) (r : Handling) (rec rec′ line line′ out out′ : List ℕ) (h : Handles fault q r rec rec′ line line′ out out′) where
+  pub handled-as : (n : ℕ) (p : Progress) → r ≡ Printed n p → Handles fault q (Printed n p) rec rec′ line line′ out out′
+  handled-as n p e = record { answer = ap handlingReply (sym e) ∙ h .answer; record-after = h .record-after; line-after = h .line-after; out-after = h .out-after }
 
-  pub never-unhandled : (n : ℕ) → r ≡ Refused n → ⊥
-  never-unhandled n e =
+  pub never-unhandled : fault ≡ 0 → (n : ℕ) → r ≡ Refused n → ⊥
+  never-unhandled none n e =
       let k = rw none at (handles-answer h) in
       let z : _≡_ {A = ℕ} 0 1 = cc in
       omega arith
 
 -- printed, and not refused
-module _ (fault : ℕ) (printed : List ℕ) (r : Output) (out out′ : List ℕ) (none : fault ≡ 0) (h : Prints fault printed r out out′) where
-  pub printed-passes : (n : ℕ) → r ≡ output.Length n → Prints 0 printed (output.Length n) out out′
-  printed-passes n e = let k = rw none at h in record { answer = ap outputReply (sym e) ∙ k .answer; out = k .out }
+module _ (fault : ℕ) (printed : List ℕ) (r : Output) (out out′ : List ℕ) (h : Prints fault printed r out out′) where
+  pub printed-as : (n : ℕ) → r ≡ output.Length n → Prints fault printed (output.Length n) out out′
+  printed-as n e = record { answer = ap outputReply (sym e) ∙ h .answer; out = h .out }
 
-  pub never-refused : (n : ℕ) → r ≡ output.Refused n → ⊥
-  never-refused n e =
+  pub never-refused : fault ≡ 0 → (n : ℕ) → r ≡ output.Refused n → ⊥
+  never-refused none n e =
       let k = rw none at (prints-answer h) in
       let z : _≡_ {A = ℕ} 0 1 = cc in
       omega arith
+
+-- where the end has printed, its slice holds what it prints
+pub end-holds : (x : Slices) (rec printed : List ℕ) (n : ℕ) (out out′ : List ℕ) → Prints (endCallFault x rec printed out) printed (output.Length n) out out′ → length printed ≤ length out
+end-holds x rec printed n out out′ h = go (decLe (length printed) (length out))
+  where
+    go : Dec (length printed ≤ length out) → length printed ≤ length out
+    go (yes l) = l
+    go (no d) =
+        let short : length out < length printed = omega arith in
+        let k = rw (lt-ltb (length out) (length printed) short) at (prints-answer h) in
+        let z : _≡_ {A = ℕ} 0 1 = cc in
+        absurd (omega arith)

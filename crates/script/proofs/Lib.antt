@@ -1,5 +1,5 @@
 pub mod Table
 pub mod Reading
-pub mod Turns
+pub mod Chain
 pub mod Calls
 pub mod Writing

@@ -1,6 +1,6 @@
 -- The table that the program reads is that of the input, and the rest of the input is its script.
 use Prim.Native.Nat.{ℕ, _≤_}
-use mathlib.Core.Path.{_≡_, refl, sym, _∙_, ap}
+use mathlib.Core.Path.{_≡_, sym, _∙_, ap}
 use mathlib.Core.Bool.{true}
 use mathlib.Core.List.{List}
 use native.Mathlib.Omega.{arith}
@@ -13,14 +13,10 @@ use Rattle.range.proofs.Faults.{or-left}
 use Rattle.table.specs.Table.{Table}
 use Rattle.table.specs.Text.{ofText, headFault, bodyFault, textEnd, textFault}
 use Rattle.table.specs.Same.{Same}
-use Rattle.table.specs.Slices.{slicesFault}
-use Rattle.table_read.specs.declared.Reading.the-variants.{Table as Read}
 use Rattle.table_laws.proofs.Long.{own-text, own-table, own-head, own-end}
 use Rattle.table_laws.proofs.Round.{text-within}
-use Rattle.table_laws.proofs.Reading.{blank-found}
 use Rattle.output.specs.Output.{refusalLine}
 use Rattle.script_theory.specs.Script.{inSlices, scriptText, scriptOutput}
-use Rattle.script_output.proofs.Reading.{read-fine}
 use Rattle.script.specs.Reading.{tableText}
 
 -- tables with the same entries stand in the same slices
@@ -35,15 +31,6 @@ same-slices t u e =
       stored-same (t .high) (u .high) (t .links) (replicate 2048 0) (e .high),
       stored-same (t .cost) (u .cost) (t .links) (replicate 2048 0) (e .cost),
     )
-
--- the slices of a table that is read pass
-pub text-fine : (s : List ℕ) → textFault 256 2048 true s ≡ 0 → slicesFault (inSlices (ofText s)) ≡ 0
-text-fine s z =
-    let t = ofText s in
-    let x = inSlices t in
-    let none = blank-found true s ∙ z in
-    read-fine s (Read (t .number) (t .probes) (t .links) (textEnd t)) (x .needs) (x .lows) (x .highs) (x .costs)
-    (record { answer = rw none; lent = record { need = rw none; low = rw none; high = rw none; cost = rw none } }) (t .number) (t .probes) (t .links) (textEnd t) refl
 
 head-none : (s : List ℕ) → textFault 256 2048 true s ≡ 0 → headFault 256 2048 s ≡ 0
 unfolding textFault

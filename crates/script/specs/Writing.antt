@@ -2,66 +2,57 @@
 use Prim.Native.Nat.{ℕ, _≤_}
 use mathlib.Core.Path.{_≡_}
 use mathlib.Core.Bool.{true}
-use mathlib.Core.List.{List, [], _∷_, _++_}
+use mathlib.Core.List.{List, _++_}
 use lib.ListN.{length, take, replicate}
-use Rattle.table.specs.Slices.{Slices, slicesOf}
+use Rattle.table.specs.Slices.{Slices}
 use Rattle.table_read.specs.Reading.{Lent, lentOf, ReadsTable}
 use Rattle.table_read.specs.declared.Reading.the-variants.{Table, Refused}
-use Rattle.fleet_theory.specs.Fleet.{start}
-use Rattle.output.specs.Output.{refusalLine}
-use Rattle.standard_io.specs.Writing.{Wrote}
-use Rattle.script_theory.specs.Script.{afterPiece, endText, together, scriptOutput}
-use Rattle.script_steps.specs.declared.Progress.{Progress}
-use Rattle.script_output.specs.Handling.{before, Handles}
-use Rattle.script_output.specs.declared.Handling.the-variants.{Printed}
+use Rattle.table_laws.specs.Functions.{lentSlices}
+use Rattle.output.specs.Output.{refusalLine, Prints}
+use Rattle.output.specs.declared.Output.the-variants.{Length}
+use Rattle.script_theory.specs.Script.{endText, scriptOutput}
+use Rattle.script_output.specs.Handling.{endCallFault}
+use Rattle.script_calls.specs.Calls.{PieceCall, PieceLeft, freshPiece, PieceCalls, leftAfterPieces, textOfPieces, printedByPieces}
 use Rattle.script.specs.Reading.{tableText}
+use Rattle.script.specs.declared.Stop.{Stop}
+use Rattle.script.specs.declared.Stop.the-variants as stop
+use Rattle.script.specs.declared.Ending.{Ending}
+use Rattle.script.specs.declared.Ending.the-variants as ending
 
--- a piece that was read and handled: progress, record and unfinished line after it, and what was written of the output slice
-pub record Turn : Type 0 where
-  pub piece : List ℕ
-  pub progress : Progress
-  pub bytes : List ℕ
+-- pieces were handled by calls of `script_piece`, one after the other from a fresh fleet on, and these left b
+pub record HandledBy (x : Slices) (line : List ℕ) (b : PieceLeft) : Type 0 where
+  pub calls : List PieceCall
+  pub kept : PieceCalls x (freshPiece x line) calls
+  pub left : leftAfterPieces (freshPiece x line) calls ≡ b
+
+-- at the input's end, record, line and progress are as the calls left them
+abbrev pub HandlesReads : Slices → Stop → List ℕ → List ℕ → List ℕ → Type 0
+HandlesReads x (stop.AtEnd p) line rec′ line′ = HandledBy x line (record { progress = p; bytes = rec′; line = line′ })
+HandlesReads x stop.Failed line rec′ line′ = Unit {0}
+
+-- calls of `script_piece`, then the promise of `script_end` on what they left: it has printed n bytes into `out′`
+pub record Answered (x : Slices) (n : ℕ) (out′ : List ℕ) : Type 0 where
   pub line : List ℕ
-  pub written : List ℕ
-
--- `handle` promises this of a turn, and its answers are written
-pub record Took (x : Slices) (p : Progress) (rec line : List ℕ) (t : Turn) : Type 0 where
+  pub long : 16 ≤ length line
+  pub calls : List PieceCall
+  pub kept : PieceCalls x (freshPiece x line) calls
   pub out : List ℕ
-  pub out′ : List ℕ
-  pub handled : Handles 0 (afterPiece x 1024 (before p rec line) (t .piece)) (Printed (length (t .written)) (t .progress)) rec (t .bytes) line (t .line) out out′
-  pub answers : t .written ≡ take (length (t .written)) out′
+  pub end : (let b = leftAfterPieces (freshPiece x line) calls in
+      let printed = endText x (b .bytes) (b .progress .held) (b .progress .changed) in
+      Prints (endCallFault x (b .bytes) printed out) printed (Length n) out out′)
 
--- one turn after the other: each gets progress, record and line as the last left them
-unfoldable pub Turns : Slices → Progress → List ℕ → List ℕ → List Turn → Type 0
-Turns x p rec line [] = Unit {0}
-Turns x p rec line (t ∷ ts) = Took x p rec line t × Turns x (t .progress) (t .bytes) (t .line) ts
-
-unfoldable pub readBy : List Turn → List (List ℕ)
-readBy [] = []
-readBy (t ∷ ts) = t .piece ∷ readBy ts
-
-unfoldable pub writtenBy : List Turn → List ℕ
-writtenBy [] = []
-writtenBy (t ∷ ts) = t .written ++ writtenBy ts
-
--- what is written behind the turns: what `end` printed of the record and the progress that they left
-unfoldable pub Ends : Slices → Progress → List ℕ → List Turn → List ℕ → Type 0
-Ends x p rec [] last = Wrote (endText x rec (p .held) (p .changed)) last
-Ends x p rec (t ∷ ts) last = Ends x (t .progress) (t .bytes) ts last
-
-abbrev pub noProgress : Progress
-noProgress = record { used = 0; held = 0; changed = 0 }
+abbrev pub AnswersScript : Slices → Ending → List ℕ → Type 0
+AnswersScript x (ending.Printed n) out′ = Answered x n out′
+AnswersScript x ending.Failed out′ = Unit {0}
 
 -- the program's slices before the table is read into them
 abbrev pub zeroSlices : Lent
 zeroSlices = lentOf (replicate 256 0) (replicate 2048 0) (replicate 2048 0) (replicate 2048 0)
 
 -- "The script program reads a table and, after its closing line, script lines .. For each it prints the entry"; "a refused table prints only that"
--- The table is read from its own bytes into slices b, by `read_table_prefix`; then the turns, whose pieces are the rest of the input, and the end write all that it prints.
+-- The table is read from its own bytes into slices b, by `read_table_prefix`; then the calls, whose pieces are the rest of the input, and the end print all that the input prints.
 pub record ScriptWrites (input : List ℕ) : Type 0 where
-  pub refused : (n : ℕ) (b : Lent) (written : List ℕ) → ReadsTable 256 2048 true (tableText input) (Refused n) zeroSlices b → Wrote (refusalLine n) written
-      → written ≡ scriptOutput input
+  pub refused : (n : ℕ) (b : Lent) → ReadsTable 256 2048 true (tableText input) (Refused n) zeroSlices b → refusalLine n ≡ scriptOutput input
   pub writes : (number probes links rest : ℕ) (b : Lent) → ReadsTable 256 2048 true (tableText input) (Table number probes links rest) zeroSlices b
-      → (let x = slicesOf number probes links (b .needs) (b .lows) (b .highs) (b .costs) in
-      (line : List ℕ) (ts : List Turn) (last : List ℕ) → 16 ≤ length line → Turns x noProgress (start x .bytes) line ts → Ends x noProgress (start x .bytes) ts last
-      → tableText input ++ together (readBy ts) ≡ input → writtenBy ts ++ last ≡ scriptOutput input)
+      → (n : ℕ) (out′ : List ℕ) (a : Answered (lentSlices number probes links b) n out′) → tableText input ++ textOfPieces (a .calls) ≡ input
+      → printedByPieces (a .calls) ++ take n out′ ≡ scriptOutput input

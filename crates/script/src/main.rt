@@ -12,13 +12,14 @@ ghost use mathlib.Core.Path.{_≡_};
 ghost use Prim.Native.Nat.{_+_, _*_, _≤_};
 ghost use lib.ListN.{length};
 ghost use Rattle.table.specs.Slices.{slicesOf, tableOf, slicesFault};
-ghost use Rattle.fleet_theory.specs.Fleet.{fleetFault};
+ghost use Rattle.fleet_theory.specs.Fleet.{fleetFault, start};
 ghost use Rattle.output.specs.Output.{refusalLine, Prints};
 ghost use Rattle.output.specs.declared.Output.the-variants.{Length};
-ghost use Rattle.script_theory.specs.Script.{afterPiece, endText};
-ghost use Rattle.script_output.specs.Handling.{before, Handles};
+ghost use Rattle.script_theory.specs.Script.{endText};
+ghost use Rattle.script_output.specs.Handling.{HandlesPiece, endCallFault};
 ghost use Rattle.script_output.specs.declared.Handling.the-variants.{Printed};
 ghost use Rattle.script.specs.Reading.{tableEnd, ReadsTableText};
+ghost use Rattle.script.specs.Writing.{HandlesReads, AnswersScript};
 
 const UNREAD: [u8; 36] = *b"script: the input could not be read\n";
 
@@ -28,6 +29,18 @@ const UNWRITTEN: [u8; 40] = *b"script: the output could not be written\n";
 struct Answers {
     length: usize,
     progress: Progress,
+}
+
+// Why the reading stopped: at the input's end, with the progress made, or by a read or write that failed.
+enum Stop {
+    AtEnd(Progress),
+    Failed,
+}
+
+// What is left to write: what the text's end printed; nothing where a read or write failed.
+enum Ending {
+    Printed(usize),
+    Failed,
 }
 
 // Where the table's text ends, by the header's line.
@@ -75,7 +88,7 @@ fn handle(
     requires { let x = slicesOf number probes links (now needs) (now lows) (now highs) (now costs) in
         ⌜ (slicesFault x ≡ 0) × (fleetFault (tableOf x) (now rec) ≡ 0) × (16 ≤ length (now line)) × (5 * (16 + length (now piece)) ≤ length (now out)) ⌝ }
     ensures { λ r. let x = slicesOf number probes links (now (needs .entry)) (now (lows .entry)) (now (highs .entry)) (now (costs .entry)) in
-        ⌜ Handles 0 (afterPiece x 1024 (before progress (now (rec .entry)) (now (line .entry))) (now (piece .entry))) (Printed (r .length) (r .progress))
+        ⌜ HandlesPiece x progress (now (piece .entry)) (Printed (r .length) (r .progress))
         (now (rec .entry)) (now (rec .exit)) (now (line .entry)) (now (line .exit)) (now (out .entry)) (now (out .exit)) ⌝ }
 {
     let handled = script_output::script_piece(
@@ -123,7 +136,8 @@ fn end(
     requires { let x = slicesOf number probes links (now needs) (now lows) (now highs) (now costs) in
         ⌜ (slicesFault x ≡ 0) × (fleetFault (tableOf x) (now rec) ≡ 0) × (16 ≤ length (now out)) ⌝ }
     ensures { λ r. let x = slicesOf number probes links (now (needs .entry)) (now (lows .entry)) (now (highs .entry)) (now (costs .entry)) in
-        ⌜ Prints 0 (endText x (now (rec .entry)) (progress .held) (progress .changed)) (Length r) (now (out .entry)) (now (out .exit)) ⌝ }
+        let printed = endText x (now (rec .entry)) (progress .held) (progress .changed) in
+        ⌜ Prints (endCallFault x (now (rec .entry)) printed (now (out .entry))) printed (Length r) (now (out .entry)) (now (out .exit)) ⌝ }
 {
     let printed = script_output::script_end(
         number,
@@ -173,14 +187,16 @@ fn handle_all(
     lows: &[u16],
     highs: &[u16],
     costs: &[u16],
+    rec: &mut [u8],
+    line: &mut [u8],
     text: &mut [u8],
-)
-    requires { ⌜ (slicesFault (slicesOf number probes links (now needs) (now lows) (now highs) (now costs)) ≡ 0) × (length (now text) ≤ 4096) ⌝ }
+    out: &mut [u8],
+) -> Stop
+    requires { let x = slicesOf number probes links (now needs) (now lows) (now highs) (now costs) in
+        ⌜ (slicesFault x ≡ 0) × (now rec ≡ start x .bytes) × (16 ≤ length (now line)) × (length (now text) ≤ 4096) × (20560 ≤ length (now out)) ⌝ }
+    ensures { λ r. let x = slicesOf number probes links (now (needs .entry)) (now (lows .entry)) (now (highs .entry)) (now (costs .entry)) in
+        ⌜ HandlesReads x r (now (line .entry)) (now (rec .exit)) (now (line .exit)) ⌝ }
 {
-    let mut bytes = [0u8; 8192];
-    let rec = &mut bytes[..4 * (links as usize)];
-    let mut line = [0u8; 16];
-    let mut out = [0u8; 20560];
     let mut progress = Progress {
         used: 0,
         held: 0,
@@ -200,81 +216,131 @@ fn handle_all(
                     highs,
                     costs,
                     rec,
-                    &mut line,
+                    line,
                     progress,
                     &text[..n],
-                    &mut out,
+                    out,
                 );
                 progress = answers.progress;
                 let length = answers.length;
                 if !write(&out[..length]) {
-                    return;
+                    return Stop::Failed;
                 }
             }
-            Got::End => {
-                let length = end(
-                    number,
-                    probes,
-                    links,
-                    needs,
-                    lows,
-                    highs,
-                    costs,
-                    rec,
-                    progress,
-                    &mut out,
-                );
-                write(&out[..length]);
-                return;
-            }
+            Got::End => return Stop::AtEnd(progress),
             Got::Failed => {
                 standard_io::write_error(&UNREAD);
-                return;
+                return Stop::Failed;
             }
         }
         turns -= 1;
+    }
+    Stop::Failed
+}
+
+// Answers the script behind a table and prints its end.
+fn answer_script(
+    number: u16,
+    probes: u16,
+    links: u16,
+    needs: &[u16],
+    lows: &[u16],
+    highs: &[u16],
+    costs: &[u16],
+    text: &mut [u8],
+    out: &mut [u8],
+) -> Ending
+    requires { ⌜ (slicesFault (slicesOf number probes links (now needs) (now lows) (now highs) (now costs)) ≡ 0)
+        × (length (now text) ≤ 4096) × (20560 ≤ length (now out)) ⌝ }
+    ensures { λ r. let x = slicesOf number probes links (now (needs .entry)) (now (lows .entry)) (now (highs .entry)) (now (costs .entry)) in
+        ⌜ AnswersScript x r (now (out .exit)) ⌝ }
+{
+    let mut bytes = [0u8; 8192];
+    let rec = &mut bytes[..4 * (links as usize)];
+    let mut line = [0u8; 16];
+    let stop = handle_all(
+        number,
+        probes,
+        links,
+        needs,
+        lows,
+        highs,
+        costs,
+        rec,
+        &mut line,
+        text,
+        out,
+    );
+    match stop {
+        Stop::AtEnd(progress) => Ending::Printed(end(
+            number,
+            probes,
+            links,
+            needs,
+            lows,
+            highs,
+            costs,
+            rec,
+            progress,
+            out,
+        )),
+        Stop::Failed => Ending::Failed,
+    }
+}
+
+// Reads a table from the first n bytes; answers the script behind it, or refuses it.
+fn answer_text(text: &mut [u8], n: usize)
+    requires { ⌜ (n ≤ length (now text)) × (4096 ≤ length (now text)) ⌝ }
+{
+    let mut needs = [0u16; 256];
+    let mut lows = [0u16; 2048];
+    let mut highs = [0u16; 2048];
+    let mut costs = [0u16; 2048];
+    let mut out = [0u8; 20560];
+    let read = table_read::read_table_prefix(
+        &text[..n],
+        &mut needs,
+        &mut lows,
+        &mut highs,
+        &mut costs,
+    );
+    match read {
+        table_read::Reading::Table {
+            number,
+            probes,
+            links,
+            rest: _,
+        } => {
+            let ending = answer_script(
+                number,
+                probes,
+                links,
+                &needs,
+                &lows,
+                &highs,
+                &costs,
+                &mut text[..4096],
+                &mut out,
+            );
+            match ending {
+                Ending::Printed(length) => {
+                    write(&out[..length]);
+                }
+                Ending::Failed => {}
+            }
+        }
+        table_read::Reading::Refused(fault) => {
+            let length = refuse(fault, &mut out);
+            write(&out[..length]);
+        }
     }
 }
 
 fn main() {
     let mut text = [0u8; 27922];
-    let mut needs = [0u16; 256];
-    let mut lows = [0u16; 2048];
-    let mut highs = [0u16; 2048];
-    let mut costs = [0u16; 2048];
-    let mut out = [0u8; 5];
     let filled = read_table_text(&mut text);
     match filled {
-        Filling::Until(n) => {
-            let read = table_read::read_table_prefix(
-                &text[..n],
-                &mut needs,
-                &mut lows,
-                &mut highs,
-                &mut costs,
-            );
-            match read {
-                table_read::Reading::Table {
-                    number,
-                    probes,
-                    links,
-                    rest: _,
-                } => handle_all(
-                    number,
-                    probes,
-                    links,
-                    &needs,
-                    &lows,
-                    &highs,
-                    &costs,
-                    &mut text[..4096],
-                ),
-                table_read::Reading::Refused(fault) => {
-                    let length = refuse(fault, &mut out);
-                    write(&out[..length]);
-                }
-            }
-        }
+        Filling::Until(n) => answer_text(&mut text, n),
         Filling::Failed => {
             standard_io::write_error(&UNREAD);
         }

@@ -2,13 +2,13 @@
 use Prim.Native.Nat.{ℕ, _≤_, _<_}
 use mathlib.Core.Path.{_≡_, refl, sym, _∙_, ap}
 use mathlib.Core.Logic.{_⊎_, inl, inr}
-use mathlib.Core.Bool.{Bool, true, false, cond, true≢false}
+use mathlib.Core.Bool.{Bool, true, false, true≢false}
 use mathlib.Core.List.{List, [], _∷_, _++_, append-assoc}
 use native.Mathlib.Omega.{arith}
-use lib.Dec.{ltb, eqb}
+use lib.Dec.{ltb}
 use lib.ListN.{length, take, drop, length-append, length-drop}
 use lib.Seq.{take-take, take-append-seam, length-take-le}
-use borrow.Author.Tests.{le-ltb, lt-ltb, ltb-true, ltb-false}
+use borrow.Author.Tests.{le-ltb, lt-ltb, ltb-true}
 use Rattle.range.specs.First.{orElse}
 use Rattle.range.proofs.Bools.{decided}
 use Rattle.range.proofs.Faults.{or-none}
@@ -55,6 +55,15 @@ pieces-together : (cs : List PieceCall) → together (piecesOf cs) ≡ textOfPie
 unfolding together
 pieces-together [] = refl
 pieces-together (c ∷ cs) = with-together (c .answer) (c .piece) (piecesOf cs) ∙ ap (λ (rest : List ℕ). handledPiece (c .answer) (c .piece) ++ rest) (pieces-together cs)
+
+-- one call more, behind the others
+pub calls-more : (x : Slices) (b : PieceLeft) (cs : List PieceCall) (c : PieceCall) → PieceCalls x b cs → KeptPiece x (leftAfterPieces b cs) c → PieceCalls x b (cs ++ (c ∷ []))
+calls-more x b [] c k last = (last, tt)
+calls-more x b (d ∷ cs) c k last = (k .0, calls-more x (leftByPiece b d) cs c (k .1) last)
+
+pub left-more : (b : PieceLeft) (cs : List PieceCall) (c : PieceCall) → leftAfterPieces b (cs ++ (c ∷ [])) ≡ leftByPiece (leftAfterPieces b cs) c
+left-more b [] c = refl
+left-more b (d ∷ cs) c = left-more (leftByPiece b d) cs c
 
 module _ (x : Slices) (fine : slicesFault x ≡ 0) where
   -- what a call leaves, for the next one
@@ -224,6 +233,9 @@ module _ (x : Slices) (fine : slicesFault x ≡ 0) (line : List ℕ) (long : 16 
   left : Left x fine fresh
   left = record { long = long; few = omega arith; passes = fleet-passes x fine (start x) (start-holds x fine) }
 
+  pub passes-after : fleetFault (tableOf x) (leftAfterPieces fresh cs .bytes) ≡ 0
+  passes-after = left-after x fine fresh left cs k .passes
+
   -- from the start
   is-reached : scriptOf (leftAfterPieces fresh cs) ≡ carried (afterPiece x 1024 (begun x) (textOfPieces cs))
   is-reached = calls-reach x fine fresh left cs k
@@ -235,7 +247,7 @@ module _ (x : Slices) (fine : slicesFault x ≡ 0) (line : List ℕ) (long : 16 
       let b = leftAfterPieces fresh cs in
       let printed = endText y (b .bytes) (b .progress .held) (b .progress .changed) in
       let fine′ = same-fine x y fine same in
-      let passes = same-fleet (tableOf y) (tableOf x) (same .same) (b .bytes) ∙ left-after x fine fresh left cs k .passes in
+      let passes = same-fleet (tableOf y) (tableOf x) (same .same) (b .bytes) ∙ passes-after in
       let site = or-none (slicesFault y) (fleetFault (tableOf y) (b .bytes)) fine′ ∙ passes in
       let none : endCallFault y (b .bytes) printed out ≡ 0 = or-none (shortFault (length out) printed) (siteFault y (b .bytes)) (long-enough (length out) printed room) ∙ site in
       let h = rw none at p in

@@ -3,7 +3,7 @@ use borrow.Author.Needs.{needs}
 use Rattle.script.proofs.end.Statement.{statement}
 use Rattle.script.proofs.end.Tie as tie
 use Rattle.table.specs.Slices.{slicesOf}
-use Rattle.script.proofs.Calls.{end-passes, printed-passes, never-refused}
+use Rattle.script.proofs.Calls.{end-passes, printed-as, never-refused}
 
 script-end-requires : tie.Need-script-end-requires
 script-end-requires c κs = search needs
@@ -21,10 +21,7 @@ returns : tie.Need-returns
 returns c =
     let at-script-end = c .before .before .before .before .before in
     let s = at-script-end .before .before .before .before .before .before .before .before in
-    let a = s .args in
-    let x = slicesOf (a .number) (a .probes) (a .links) (a .needs .now) (a .lows .now) (a .highs .now) (a .costs .now) in
-    let none = end-passes x (s .pre .0) (a .rec .now) (s .pre .1) (a .progress .held) (a .progress .changed) (a .out .now) (s .pre .2) in
-    printed-passes _ _ _ (a .out .now) _ none (at-script-end .script-end .ensures) _ (c .before .printed .given .1)
+    printed-as _ _ _ (s .args .out .now) _ (at-script-end .script-end .ensures) _ (c .before .printed .given .1)
 
 same-length-2 : tie.Need-same-length-2
 same-length-2 c = search needs
@@ -36,7 +33,7 @@ returns-2 c =
     let a = s .args in
     let x = slicesOf (a .number) (a .probes) (a .links) (a .needs .now) (a .lows .now) (a .highs .now) (a .costs .now) in
     let none = end-passes x (s .pre .0) (a .rec .now) (s .pre .1) (a .progress .held) (a .progress .changed) (a .out .now) (s .pre .2) in
-    absurd (never-refused _ _ _ (a .out .now) _ none (at-script-end .script-end .ensures) _ (c .enum-told .given .1))
+    absurd (never-refused _ _ _ (a .out .now) _ (at-script-end .script-end .ensures) none _ (c .enum-told .given .1))
 
 pub end-spec : {M : Type 1} → statement M
 end-spec =

@@ -3,7 +3,7 @@ use borrow.Author.Needs.{needs}
 use Rattle.script.proofs.handle.Statement.{statement}
 use Rattle.script.proofs.handle.Tie as tie
 use Rattle.table.specs.Slices.{slicesOf}
-use Rattle.script.proofs.Calls.{piece-passes, handled-passes, never-unhandled}
+use Rattle.script.proofs.Calls.{piece-passes, handled-as, never-unhandled}
 
 script-piece-requires : tie.Need-script-piece-requires
 script-piece-requires c κs = search needs
@@ -28,9 +28,7 @@ returns c =
     let at-script-piece = c .before .before .before .before .before .before .before .before .before in
     let s = at-script-piece .before .before .before .before .before .before .before .before .before .before .before .before in
     let a = s .args in
-    let x = slicesOf (a .number) (a .probes) (a .links) (a .needs .now) (a .lows .now) (a .highs .now) (a .costs .now) in
-    let none = piece-passes x (s .pre .0) (a .rec .now) (s .pre .1) (a .progress) (a .line .now) (a .piece .now) (a .out .now) (s .pre .2) (s .pre .3) in
-    handled-passes _ _ _ (a .rec .now) _ (a .line .now) _ (a .out .now) _ none (at-script-piece .script-piece .ensures) _ _ (c .before .handled .given .1)
+    handled-as _ _ _ (a .rec .now) _ (a .line .now) _ (a .out .now) _ (at-script-piece .script-piece .ensures) _ _ (c .before .handled .given .1)
 
 same-length-4 : tie.Need-same-length-4
 same-length-4 c = search needs
@@ -48,7 +46,7 @@ returns-2 c =
     let a = s .args in
     let x = slicesOf (a .number) (a .probes) (a .links) (a .needs .now) (a .lows .now) (a .highs .now) (a .costs .now) in
     let none = piece-passes x (s .pre .0) (a .rec .now) (s .pre .1) (a .progress) (a .line .now) (a .piece .now) (a .out .now) (s .pre .2) (s .pre .3) in
-    absurd (never-unhandled _ _ _ (a .rec .now) _ (a .line .now) _ (a .out .now) _ none (at-script-piece .script-piece .ensures) _ (c .enum-told .given .1))
+    absurd (never-unhandled _ _ _ (a .rec .now) _ (a .line .now) _ (a .out .now) _ (at-script-piece .script-piece .ensures) none _ (c .enum-told .given .1))
 
 pub handle-spec : {M : Type 1} → statement M
 handle-spec =

@@ -5,7 +5,7 @@ use Rattle.script.proofs.refuse.Tie as tie
 use lib.ListN.{length}
 use Rattle.output.specs.Output.{refusalLine}
 use Rattle.output.proofs.Printing.{long-enough}
-use Rattle.script.proofs.Calls.{printed-passes, never-refused}
+use Rattle.script.proofs.Calls.{printed-as, never-refused}
 
 print-refusal-requires : tie.Need-print-refusal-requires
 print-refusal-requires c κs = search needs
@@ -24,7 +24,8 @@ returns c =
     let at-print-refusal = c .before .before .before .before .before in
     let s = at-print-refusal .before .before .before in
     let a = s .args in
-    printed-passes _ _ _ (a .out .now) _ (long-enough (length (a .out .now)) (refusalLine (a .fault)) (s .pre)) (at-print-refusal .print-refusal .ensures) _ (c .before .printed .given .1)
+    let none = long-enough (length (a .out .now)) (refusalLine (a .fault)) (s .pre) in
+    rw none at (printed-as _ _ _ (a .out .now) _ (at-print-refusal .print-refusal .ensures) _ (c .before .printed .given .1))
 
 same-length-2 : tie.Need-same-length-2
 same-length-2 c = search needs
@@ -34,7 +35,7 @@ returns-2 c =
     let at-print-refusal = c .before .before .before .before in
     let s = at-print-refusal .before .before .before in
     let a = s .args in
-    absurd (never-refused _ _ _ (a .out .now) _ (long-enough (length (a .out .now)) (refusalLine (a .fault)) (s .pre)) (at-print-refusal .print-refusal .ensures) _ (c .enum-told .given .1))
+    absurd (never-refused _ _ _ (a .out .now) _ (at-print-refusal .print-refusal .ensures) (long-enough (length (a .out .now)) (refusalLine (a .fault)) (s .pre)) _ (c .enum-told .given .1))
 
 pub refuse-spec : {M : Type 1} → statement M
 refuse-spec =

@@ -9,7 +9,7 @@ use mathlib.Core.List.{[]}
 use native.Mathlib.Omega.{arith}
 use lib.Dec.{eqb}
 use lib.ListN.{length}
-use Rattle.range.proofs.Faults.{or-left, or-right, or-here, or-next, or-none}
+use Rattle.range.proofs.Faults.{or-left, or-right, or-here, or-none}
 use Rattle.table.proofs.Slices.{legal-slices}
 use Rattle.table.specs.Slices.{tableOf, slicesFault, slicesOf}
 use Rattle.fleet_theory.specs.Fleet.{fleetFault}

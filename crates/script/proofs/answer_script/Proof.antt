@@ -1,0 +1,107 @@
+-- `script::answer_script` meets its contract.
+use borrow.Author.Needs.{needs}
+use Rattle.script.proofs.answer_script.Statement.{statement}
+use Rattle.script.proofs.answer_script.Tie as tie
+use Prim.Native.Nat.{ℕ}
+use mathlib.Core.Path.{sym}
+use mathlib.Core.List.{List}
+use native.Mathlib.Omega.{arith}
+use lib.ListN.{replicate}
+use lib.Seq.{length-take-le}
+use Rattle.table.specs.Slices.{slicesOf}
+use Rattle.script_steps.proofs.Ends.{links-within, zeros-are}
+use Rattle.script.proofs.Chain.{handled-usable, answered-by}
+
+mul-bytes : tie.Need-mul-bytes
+mul-bytes c = search needs
+
+array-borrow-prefix-bytes : tie.Need-array-borrow-prefix-bytes
+array-borrow-prefix-bytes c =
+    let s = c .before .before .before .before .before .before in
+    let a = s .args in
+    let x = slicesOf (a .number) (a .probes) (a .links) (a .needs .now) (a .lows .now) (a .highs .now) (a .costs .now) in
+    let m = links-within x (s .pre .0) in
+    omega arith
+
+slice-aggregate-rec : tie.Need-slice-aggregate-rec
+slice-aggregate-rec c =
+    let s = c .before .before .before .before .before .before .before in
+    let a = s .args in
+    let x = slicesOf (a .number) (a .probes) (a .links) (a .needs .now) (a .lows .now) (a .highs .now) (a .costs .now) in
+    let m = links-within x (s .pre .0) in
+    sym (length-take-le _ _ (omega arith))
+
+slice-aggregate-handle-all : tie.Need-slice-aggregate-handle-all
+slice-aggregate-handle-all c = search needs
+
+handle-all-requires : tie.Need-handle-all-requires
+handle-all-requires c κs =
+    let s = c .before .before .before .before .before .before .before .before .before .before .before in
+    let a = s .args in
+    let x = slicesOf (a .number) (a .probes) (a .links) (a .needs .now) (a .lows .now) (a .highs .now) (a .costs .now) in
+    let m = links-within x (s .pre .0) in
+    (s .pre .0, zeros-are x (s .pre .0) (omega arith), search needs, s .pre .1, s .pre .2)
+
+enum-known-stop : tie.Need-enum-known-stop
+enum-known-stop c = search needs
+
+end-requires : tie.Need-end-requires
+end-requires c κs =
+    let at-stop = c .before .before .before in
+    let at-handle-all = at-stop .before .before .before .before .before .before .before .before .before in
+    let s = at-handle-all .before .before .before .before .before .before .before .before .before .before .before .before in
+    let a = s .args in
+    let x = slicesOf (a .number) (a .probes) (a .links) (a .needs .now) (a .lows .now) (a .highs .now) (a .costs .now) in
+    let k = at-handle-all .handle-all in
+    let w = rw (at-stop .stop .given .1) at (k .ensures) in
+    let zeros : List ℕ = replicate 16 0 in
+    (s .pre .0, handled-usable x (s .pre .0) zeros _ _ _ (omega arith) w, omega (arith, s .pre .2, k .kept .1 .1 .1 .1 .1 .1 .1 .1 .1 .1 .0))
+
+enum-told : tie.Need-enum-told
+enum-told c = search needs
+
+same-length : tie.Need-same-length
+same-length c = search needs
+
+same-length-2 : tie.Need-same-length-2
+same-length-2 c = search needs
+
+returns : tie.Need-returns
+returns c =
+    let at-end = c .before .before .before in
+    let at-stop = at-end .before .before .before .before in
+    let at-handle-all = at-stop .before .before .before .before .before .before .before .before .before in
+    let s = at-handle-all .before .before .before .before .before .before .before .before .before .before .before .before in
+    let a = s .args in
+    let x = slicesOf (a .number) (a .probes) (a .links) (a .needs .now) (a .lows .now) (a .highs .now) (a .costs .now) in
+    let w = rw (at-stop .stop .given .1) at (at-handle-all .handle-all .ensures) in
+    let zeros : List ℕ = replicate 16 0 in
+    answered-by x zeros (omega arith) _ _ _ _ _ _ w (at-end .end .ensures)
+
+same-length-3 : tie.Need-same-length-3
+same-length-3 c = search needs
+
+same-length-4 : tie.Need-same-length-4
+same-length-4 c = search needs
+
+returns-2 : tie.Need-returns-2
+returns-2 c = search needs
+
+pub answer-script-spec : {M : Type 1} → statement M
+answer-script-spec =
+    tie.close
+    (tie.spec
+    mul-bytes
+    array-borrow-prefix-bytes
+    slice-aggregate-rec
+    slice-aggregate-handle-all
+    handle-all-requires
+    enum-known-stop
+    end-requires
+    enum-told
+    same-length
+    same-length-2
+    returns
+    same-length-3
+    same-length-4
+    returns-2)
