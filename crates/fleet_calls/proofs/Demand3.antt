@@ -25,18 +25,10 @@ use Rattle.fleet.proofs.Calls.{finishing-is, handled-next}
 use Rattle.fleet_calls.specs.Calls.{SameTable, LoggedCall, LoggedLeft, freshLogged, leftByLogged, KeptLogged, LoggedCalls, leftAfterLogged, loggedLines}
 use Rattle.fleet_calls.specs.Demand3.{recordsOver, LeadsToFinish, Demand3}
 use Rattle.fleet_calls.proofs.Same.{same-own, same-fleet, same-finished}
-use Rattle.fleet_calls.proofs.Promises.{same-fine, fine-room}
+use Rattle.fleet_calls.proofs.Promises.{same-fine, same-self}
 use Rattle.fleet_calls.proofs.Calls.{FollowsRun, calls-through, fresh-through, kept-logs, logged-run}
 use Rattle.fleet_calls.proofs.Callable.{madeLogged, made-kept}
 use Rattle.fleet_calls.proofs.Places.{calls-before, leads-by-calls, changes-of-run, moments-of-run, left-follows, answer-of-run}
-
--- slices that pass have their own table
-same-self : (x : Slices) → slicesFault x ≡ 0 → SameTable x x
-same-self x fine =
-    record {
-      same = record { number = refl; probes = refl; links = refl; need = λ v l. refl; low = λ i l. refl; high = λ i l. refl; cost = λ i l. refl };
-      passes-8 = fine-room x fine;
-    }
 
 -- calls with these lines, in the slices of x
 made-lines : (x : Slices) → slicesFault x ≡ 0 → (b : LoggedLeft) (ls : List (List ℕ)) → (ds : List LoggedCall) × (loggedLines ds ≡ ls) × LoggedCalls x b ds

@@ -38,8 +38,16 @@ pub same-fine : (x y : Slices) → slicesFault x ≡ 0 → SameTable y x → sli
 same-fine x y fine k =
     or-none (slicesRoomFault y) (tableFault 256 2048 (tableOf y)) (k .passes-8) ∙ same-fault (tableOf y) (tableOf x) (k .same) 256 2048 ∙ slices-legal x fine
 
-pub fine-room : (x : Slices) → slicesFault x ≡ 0 → slicesRoomFault x ≡ 0
+fine-room : (x : Slices) → slicesFault x ≡ 0 → slicesRoomFault x ≡ 0
 fine-room x fine = or-left (slicesRoomFault x) (tableFault 256 2048 (tableOf x)) fine
+
+-- slices that pass have their own table
+pub same-self : (x : Slices) → slicesFault x ≡ 0 → SameTable x x
+same-self x fine =
+    record {
+      same = record { number = refl; probes = refl; links = refl; need = λ v l. refl; low = λ i l. refl; high = λ i l. refl; cost = λ i l. refl };
+      passes-8 = fine-room x fine;
+    }
 
 -- two values that are taken where a fault is 0, and are equal there
 where-none : {A : Type 0} (n m : ℕ) (a b c : A) → n ≡ m → (n ≡ 0 → a ≡ b) → cond (eqb n 0) a c ≡ cond (eqb m 0) b c

@@ -17,7 +17,7 @@ use Rattle.script_steps.proofs.PieceLaws.{short-take}
 use Rattle.script_output.specs.Handling.{before, HandlesPiece, endCallFault}
 use Rattle.script_output.specs.declared.Handling.the-variants.{Printed}
 use Rattle.script_calls.specs.Calls.{PieceCall, PieceLeft, freshPiece, leftByPiece, KeptPiece}
-use Rattle.script_calls.proofs.Same.{same-self}
+use Rattle.fleet_calls.proofs.Promises.{same-self}
 use Rattle.script_calls.proofs.Calls.{calls-more, left-more, passes-after}
 use Rattle.script.specs.Writing.{HandledBy, Answered}
 

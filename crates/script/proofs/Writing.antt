@@ -15,7 +15,7 @@ use Rattle.output.specs.declared.Output.the-variants.{Length}
 use Rattle.table_laws.specs.Functions.{lentSlices}
 use Rattle.script_theory.specs.Script.{inSlices, endText, scriptText, scriptOutput}
 use Rattle.script_calls.specs.Calls.{freshPiece, leftAfterPieces, textOfPieces}
-use Rattle.script_calls.proofs.Same.{same-self}
+use Rattle.fleet_calls.proofs.Promises.{same-self}
 use Rattle.script_calls.proofs.Calls.{script-of-calls}
 use Rattle.script.specs.Reading.{tableText}
 use Rattle.script_output.proofs.Reading.{slices-are, read-fine}

@@ -6,14 +6,11 @@ use mathlib.Core.List.{List, [], _∷_, _++_}
 use lib.Dec.{eqb}
 use lib.ListN.{take}
 use Rattle.range.specs.Sum.{sum}
-use Rattle.range.proofs.Faults.{or-left}
-use Rattle.table.specs.Legal.{tableFault}
 use Rattle.table.specs.Same.{Same}
 use Rattle.table.specs.Slices.{Slices, tableOf, slicesFault}
 use Rattle.output.specs.Output.{refusalLine}
 use Rattle.wake_log.specs.declared.Answer.{Answer}
 use Rattle.fleet_theory.specs.Fleet.{eventFault, linkChanges}
-use Rattle.fleet_calls.specs.Calls.{slicesRoomFault, SameTable}
 use Rattle.fleet_calls.proofs.Same.{same-finished}
 use Rattle.fleet_calls.proofs.Promises.{same-event-fault, same-answer, same-record-after}
 use Rattle.script_theory.specs.Script.{answerLine, lastLine, Script, answered, bytesAfter, afterLine, afterByte, afterPiece, endText}
@@ -50,11 +47,3 @@ module _ (x y : Slices) (same : Same (tableOf x) (tableOf y)) (fine : slicesFaul
 
   pub same-end : (bytes : List ℕ) (held changed : ℕ) → endText x bytes held changed ≡ endText y bytes held changed
   same-end bytes held changed = ap (λ done. cond (eqb held 0) [] (refusalLine 1) ++ lastLine done changed) (same-finished (tableOf x) (tableOf y) same bytes)
-
--- slices that pass have their own table
-pub same-self : (x : Slices) → slicesFault x ≡ 0 → SameTable x x
-same-self x fine =
-    record {
-      same = record { number = refl; probes = refl; links = refl; need = λ v l. refl; low = λ i l. refl; high = λ i l. refl; cost = λ i l. refl };
-      passes-8 = or-left (slicesRoomFault x) (tableFault 256 2048 (tableOf x)) fine;
-    }
