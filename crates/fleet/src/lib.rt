@@ -41,11 +41,14 @@ pub fn event(
     if fault != 0 {
         return wake_log::Answer::Refused(fault);
     }
+    let mut degrees = [0u16; 256];
+    table::degrees::count_degrees(&mut degrees, links as usize, lows, highs);
     steps::handle_line(
         number,
         probes as usize,
         links as usize,
         needs,
+        &degrees,
         lows,
         highs,
         costs,

@@ -1,9 +1,11 @@
 // The steps of a fleet. Its public functions and the script program call these, within the bounds that they ask.
 ghost use mathlib.Core.Path.{_≡_};
-ghost use Prim.Native.Nat.{_*_};
+ghost use mathlib.Core.List.{[]};
+ghost use Prim.Native.Nat.{_*_, _<_, _≤_};
 ghost use lib.ListN.{length};
 ghost use Rattle.table.specs.Table.{ofSlices};
 ghost use Rattle.table_links.specs.OrderedLinks.{OrderedLinks};
+ghost use Rattle.table_links.specs.Own.{Degrees};
 ghost use Rattle.probe_rules.specs.Rules.{befalls, entryOf};
 ghost use Rattle.probe_rules.specs.Within.{EventWithin};
 ghost use Rattle.fleet_theory.specs.Fleet.{own, fleetFault, alterFleet};
@@ -15,13 +17,15 @@ fn apply(
     event: probe_rules::Event,
     links: usize,
     needs: &[u16],
+    degrees: &[u16],
     lows: &[u16],
     highs: &[u16],
     costs: &[u16],
     probe: u16,
     rec: &mut [u8],
 ) -> wake_log::Entry
-    requires { ⌜ OrderedLinks links (now lows) (now highs) (now costs) × (length (now rec) ≡ 4 * links) × EventWithin links event ⌝ }
+    requires { ⌜ OrderedLinks links (now lows) (now highs) (now costs) × (length (now rec) ≡ 4 * links) × EventWithin links event
+        × (probe < length (now degrees)) × Degrees (ofSlices 0 0 links [] (now lows) (now highs) []) (now degrees) ⌝ }
     ensures { λ r. let t = ofSlices 0 0 links (now (needs .entry)) (now (lows .entry)) (now (highs .entry)) (now (costs .entry)) in
         let o = befalls t probe event (own t probe (now (rec .entry))) in
         ⌜ (r ≡ entryOf t probe o) × (now (rec .exit) ≡ alterFleet t probe o (now (rec .entry))) ⌝ }
@@ -31,6 +35,7 @@ fn apply(
         rec,
         links,
         needs,
+        degrees,
         lows,
         highs,
         costs,
@@ -40,12 +45,13 @@ fn apply(
     probe_rules::outcomes::entry_of(outcome, lows, highs, probe)
 }
 
-// A line to a fleet whose table and record are already checked. `used` of the log's `room` entries are used.
+// A line to a fleet whose table and record are already checked, and each probe's links counted. `used` of the log's `room` entries are used.
 pub fn handle_line(
     number: u16,
     probes: usize,
     links: usize,
     needs: &[u16],
+    degrees: &[u16],
     lows: &[u16],
     highs: &[u16],
     costs: &[u16],
@@ -55,7 +61,7 @@ pub fn handle_line(
     room: usize,
 ) -> wake_log::Answer
     requires { let x = slicesOf number probes links (now needs) (now lows) (now highs) (now costs) in
-        ⌜ (slicesFault x ≡ 0) × (fleetFault (tableOf x) (now rec) ≡ 0) ⌝ }
+        ⌜ (slicesFault x ≡ 0) × (fleetFault (tableOf x) (now rec) ≡ 0) × (probes ≤ length (now degrees)) × Degrees (tableOf x) (now degrees) ⌝ }
     ensures { λ r. let x = slicesOf number probes links (now (needs .entry)) (now (lows .entry)) (now (highs .entry)) (now (costs .entry)) in
         ⌜ Handled x used room (now (line .entry)) r (now (rec .entry)) (now (rec .exit)) ⌝ }
 {
@@ -73,6 +79,16 @@ pub fn handle_line(
         return wake_log::Answer::Refused(26);
     }
     let to = probe_frame::frame_line::field(line, 10, 4);
-    let e = apply(event, links, needs, lows, highs, costs, to as u16, rec);
+    let e = apply(
+        event,
+        links,
+        needs,
+        degrees,
+        lows,
+        highs,
+        costs,
+        to as u16,
+        rec,
+    );
     wake_log::Answer::Logged(e)
 }

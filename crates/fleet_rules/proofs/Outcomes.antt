@@ -4,20 +4,21 @@ use mathlib.Core.Path.{_≡_, sym, _∙_, ap}
 use mathlib.Core.Bool.{true, false}
 use mathlib.Core.List.{List}
 use borrow.Author.Tests.{lt-ltb, le-ltb}
-use Rattle.table.specs.Table.{Table, spare, dearer, cheaper}
+use Rattle.table.specs.Table.{Table, degree, spare, dearer, cheaper}
 use Rattle.probe_record.specs.Record.{outbound, inbound, standing, held, dearestUntried, cheapestHeld}
 use Rattle.probe_rules.specs.declared.Outcome.the-variants.{Opened, NothingToOpen, Taken, TakenDisplacing, Refused}
 use Rattle.probe_rules.specs.Rules.{opening, offer}
 use Rattle.fleet_rules.specs.Survey.{Surveyed}
 use Rattle.fleet_rules.specs.declared.Survey.{Survey}
 
-module _ (t : Table) (p : ℕ) (e : List ℕ) (s : Survey) (n : ℕ) (k : n ≡ s .degree - t .need p) where
+-- the spare, by the probe's number of links
+pub spare-counted : (t : Table) (p d n : ℕ) → d ≡ degree t p → n ≡ d - t .need p → spare t p ≡ n
+spare-counted t p d n e k = ap (λ (x : ℕ). x - t .need p) (sym e) ∙ sym k
+
+module _ (t : Table) (p : ℕ) (e : List ℕ) (s : Survey) (n : ℕ) (spare-is : spare t p ≡ n) where
   module _ (g : Surveyed t p (outbound e) (dearer t) 0 (t .links) s) where
     standing-is : standing t p e ≡ s .count
     standing-is = sym (g .ones)
-
-    spare-is : spare t p ≡ n
-    spare-is = ap (λ (d : ℕ). d - t .need p) (sym (g .links)) ∙ sym k
 
     dearest-is : dearestUntried t p e ≡ s .best
     dearest-is = sym (g .chosen)
@@ -35,20 +36,17 @@ module _ (t : Table) (p : ℕ) (e : List ℕ) (s : Survey) (n : ℕ) (k : n ≡ 
     held-is : held t p e ≡ s .count
     held-is = sym (g .ones)
 
-    room-is : spare t p ≡ n
-    room-is = ap (λ (d : ℕ). d - t .need p) (sym (g .links)) ∙ sym k
-
     cheapest-is : cheapestHeld t p e ≡ s .best
     cheapest-is = sym (g .chosen)
 
     pub offer-taken : s .count < n → Taken i ≡ offer t p e i
-    offer-taken l = rw (held-is, room-is, lt-ltb (s .count) n l)
+    offer-taken l = rw (held-is, spare-is, lt-ltb (s .count) n l)
 
     pub offer-none : n ≤ s .count → t .links ≤ s .best → Refused i ≡ offer t p e i
-    offer-none l m = rw (held-is, room-is, cheapest-is, le-ltb (s .count) n l, le-ltb (s .best) (t .links) m)
+    offer-none l m = rw (held-is, spare-is, cheapest-is, le-ltb (s .count) n l, le-ltb (s .best) (t .links) m)
 
     pub offer-displacing : n ≤ s .count → s .best < t .links → dearer t i (s .best) ≡ true → TakenDisplacing i (s .best) ≡ offer t p e i
-    offer-displacing l m d = rw (held-is, room-is, cheapest-is, le-ltb (s .count) n l, lt-ltb (s .best) (t .links) m, d)
+    offer-displacing l m d = rw (held-is, spare-is, cheapest-is, le-ltb (s .count) n l, lt-ltb (s .best) (t .links) m, d)
 
     pub offer-refused : n ≤ s .count → s .best < t .links → dearer t i (s .best) ≡ false → Refused i ≡ offer t p e i
-    offer-refused l m d = rw (held-is, room-is, cheapest-is, le-ltb (s .count) n l, lt-ltb (s .best) (t .links) m, d)
+    offer-refused l m d = rw (held-is, spare-is, cheapest-is, le-ltb (s .count) n l, lt-ltb (s .best) (t .links) m, d)

@@ -1,4 +1,4 @@
-// What befalls an end of a fleet, found in one pass over the links. The fleet calls `decide`, within the bounds that it asks.
+// What befalls an end of a fleet, found in one pass over its own links. The fleet calls `decide`, within the bounds that it asks.
 use super::Survey;
 use probe_rules::Event;
 use probe_rules::Outcome;
@@ -10,6 +10,7 @@ ghost use lib.Dec.{leb, eqb};
 ghost use lib.ListN.{length};
 ghost use Rattle.table.specs.Table.{item, ofSlices, dearerByPlace};
 ghost use Rattle.table_links.specs.OrderedLinks.{OrderedLinks};
+ghost use Rattle.table_links.specs.Own.{Degrees};
 ghost use Rattle.probe_record.specs.Record.{sideByte, sideBetter};
 ghost use Rattle.probe_rules.specs.Rules.{opening, offer, befalls};
 ghost use Rattle.probe_rules.specs.Within.{EventWithin};
@@ -52,7 +53,7 @@ fn best_with(value: u8, byte: u8, costs: &[u16], links: usize, k: usize, best: u
     best
 }
 
-// The end's links; with value 0 its offers standing and its dearest untried link, with value 1 its offers held and the cheapest of them.
+// With value 0 the end's offers standing and its dearest untried link, with value 1 its offers held and the cheapest of them.
 fn survey(
     value: u8,
     rec: &[u8],
@@ -67,23 +68,17 @@ fn survey(
         ⌜ Surveyed t probe (sideByte value (own t probe (now (rec .entry)))) (sideBetter value t) value links r ⌝ }
 {
     let mut s = Survey {
-        degree: 0,
         count: 0,
         best: links,
     };
-    let mut i = 0;
+    let mut i = table_links::ends::next_own(links, lows, highs, probe, 0);
     while i < links {
-        let k = i;
-        i += 1;
-        if !table_links::ends::touches(lows, highs, probe, k) {
-            continue;
-        }
-        let byte = side_byte(value, rec, lows, highs, probe, k);
+        let byte = side_byte(value, rec, lows, highs, probe, i);
         s = Survey {
-            degree: s.degree + 1,
             count: s.count + one_if(byte),
-            best: best_with(value, byte, costs, links, k, s.best),
+            best: best_with(value, byte, costs, links, i, s.best),
         };
+        i = table_links::ends::next_own(links, lows, highs, probe, i + 1);
     }
     s
 }
@@ -92,17 +87,19 @@ fn decide_opening(
     rec: &[u8],
     links: usize,
     needs: &[u16],
+    degrees: &[u16],
     lows: &[u16],
     highs: &[u16],
     costs: &[u16],
     probe: usize,
 ) -> Outcome
-    requires { ⌜ OrderedLinks links (now lows) (now highs) (now costs) × (length (now rec) ≡ 4 * links) ⌝ }
+    requires { ⌜ OrderedLinks links (now lows) (now highs) (now costs) × (length (now rec) ≡ 4 * links)
+        × (probe < length (now degrees)) × Degrees (ofSlices 0 0 links [] (now lows) (now highs) []) (now degrees) ⌝ }
     ensures { λ r. let t = ofSlices 0 0 links (now (needs .entry)) (now (lows .entry)) (now (highs .entry)) (now (costs .entry)) in
         ⌜ r ≡ opening t probe (own t probe (now (rec .entry))) ⌝ }
 {
     let s = survey(0, rec, links, lows, highs, costs, probe);
-    if table_links::spares::spare_of(s.degree, needs, probe) <= s.count {
+    if table_links::spares::spare_at(degrees, needs, probe) <= s.count {
         return Outcome::NothingToOpen;
     }
     if links <= s.best {
@@ -115,18 +112,20 @@ fn decide_offer(
     rec: &[u8],
     links: usize,
     needs: &[u16],
+    degrees: &[u16],
     lows: &[u16],
     highs: &[u16],
     costs: &[u16],
     probe: usize,
     i: usize,
 ) -> Outcome
-    requires { ⌜ OrderedLinks links (now lows) (now highs) (now costs) × (length (now rec) ≡ 4 * links) × (i < links) ⌝ }
+    requires { ⌜ OrderedLinks links (now lows) (now highs) (now costs) × (length (now rec) ≡ 4 * links) × (i < links)
+        × (probe < length (now degrees)) × Degrees (ofSlices 0 0 links [] (now lows) (now highs) []) (now degrees) ⌝ }
     ensures { λ r. let t = ofSlices 0 0 links (now (needs .entry)) (now (lows .entry)) (now (highs .entry)) (now (costs .entry)) in
         ⌜ r ≡ offer t probe (own t probe (now (rec .entry))) i ⌝ }
 {
     let s = survey(1, rec, links, lows, highs, costs, probe);
-    if s.count < table_links::spares::spare_of(s.degree, needs, probe) {
+    if s.count < table_links::spares::spare_at(degrees, needs, probe) {
         return Outcome::Taken(i);
     }
     let displaced = s.best;
@@ -145,22 +144,24 @@ pub fn decide(
     rec: &[u8],
     links: usize,
     needs: &[u16],
+    degrees: &[u16],
     lows: &[u16],
     highs: &[u16],
     costs: &[u16],
     probe: usize,
 ) -> Outcome
-    requires { ⌜ OrderedLinks links (now lows) (now highs) (now costs) × (length (now rec) ≡ 4 * links) × EventWithin links event ⌝ }
+    requires { ⌜ OrderedLinks links (now lows) (now highs) (now costs) × (length (now rec) ≡ 4 * links) × EventWithin links event
+        × (probe < length (now degrees)) × Degrees (ofSlices 0 0 links [] (now lows) (now highs) []) (now degrees) ⌝ }
     ensures { λ r. let t = ofSlices 0 0 links (now (needs .entry)) (now (lows .entry)) (now (highs .entry)) (now (costs .entry)) in
         ⌜ r ≡ befalls t probe event (own t probe (now (rec .entry))) ⌝ }
 {
     match event {
-        Event::Opening => decide_opening(rec, links, needs, lows, highs, costs, probe),
+        Event::Opening => decide_opening(rec, links, needs, degrees, lows, highs, costs, probe),
         Event::Offer(i) => {
             if super::own_bytes::in_byte(rec, lows, highs, probe, i) != 0 {
                 return Outcome::NoChange(i);
             }
-            decide_offer(rec, links, needs, lows, highs, costs, probe, i)
+            decide_offer(rec, links, needs, degrees, lows, highs, costs, probe, i)
         }
         Event::Refusal(i) => {
             if super::own_bytes::out_byte(rec, lows, highs, probe, i) == 2 {

@@ -39,7 +39,7 @@ fn over_spare_fault(
 {
     let mut v = 0;
     while v < probes {
-        let spare = super::counts::spare_at(degrees, needs, v);
+        let spare = table_links::spares::spare_at(degrees, needs, v);
         if spare < standing[v] as usize {
             return 22;
         }

@@ -44,11 +44,3 @@ pub fn count_bytes(
         i += 1;
     }
 }
-
-// A probe's spare, by its counted links.
-pub fn spare_at(degrees: &[u16], needs: &[u16], v: usize) -> usize
-    requires { ⌜ v < length (now degrees) ⌝ }
-    ensures { λ r. ⌜ r ≡ item (now (degrees .entry)) v - item (now (needs .entry)) v ⌝ }
-{
-    table_links::spares::spare_of(table::numbers::wide(degrees[v]), needs, v)
-}

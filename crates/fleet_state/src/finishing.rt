@@ -58,7 +58,7 @@ fn none_opens(
     while v < probes {
         let w = v;
         v += 1;
-        if super::counts::spare_at(degrees, needs, w) <= standing[w] as usize {
+        if table_links::spares::spare_at(degrees, needs, w) <= standing[w] as usize {
             continue;
         }
         if untried[w] == 0 {

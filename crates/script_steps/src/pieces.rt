@@ -10,6 +10,7 @@ ghost use lib.ListN.{length, take};
 ghost use lib.Seq.{sets};
 ghost use Rattle.fleet_theory.specs.Fleet.{fleetFault};
 ghost use Rattle.table.specs.Slices.{slicesFault, tableOf, slicesOf};
+ghost use Rattle.table_links.specs.Own.{Degrees};
 ghost use Rattle.fleet_state.specs.Within.{LegalWithoutCosts};
 ghost use Rattle.fleet.specs.Answers.{changesBy};
 ghost use Rattle.output.specs.Output.{shortFault, Prints};
@@ -55,6 +56,7 @@ fn answer_line(
     probes: usize,
     links: usize,
     needs: &[u16],
+    degrees: &[u16],
     lows: &[u16],
     highs: &[u16],
     costs: &[u16],
@@ -64,7 +66,7 @@ fn answer_line(
     place: Place,
 ) -> Place
     requires { let x = slicesOf number probes links (now needs) (now lows) (now highs) (now costs) in
-        ⌜ (slicesFault x ≡ 0) × (fleetFault (tableOf x) (now rec) ≡ 0) × (place .at ≤ 9223372036854775808) ⌝ }
+        ⌜ (slicesFault x ≡ 0) × (fleetFault (tableOf x) (now rec) ≡ 0) × (probes ≤ length (now degrees)) × Degrees (tableOf x) (now degrees) × (place .at ≤ 9223372036854775808) ⌝ }
     ensures { λ r. let x = slicesOf number probes links (now (needs .entry)) (now (lows .entry)) (now (highs .entry)) (now (costs .entry)) in
         ⌜ Buffered (afterLine x 1024 (underWay (place .progress) (now (rec .entry)) []) (now (line .entry)))
         (place .at) r (now (rec .exit)) [] (now (out .entry)) (now (out .exit)) ⌝ }
@@ -75,6 +77,7 @@ fn answer_line(
         probes,
         links,
         needs,
+        degrees,
         lows,
         highs,
         costs,
@@ -109,6 +112,7 @@ fn take_byte(
     probes: usize,
     links: usize,
     needs: &[u16],
+    degrees: &[u16],
     lows: &[u16],
     highs: &[u16],
     costs: &[u16],
@@ -119,7 +123,7 @@ fn take_byte(
     place: Place,
 ) -> Place
     requires { let x = slicesOf number probes links (now needs) (now lows) (now highs) (now costs) in
-        ⌜ (slicesFault x ≡ 0) × (fleetFault (tableOf x) (now rec) ≡ 0)
+        ⌜ (slicesFault x ≡ 0) × (fleetFault (tableOf x) (now rec) ≡ 0) × (probes ≤ length (now degrees)) × Degrees (tableOf x) (now degrees)
         × (place .progress .held ≤ 16) × (length (now line) ≡ 17) × (place .at ≤ 9223372036854775808) ⌝ }
     ensures { λ r. let x = slicesOf number probes links (now (needs .entry)) (now (lows .entry)) (now (highs .entry)) (now (costs .entry)) in
         ⌜ Buffered (afterByte x 1024 (underWay (place .progress) (now (rec .entry)) (now (line .entry))) byte)
@@ -134,6 +138,7 @@ fn take_byte(
             probes,
             links,
             needs,
+            degrees,
             lows,
             highs,
             costs,
@@ -175,6 +180,8 @@ pub fn take_piece(
         ⌜ Buffered (afterPiece x 1024 (underWay progress (now (rec .entry)) (now (line .entry))) (now (piece .entry)))
         0 r (now (rec .exit)) (now (line .exit)) (now (out .entry)) (now (out .exit)) × (r .progress .held ≤ 16) ⌝ }
 {
+    let mut degrees = [0u16; 256];
+    table::degrees::count_degrees(&mut degrees, links, lows, highs);
     let mut place = Place { at: 0, progress };
     let mut i = 0;
     while i < piece.len() {
@@ -183,6 +190,7 @@ pub fn take_piece(
             probes,
             links,
             needs,
+            &degrees,
             lows,
             highs,
             costs,

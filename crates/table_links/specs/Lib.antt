@@ -1,2 +1,3 @@
 pub mod RisingSlices
 pub mod OrderedLinks
+pub mod Own

@@ -2,7 +2,7 @@
 use super::ends::touches;
 ghost use mathlib.Core.Path.{_≡_};
 ghost use mathlib.Core.List.{[]};
-ghost use Prim.Native.Nat.{_-_, _≤_};
+ghost use Prim.Native.Nat.{_-_, _<_, _≤_};
 ghost use lib.ListN.{length};
 ghost use Rattle.table.specs.Table.{item, ofSlices, degree, spare};
 
@@ -36,6 +36,14 @@ pub fn spare_of(degree: usize, needs: &[u16], probe: usize) -> usize
         return 0;
     }
     degree - need
+}
+
+// A probe's spare, by each probe's number of links.
+pub fn spare_at(degrees: &[u16], needs: &[u16], v: usize) -> usize
+    requires { ⌜ v < length (now degrees) ⌝ }
+    ensures { λ r. ⌜ r ≡ item (now (degrees .entry)) v - item (now (needs .entry)) v ⌝ }
+{
+    spare_of(table::numbers::wide(degrees[v]), needs, v)
 }
 
 // A probe's spare.

@@ -17,7 +17,7 @@ decide-requires c κs = search needs
 
 alter-fleet-requires : tie.Need-alter-fleet-requires
 alter-fleet-requires c κs =
-    let at-start = c .before .before .before .before .before .before .before .before in
+    let at-start = c .before .before .before .before .before .before .before .before .before in
     let a = at-start .args in
     let p = at-start .pre in
     let t : Table = ofSlices 0 0 (a .links) (a .needs .now) (a .lows .now) (a .highs .now) (a .costs .now) in
@@ -29,7 +29,7 @@ alter-fleet-requires c κs =
 entry-of-requires : tie.Need-entry-of-requires
 entry-of-requires c κs =
     let at-decide = c .before .before .before .before in
-    let at-start = at-decide .before .before .before .before .before .before .before in
+    let at-start = at-decide .before .before .before .before .before .before .before .before in
     let a = at-start .args in
     let p = at-start .pre in
     let t : Table = ofSlices 0 0 (a .links) (a .needs .now) (a .lows .now) (a .highs .now) (a .costs .now) in
@@ -44,7 +44,7 @@ returns : tie.Need-returns
 returns c =
     let at-alter-fleet = c .before .before .before in
     let at-decide = at-alter-fleet .before .before in
-    let at-start = at-decide .before .before .before .before .before .before .before in
+    let at-start = at-decide .before .before .before .before .before .before .before .before in
     let a = at-start .args in
     let t : Table = ofSlices 0 0 (a .links) (a .needs .now) (a .lows .now) (a .highs .now) (a .costs .now) in
     let o = at-decide .decide .ensures in

@@ -19,28 +19,28 @@ use Rattle.fleet.proofs.Calls.{event-of, unsent-is, line-refused, unsen
 
 check-line-requires : tie.Need-check-line-requires
 check-line-requires c κs =
-    let at-start = c .before .before .before .before .before .before in
+    let at-start = c .before .before .before .before .before .before .before in
     let a = at-start .args in
     ordered 256 2048 (a .number) (a .probes) (a .links) (a .needs .now) (a .lows .now) (a .highs .now) (a .costs .now) (at-start .pre .0)
 
 returns : tie.Need-returns
 returns c =
     let at-check = c .before .before in
-    let at-start = at-check .before .before .before .before .before .before .before in
+    let at-start = at-check .before .before .before .before .before .before .before .before in
     let a = at-start .args in
     line-refused (a .number) (a .probes) (a .links) (a .needs .now) (a .lows .now) (a .highs .now) (a .costs .now) (a .used) (a .room) (a .line .now) (a .rec .now) (at-start .pre .0) (at-start .pre .1) _ (at-check .check-line .ensures .0) (c .if1 .taken)
 
 line-event-requires : tie.Need-line-event-requires
 line-event-requires c κs =
     let at-check = c .before .before in
-    let a = at-check .before .before .before .before .before .before .before .args in
+    let a = at-check .before .before .before .before .before .before .before .before .args in
     line-frame (ofSlices (a .number) (a .probes) (a .links) (a .needs .now) (a .lows .now) (a .highs .now) (a .costs .now)) (a .line .now) (sym (at-check .check-line .ensures .0) ∙ c .if1 .left)
 
 field-requires : tie.Need-field-requires
 field-requires c κs =
     let at-test = c .before in
     let at-check = at-test .before .before in
-    let a = at-check .before .before .before .before .before .before .before .args in
+    let a = at-check .before .before .before .before .before .before .before .before .args in
     (line-frame (ofSlices (a .number) (a .probes) (a .links) (a .needs .now) (a .lows .now) (a .highs .now) (a .costs .now)) (a .line .now) (sym (at-check .check-line .ensures .0) ∙ at-test .if1 .left), search needs, search needs)
 
 unsent-fault-requires : tie.Need-unsent-fault-requires
@@ -48,7 +48,7 @@ unsent-fault-requires c κs =
     let at-event = c .before .before in
     let at-test = at-event .before in
     let at-check = at-test .before .before in
-    let at-start = at-check .before .before .before .before .before .before .before in
+    let at-start = at-check .before .before .before .before .before .before .before .before in
     let a = at-start .args in
     let passed = sym (at-check .check-line .ensures .0) ∙ at-test .if1 .left in
     let says = event-of (a .number) (a .probes) (a .links) (a .needs .now) (a .lows .now) (a .highs .now) (a .costs .now) (a .line .now) _ _ (at-event .line-event .ensures) (at-check .check-line .ensures .1 (at-test .if1 .left)) in
@@ -69,7 +69,7 @@ returns-2 c =
     let at-event = at-field .before in
     let at-test = at-event .before in
     let at-check = at-test .before .before in
-    let at-start = at-check .before .before .before .before .before .before .before in
+    let at-start = at-check .before .before .before .before .before .before .before .before in
     let a = at-start .args in
     let passed = sym (at-check .check-line .ensures .0) ∙ at-test .if1 .left in
     let says = event-of (a .number) (a .probes) (a .links) (a .needs .now) (a .lows .now) (a .highs .now) (a .costs .now) (a .line .now) _ _ (at-event .line-event .ensures) (at-check .check-line .ensures .1 (at-test .if1 .left)) in
@@ -87,7 +87,7 @@ returns-3 c =
     let at-event = at-field .before in
     let at-test = at-event .before in
     let at-check = at-test .before .before in
-    let at-start = at-check .before .before .before .before .before .before .before in
+    let at-start = at-check .before .before .before .before .before .before .before .before in
     let a = at-start .args in
     let passed = sym (at-check .check-line .ensures .0) ∙ at-test .if1 .left in
     let says = event-of (a .number) (a .probes) (a .links) (a .needs .now) (a .lows .now) (a .highs .now) (a .costs .now) (a .line .now) _ _ (at-event .line-event .ensures) (at-check .check-line .ensures .1 (at-test .if1 .left)) in
@@ -101,7 +101,7 @@ field-requires-2 c κs =
     let at-event = at-field .before in
     let at-test = at-event .before in
     let at-check = at-test .before .before in
-    let at-start = at-check .before .before .before .before .before .before .before in
+    let at-start = at-check .before .before .before .before .before .before .before .before in
     let a = at-start .args in
     let passed = sym (at-check .check-line .ensures .0) ∙ at-test .if1 .left in
     (line-frame (ofSlices (a .number) (a .probes) (a .links) (a .needs .now) (a .lows .now) (a .highs .now) (a .costs .now)) (a .line .now) passed, search needs, search needs)
@@ -113,7 +113,7 @@ cast-apply c =
     let at-event = at-field .before in
     let at-test = at-event .before in
     let at-check = at-test .before .before in
-    let at-start = at-check .before .before .before .before .before .before .before in
+    let at-start = at-check .before .before .before .before .before .before .before .before in
     let a = at-start .args in
     let passed = sym (at-check .check-line .ensures .0) ∙ at-test .if1 .left in
     let g = legal-slices 256 2048 (slicesOf (a .number) (a .probes) (a .links) (a .needs .now) (a .lows .now) (a .highs .now) (a .costs .now)) (at-start .pre .0) in
@@ -128,13 +128,14 @@ apply-requires c κs =
     let at-event = at-field .before in
     let at-test = at-event .before in
     let at-check = at-test .before .before in
-    let at-start = at-check .before .before .before .before .before .before .before in
+    let at-start = at-check .before .before .before .before .before .before .before .before in
     let a = at-start .args in
     let passed = sym (at-check .check-line .ensures .0) ∙ at-test .if1 .left in
     let says = event-of (a .number) (a .probes) (a .links) (a .needs .now) (a .lows .now) (a .highs .now) (a .costs .now) (a .line .now) _ _ (at-event .line-event .ensures) (at-check .check-line .ensures .1 (at-test .if1 .left)) in
     let g = legal-slices 256 2048 (slicesOf (a .number) (a .probes) (a .links) (a .needs .now) (a .lows .now) (a .highs .now) (a .costs .now)) (at-start .pre .0) in
     let f = fleet-good (ofSlices (a .number) (a .probes) (a .links) (a .needs .now) (a .lows .now) (a .highs .now) (a .costs .now)) (a .rec .now) (at-start .pre .1) in
-    (ordered-links (slicesOf (a .number) (a .probes) (a .links) (a .needs .now) (a .lows .now) (a .highs .now) (a .costs .now)) g, f .0, rw says (line-within (ofSlices (a .number) (a .probes) (a .links) (a .needs .now) (a .lows .now) (a .highs .now) (a .costs .now)) (a .line .now) passed))
+    let l = line-to (ofSlices (a .number) (a .probes) (a .links) (a .needs .now) (a .lows .now) (a .highs .now) (a .costs .now)) (a .line .now) passed (g .legal) in
+    (ordered-links (slicesOf (a .number) (a .probes) (a .links) (a .needs .now) (a .lows .now) (a .highs .now) (a .costs .now)) g, f .0, rw says (line-within (ofSlices (a .number) (a .probes) (a .links) (a .needs .now) (a .lows .now) (a .highs .now) (a .costs .now)) (a .line .now) passed), omega (arith, c .before .field2 .ensures, l, at-start .pre .2), at-start .pre .3)
 
 same-length-3 : tie.Need-same-length-3
 same-length-3 c = search needs
@@ -150,7 +151,7 @@ returns-4 c =
     let at-event = at-field .before in
     let at-test = at-event .before in
     let at-check = at-test .before .before in
-    let at-start = at-check .before .before .before .before .before .before .before in
+    let at-start = at-check .before .before .before .before .before .before .before .before in
     let a = at-start .args in
     let passed = sym (at-check .check-line .ensures .0) ∙ at-test .if1 .left in
     let says = event-of (a .number) (a .probes) (a .links) (a .needs .now) (a .lows .now) (a .highs .now) (a .costs .now) (a .line .now) _ _ (at-event .line-event .ensures) (at-check .check-line .ensures .1 (at-test .if1 .left)) in

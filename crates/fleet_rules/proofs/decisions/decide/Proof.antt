@@ -19,7 +19,7 @@ enum-known-event c = search needs
 
 in-byte-requires : tie.Need-in-byte-requires
 in-byte-requires c κs =
-    let at-start = c .before .before .before .before .before .before .before .before in
+    let at-start = c .before .before .before .before .before .before .before .before .before in
     let a = at-start .args in
     let p = at-start .pre in
     let w = rw (c .before .event .given .1) at (p .2) in
@@ -29,7 +29,7 @@ in-byte-requires c κs =
 returns : tie.Need-returns
 returns c =
     let at-event = c .before .before .before in
-    let at-start = at-event .before .before .before .before .before .before .before in
+    let at-start = at-event .before .before .before .before .before .before .before .before in
     let a = at-start .args in
     let t : Table = (ofSlices 0 0 (a .links) (a .needs .now) (a .lows .now) (a .highs .now) (a .costs .now)) in
     let w = rw (at-event .event .given .1) at (at-start .pre .2) in
@@ -38,16 +38,16 @@ returns c =
 decide-offer-requires : tie.Need-decide-offer-requires
 decide-offer-requires c κs =
     let at-event = c .before .before .before in
-    let at-start = at-event .before .before .before .before .before .before .before in
+    let at-start = at-event .before .before .before .before .before .before .before .before in
     let p = at-start .pre in
-    (p .0, p .1, rw (at-event .event .given .1) at (p .2))
+    (p .0, p .1, rw (at-event .event .given .1) at (p .2), p .3, p .4)
 
 enum-known-event-2 : tie.Need-enum-known-event-2
 enum-known-event-2 c = search needs
 
 out-byte-requires : tie.Need-out-byte-requires
 out-byte-requires c κs =
-    let at-start = c .before .before .before .before .before .before .before .before in
+    let at-start = c .before .before .before .before .before .before .before .before .before in
     let a = at-start .args in
     let p = at-start .pre in
     let w = rw (c .before .event2 .given .1) at (p .2) in
@@ -57,7 +57,7 @@ out-byte-requires c κs =
 returns-2 : tie.Need-returns-2
 returns-2 c =
     let at-event2 = c .before .before .before in
-    let at-start = at-event2 .before .before .before .before .before .before .before in
+    let at-start = at-event2 .before .before .before .before .before .before .before .before in
     let a = at-start .args in
     let t : Table = (ofSlices 0 0 (a .links) (a .needs .now) (a .lows .now) (a .highs .now) (a .costs .now)) in
     let w = rw (at-event2 .event2 .given .1) at (at-start .pre .2) in
@@ -70,7 +70,7 @@ returns-4 : tie.Need-returns-4
 returns-4 c =
     let at-in-byte = c .before .before in
     let at-event = at-in-byte .before .before in
-    let at-start = at-event .before .before .before .before .before .before .before in
+    let at-start = at-event .before .before .before .before .before .before .before .before in
     let a = at-start .args in
     let t : Table = (ofSlices 0 0 (a .links) (a .needs .now) (a .lows .now) (a .highs .now) (a .costs .now)) in
     let w = rw (at-event .event .given .1) at (at-start .pre .2) in
@@ -79,7 +79,7 @@ returns-4 c =
 returns-5 : tie.Need-returns-5
 returns-5 c =
     let at-event2 = c .before .before .before in
-    let at-start = at-event2 .before .before .before .before .before .before .before in
+    let at-start = at-event2 .before .before .before .before .before .before .before .before in
     let a = at-start .args in
     let t : Table = (ofSlices 0 0 (a .links) (a .needs .now) (a .lows .now) (a .highs .now) (a .costs .now)) in
     let w = rw (at-event2 .event2 .given .1) at (at-start .pre .2) in
