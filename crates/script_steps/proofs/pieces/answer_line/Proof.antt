@@ -20,7 +20,7 @@ add-used-requires : tie.Need-add-used-requires
 add-used-requires c κs =
     let at-handle-line = c .before .before .before .before .before .before in
     let at-struct-known = at-handle-line .before in
-    let s = at-struct-known .before .before .before .before .before .before .before .before .before .before in
+    let s = at-struct-known .before .before .before .before .before .before .before .before .before .before .before in
     let a = s .args in
     let x = slicesOf (a .number) (a .probes) (a .links) (a .needs .now) (a .lows .now) (a .highs .now) (a .costs .now) in
     let h = at-handle-line .handle-line .ensures in
@@ -39,7 +39,7 @@ returns : tie.Need-returns
 returns c =
     let at-put-answer = c .before .before .before .before in
     let at-handle-line = at-put-answer .before .before .before .before in
-    let s = at-handle-line .before .before .before .before .before .before .before .before .before .before .before in
+    let s = at-handle-line .before .before .before .before .before .before .before .before .before .before .before .before in
     let a = s .args in
     let x = slicesOf (a .number) (a .probes) (a .links) (a .needs .now) (a .lows .now) (a .highs .now) (a .costs .now) in
     line-buffered x (s .pre .0) (a .place .progress) 1024 (a .place .at) (a .line .now) (a .rec .now) _ (a .out .now) _ (s .pre .1) _ _ _ _ (at-handle-line .handle-line .ensures) (at-put-answer .put-answer .ensures .0) (at-put-answer .put-answer .ensures .1) (c .before .add-used .ensures) (c .add-changes .ensures)

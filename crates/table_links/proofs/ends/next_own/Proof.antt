@@ -46,7 +46,7 @@ loop-again c =
     let a = at-loop .before .before .before .args in
     let t : Table = ofSlices 0 0 (a .links) [] (a .lows .now) (a .highs .now) [] in
     let skipped : (j : ℕ) → a .from ≤ j → j < l .i + 1 → touches t (a .probe) j ≡ false
-        = λ j m n. one-more (touches t (a .probe)) (l .i) j n (λ k. l .inv .2 j m k) (sym (c .before .touches .ensures) ∙ c .if1 .left) in
+    = λ j m n. one-more (touches t (a .probe)) (l .i) j n (λ k. l .inv .2 j m k) (sym (c .before .touches .ensures) ∙ c .if1 .left) in
     (search needs, omega (arith, l .inv .1), skipped)
 
 returns-2 : tie.Need-returns-2 Inv-loop μ-loop
