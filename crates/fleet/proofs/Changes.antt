@@ -2,8 +2,8 @@
 use Prim.Native.Nat.{ℕ, zero, suc, _+_, _*_, _<_}
 use mathlib.Core.Path.{_≡_, refl, sym, _∙_, ap}
 use mathlib.Core.Logic.{_⊎_, inl, inr}
-use mathlib.Core.Bool.{Bool, true, false, cond, _&&_, true≢false}
-use mathlib.Core.List.{List, [], _∷_}
+use mathlib.Core.Bool.{Bool, true, false, cond, _&&_}
+use mathlib.Core.List.{List}
 use native.Mathlib.Nat.{add-zero, le-refl}
 use native.Mathlib.Omega.{arith}
 use native.Mathlib.Decide.{ℕ-discrete}
@@ -14,7 +14,7 @@ use borrow.Author.Tests.{ltb-true, eqb-true, eqb-false, eq-eqb, ne-eqb}
 use Rattle.range.specs.Sum.{sum}
 use Rattle.range.proofs.Bools.{and-left, and-right, decided}
 use Rattle.range.proofs.Choice.{Best, nobody, chosen, best-is}
-use Rattle.range.proofs.Sums.{sum-same, sum-add, sum-one, none-count}
+use Rattle.range.proofs.Sums.{sum-same, sum-add, sum-one}
 use Rattle.table.specs.Table.{Table, item, touches, spare, dearer, cheaper}
 use Rattle.table.specs.Legal.{Legal}
 use Rattle.plan_theory.proofs.Places.{reversed}
@@ -30,16 +30,16 @@ use Rattle.probe_rules.specs.declared.Event.the-variants.{Opening, Offer, Refus
 use Rattle.probe_rules.specs.declared.Outcome.{Outcome}
 use Rattle.probe_rules.specs.declared.Outcome.the-variants.{Opened, NothingToOpen, Taken, TakenDisplacing, Refused, RefusalLearnt, NoChange}
 use Rattle.probe_rules.specs.Rules.{befalls, offer, whatOf, entryOf}
-use Rattle.fleet_theory.specs.Fleet.{outAt, inAt, own, fleetFault, eventFault, eventOf, outcomeOf, alterFleet, alteredBy, State, start, faultOf, answerTo, accepted, next, differs, linkChanges, changes, allChanges}
+use Rattle.fleet_theory.specs.Fleet.{outAt, inAt, own, fleetFault, eventFault, eventOf, outcomeOf, alterFleet, alteredBy, differs, linkChanges}
 use Rattle.table.specs.Slices.{Slices, tableOf, slicesFault}
 use Rattle.fleet_theory.proofs.Own.{out-reads, in-reads}
-use Rattle.fleet.proofs.Calls.{handled-answer, handled-is}
+use Rattle.fleet.proofs.Calls.{handled-answer}
 use Rattle.probe_rules.specs.Within.{OwnLink, OwnOutcome}
 use Rattle.probe_record.proofs.SearchLaws.{dearest}
 use Rattle.fleet_theory.proofs.Events.{line-step}
 use Rattle.fleet_theory.proofs.Changes.{no-changes}
-use Rattle.fleet_theory.proofs.Run.{slices-legal, HoldsAfter, start-holds, fleet-passes, next-holds}
-use Rattle.fleet.specs.Answers.{Handled, changesOf, changesBy, changesIn}
+use Rattle.fleet_theory.proofs.Run.{slices-legal}
+use Rattle.fleet.specs.Answers.{Handled, changesOf, changesBy}
 use Rattle.fleet_state.proofs.CheckLaws.{fleet-good}
 use Rattle.fleet.proofs.Passing.{passed-line}
 
@@ -215,25 +215,3 @@ module _ (x : Slices) (fine : slicesFault x ≡ 0) (room : ℕ) where
           → sum (x .links) (linkChanges r (cond (eqb (eventFault x r used room l) 0) (alteredBy t r f) r)) ≡ changesBy (answerOf (eventFault x r used room l) entry)
       go (yes e) = rw e (passed e)
       go (no d) = rw (ne-eqb (eventFault x r used room l) 0 d) (no-changes r (x .links))
-
-  -- a step of the list of lines is a line handled
-  next-handled : (s : State) (l : List ℕ) → Handled x (length (s .log)) room l (answerTo x room s l) (s .bytes) (next x room s l .bytes)
-  unfolding next
-  next-handled s l = handled-is x (length (s .log)) room l (answerTo x room s l) (s .bytes) (next x room s l .bytes) refl (go (eqb (faultOf x room s l) 0))
-    where
-      go : (b : Bool) → (cond b (accepted x s l) s) .bytes ≡ cond b (alteredBy t (s .bytes) (frameOf l)) (s .bytes)
-      go true = refl
-      go false = refl
-
-  -- "The count the script program prints is their sum over the accepted events."
-  list-changes : (s : State) → HoldsAfter t s → (ls : List (List ℕ)) → allChanges x room s ls ≡ changesIn x room s ls
-  unfolding changes changesIn
-  list-changes s h [] = none-count (x .links) (λ i. false) (λ i l e. true≢false (sym e))
-  list-changes s h (l ∷ ls) =
-      let a = line-changes (s .bytes) (fleet-passes x fine s h) (length (s .log)) l _ _ (next-handled s l) in
-      let b = list-changes (next x room s l) (next-holds x fine s h room l) ls in
-      let c = sum-add (x .links) (linkChanges (s .bytes) (next x room s l .bytes)) (changes x room (next x room s l) ls) in
-      omega arith
-
-  pub all-changes : (ls : List (List ℕ)) → allChanges x room (start x) ls ≡ changesIn x room (start x) ls
-  all-changes ls = list-changes (start x) (start-holds x fine) ls

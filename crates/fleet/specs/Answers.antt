@@ -1,5 +1,5 @@
 -- What the calls of a fleet promise: the answer, and the record at exit.
-use Prim.Native.Nat.{ℕ, _+_}
+use Prim.Native.Nat.{ℕ}
 use mathlib.Core.Path.{_≡_}
 use mathlib.Core.Bool.{cond}
 use mathlib.Core.List.{List, [], _∷_}
@@ -15,7 +15,7 @@ use Rattle.wake_log.specs.Entry.{entryValues, answerReply}
 use Rattle.probe_rules.specs.Rules.{entryOf}
 use Rattle.fleet.specs.declared.Finishing.{Finishing}
 use Rattle.fleet.specs.declared.Finishing.the-variants as finishing
-use Rattle.fleet_theory.specs.Fleet.{fleetFault, eventFault, outcomeOf, alteredBy, State, answerTo, next, finished}
+use Rattle.fleet_theory.specs.Fleet.{fleetFault, eventFault, outcomeOf, alteredBy, finished}
 use Rattle.table.specs.Slices.{Slices, tableOf, slicesFault}
 
 -- a line: the entry and the altered record, or the refusal alone and the record unchanged
@@ -37,11 +37,6 @@ changesOf (NoChange link) = 0
 abbrev pub changesBy : Answer → ℕ
 changesBy (answer.Logged entry) = changesOf (entry .what)
 changesBy (answer.Refused fault) = 0
-
--- by the answers to a list of lines
-unfoldable pub changesIn : Slices → ℕ → State → List (List ℕ) → ℕ
-changesIn x room s [] = 0
-changesIn x room s (l ∷ ls) = changesBy (answerTo x room s l) + changesIn x room (next x room s l) ls
 
 -- 1 where the fleet is finished, 0 where it is not
 abbrev pub finishingReply : Finishing → Reply

@@ -64,8 +64,3 @@ module _ (t : Table) (o n : ℕ → ℕ → ℕ) where
           at-ends : (i : ℕ) → i < t .links → {p w : ℕ} → Across t i p w → QuietAt t o n i p w
           at-ends i l up = a i l .0
           at-ends i l down = a i l .1
-
-  pub quiet-not-live : Quiet t o n → Live t o n → ⊥
-  quiet-not-live q (may-open p i l at z r) = let a = q .opened p i l at z in omega arith
-  quiet-not-live q (may-hear i p w l x e z) = q .heard i p w l x e z
-  quiet-not-live q (may-learn i p w l x e d) = d (q .told i p w l x e)

@@ -8,8 +8,8 @@ use native.Mathlib.Decide.{decLt, ℕ-discrete}
 use lib.Dec.{eqb}
 use borrow.Author.Tests.{eqb-true, eq-eqb, ne-eqb}
 use Rattle.range.specs.Sum.{count}
-use Rattle.range.proofs.Bools.{and-left, and-right, and-intro, decided, same-bool}
-use Rattle.range.proofs.Sums.{sum-same, sum-add, sum-one, weigh-le, weigh-same, count-less, member, none-count, count-all}
+use Rattle.range.proofs.Bools.{and-left, and-right, and-intro, decided}
+use Rattle.range.proofs.Sums.{sum-same, sum-add, sum-one, weigh-le, weigh-same, count-less, member, count-all}
 use Rattle.plan_theory.specs.Pass.{place}
 
 pub record Order (m : ℕ) (before : ℕ → ℕ → Bool) : Type 0 where
@@ -165,21 +165,6 @@ module _ (m : ℕ) (before : ℕ → ℕ → Bool) (o : Order m before) where
       go (earlier q f h) = let a = place-lt i j li lj f in absurd (omega arith)
       go (later q f h) = let a = place-lt j i lj li h in absurd (omega arith)
 
-  pub place-first : (i : ℕ) → ((g : ℕ) → g < m → before g i ≡ false) → place m before i ≡ 0
-  place-first i h = none-count m (λ g. before g i) (λ g l e. true≢false (sym e ∙ h g l))
-
-  -- j comes right after i
-  pub place-next : (i j : ℕ) → i < m → j < m → before i j ≡ true → ((g : ℕ) → g < m → before g j ≡ true → before i g ≡ false)
-      → place m before j ≡ suc (place m before i)
-  place-next i j li lj e h =
-      let a = rw e at (split (λ g. before g j) i li) in
-      let b = none-count m (λ g. before i g && before g j)
-      (λ g l f. true≢false (sym (and-left (before i g) (before g j) f) ∙ h g l (and-right (before i g) (before g j) f))) in
-      let c = weigh-same m (λ g. before g i && before g j) (λ g. before g i) (λ g. 1)
-      (λ g l. same-bool (before g i && before g j) (before g i) (and-left (before g i) (before g j))
-      (λ f. and-intro f (o .transitive g i j l li lj f e))) in
-      omega arith
-
   -- the places from either side
   pub place-opposite : (i : ℕ) → i < m → suc (place m before i + place m (λ g j. before j g) i) ≡ m
   place-opposite i li =
@@ -187,12 +172,6 @@ module _ (m : ℕ) (before : ℕ → ℕ → Bool) (o : Order m before) where
       let b = weigh-same m (λ g. before g i && true) (λ g. before g i) (λ g. 1) (λ g l. and-true (before g i)) in
       let c = weigh-same m (λ g. before i g && true) (λ g. before i g) (λ g. 1) (λ g l. and-true (before i g)) in
       let d = count-all m in
-      omega arith
-
-  pub place-last : (i : ℕ) → i < m → ((g : ℕ) → g < m → before i g ≡ false) → suc (place m before i) ≡ m
-  place-last i li h =
-      let a = place-opposite i li in
-      let b = none-count m (λ g. before i g) (λ g l e. true≢false (sym e ∙ h g l)) in
       omega arith
 
   -- a rising row of m numbers below m has them all by their places

@@ -1,7 +1,6 @@
 // The plan by offers in turn. The working bytes are four a link: two for each direction, at its source and at its target. Beside them are four entries a probe, the marks.
 use table_links::spares::spare_of;
 ghost use mathlib.Core.Path.{_≡_};
-ghost use mathlib.Core.Bool.{cond};
 ghost use mathlib.Core.List.{[]};
 ghost use Prim.Native.Nat.{ℕ, _+_, _*_, _-_, _<_, _≤_};
 ghost use lib.ListN.{length, replicate, getD};

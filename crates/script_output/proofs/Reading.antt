@@ -21,7 +21,6 @@ use Rattle.output.specs.Output.{refusalLine, shortFault, Prints}
 use Rattle.output.specs.declared.Output.{Output}
 use Rattle.table.specs.Slices.{Slices, slicesFault, slicesOf}
 use Rattle.script_theory.specs.Script.{inSlices, scriptText, scriptOutput}
-use Rattle.script_steps.proofs.Ends.{links-within}
 
 module _ (s : List ℕ) (e : textFault 256 2048 true s ≡ 0) where
   -- the closing line stands within the text
@@ -61,9 +60,6 @@ module _ (s : List ℕ) (r : Reading) (needs lows highs costs : List ℕ)
     read-fine =
         or-none (roomFault probes links (length needs) (length lows) (length highs) (length costs)) _ (read-held true s r blank b read number probes links rest e)
         ∙ read-legal true s r blank b read number probes links rest e
-
-    pub read-links : links ≤ 2048
-    read-links = links-within (slicesOf number probes links needs lows highs costs) read-fine
 
     pub rest-within : (23 ≤ rest) × (rest ≤ length s)
     rest-within = rw (is .3) (end-within s (accepted true s r blank b read none))

@@ -1,6 +1,6 @@
 -- The wake log: document 01, "The wake log is a lent list of entries, one for each accepted event."
 use Prim.Native.Nat.{ℕ}
-use mathlib.Core.Bool.{cond, _&&_}
+use mathlib.Core.Bool.{Bool, cond, _&&_}
 use mathlib.Core.List.{List, []}
 use lib.Dec.{ltb}
 use lib.ListN.{length, getD}
@@ -23,9 +23,13 @@ abbrev pub toldOf : ℕ → ℕ → Answer → Told
 toldOf used room (Logged e) = record { at = used; entry = e; answer = Logged e }
 toldOf used room (Refused n) = record { at = room; entry = noEntry; answer = Refused n }
 
--- what a place holds: a used one its entry; past the used ones, or past the log's end, there is none
+-- a used place of the log; past the used ones, or past the log's end, there is none
+abbrev pub isUsed : List Entry → ℕ → ℕ → Bool
+isUsed log used i = ltb i used && ltb i (length log)
+
+-- what a place holds: a used one its entry
 abbrev pub slotOf : List Entry → ℕ → ℕ → Slot
-slotOf log used i = cond (ltb i used && ltb i (length log)) (Used (getD log i noEntry)) Unused
+slotOf log used i = cond (isUsed log used i) (Used (getD log i noEntry)) Unused
 
 -- the values of its entry, or none
 abbrev pub slotReply : Slot → Reply
@@ -33,4 +37,4 @@ slotReply (Used e) = values (entryValues e)
 slotReply Unused = values []
 
 abbrev pub slotValues : List Entry → ℕ → ℕ → List ℕ
-slotValues log used i = cond (ltb i used && ltb i (length log)) (entryValues (getD log i noEntry)) []
+slotValues log used i = cond (isUsed log used i) (entryValues (getD log i noEntry)) []

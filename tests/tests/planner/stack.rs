@@ -12,20 +12,24 @@ use planner_tests::repository::{document, program, quoted, rows};
 use planner_tests::script::{self, room_for};
 use planner_tests::signatures::of_crates;
 use planner_tests::sites::{half_needed, largest_hubs, legal_of_size, set_needs, site, Numbers};
-use planner_tests::stack::depth;
+use planner_tests::stack::{depth, STEP};
 use std::collections::BTreeMap;
+use std::env;
+use std::hint::black_box;
 use std::io::Write;
+use std::os::unix::process::ExitStatusExt;
 use std::process::{Command, Stdio};
 use std::thread;
 
 const KIB: usize = 1024;
 
-/// What a thread of Rust needs for itself, in KiB: its thread-local data stand at the stack's upper
-/// end, the frames that start it below them. Four would do; 16 is the least stack that the system
-/// gives a thread.
-const THREAD: usize = 16;
+/// Twice what the deepest call needs.
+const ENOUGH: usize = 256 * KIB;
 
 const ACCEPTED: u64 = 1 << 48;
+
+/// The signal that ends a process which touches what it may not.
+const SIGSEGV: i32 = 11;
 
 /// Each probe is joined to the next eight, has one link to spare, and the links get dearer from the
 /// first to the last. So it offers its eighth neighbour first. At the end of the turns one offer
@@ -301,7 +305,8 @@ fn figures() -> BTreeMap<String, usize> {
     figures
 }
 
-/// Measures each call on each site, then makes it in a thread that has its figure and what a thread needs itself.
+/// Measures each call on each site, then makes it with just its figure of stack below the caller's
+/// frame.
 #[test]
 fn depth_of_each_call() {
     let figures = figures();
@@ -309,20 +314,18 @@ fn depth_of_each_call() {
     for (table, legal) in sites() {
         let site = &Site::of(&table);
         for ((name, call), deepest) in CALLS.into_iter().zip(&mut deepest) {
-            let (mut answer, mut lent) = (0, Lending::to(site));
-            let depth = depth(&mut || answer = call(site, &mut lent));
+            let run = |limit| {
+                let (mut answer, mut lent) = (0, Lending::to(site));
+                let depth = depth(limit, &mut || answer = call(site, &mut lent));
+                (answer, depth)
+            };
+            let (answer, depth) = run(ENOUGH);
             // What prints accepts every text, and a log is read without a table.
             let refuses = !name.ends_with("_text") && name != "planner_log_entry";
             assert_eq!(answer >= ACCEPTED, legal || !refuses, "{name}");
             let figure = figures[name];
             assert!(depth <= figure * KIB, "{name}: {depth} bytes, {figure} KiB");
-            let mut lent = Lending::to(site);
-            let again = thread::scope(|scope| {
-                let small = thread::Builder::new().stack_size((figure + THREAD) * KIB);
-                let run = small.spawn_scoped(scope, || call(site, &mut lent));
-                run.expect("a thread").join().expect("its end")
-            });
-            assert_eq!(again, answer, "{name}");
+            assert_eq!(run(figure * KIB), (answer, depth), "{name}");
             *deepest = depth.max(*deepest);
         }
     }
@@ -338,6 +341,37 @@ fn depth_of_each_call() {
     }
 }
 
+/// A run that needs one step more than its limit is killed; one that needs all of it is not.
+#[test]
+fn the_limit_is_kept() {
+    const LIMIT: &str = "STACK_LIMIT";
+    fn nest(frames: usize) {
+        let frame = black_box([frames; 8]);
+        if frames > 0 {
+            nest(frames - 1);
+        }
+        black_box(&frame);
+    }
+    let measure = |limit| depth(limit, &mut || nest(100));
+    // This test again, as a process of its own, runs with the limit that it is given.
+    if let Ok(limit) = env::var(LIMIT) {
+        measure(limit.parse().expect("a number of bytes"));
+        return;
+    }
+    let end = |limit: usize| {
+        let mut shell = Command::new("sh");
+        // It is to leave no core file.
+        let again = "ulimit -c 0 && exec \"$0\" --exact stack::the_limit_is_kept";
+        shell.args(["-c", again]);
+        shell.arg(env::current_exe().expect("the tests' path"));
+        let output = shell.env(LIMIT, limit.to_string()).output();
+        output.expect("its end").status
+    };
+    let needed = measure(ENOUGH).next_multiple_of(STEP);
+    assert!(end(needed).success());
+    assert_eq!(end(needed - STEP).signal(), Some(SIGSEGV));
+}
+
 /// Displacements nest at most once a probe: each offer in the nest is cheaper than the one that was
 /// displaced before it, and an end that has given up its cheapest holds dearer ones alone. The
 /// rising band nests two less than it has probes; the figure has room for these two.
@@ -346,7 +380,7 @@ fn longest_nest() {
     let turns = |probes: u16| {
         let numbers = Numbers::of(&rising_band(probes));
         let (mut plan, mut work) = (vec![0; MOST_LINKS], vec![0; 4 * MOST_LINKS]);
-        depth(&mut || {
+        depth(ENOUGH, &mut || {
             ffi::plan_turns(numbers.slices(), &mut plan, &mut work);
         })
     };
