@@ -18,7 +18,7 @@ use Rattle.table.specs.Text.{closingLine, tripleLine}
 use Rattle.table.proofs.Lengths.{length-triple}
 use Rattle.range.proofs.Sets.{sets-then}
 use Rattle.plan_theory.specs.Plan.{kept, keptCount, costOf, planByte}
-use Rattle.plan_output.specs.Output.{headLine, keptLines, planText}
+use Rattle.plan_output.specs.Output.{headLine, keptStart, keptLines, planText}
 
 -- Lengths.
 
@@ -30,7 +30,7 @@ length-head number kept cost =
 abbrev pub lineIf : (ℕ → Bool) → (ℕ → ℕ) → (ℕ → ℕ) → (ℕ → ℕ) → ℕ → List ℕ
 lineIf p low high cost i = cond (p i) (tripleLine (low i) (high i) (cost i)) []
 
-length-if : (b : Bool) (low high cost : ℕ) → length (cond b (tripleLine low high cost) []) ≡ 13 * cond b 1 0
+pub length-if : (b : Bool) (low high cost : ℕ) → length (cond b (tripleLine low high cost) []) ≡ 13 * cond b 1 0
 length-if true low high cost = length-triple low high cost
 length-if false low high cost = refl
 
@@ -43,7 +43,7 @@ length-lines p low high cost (suc n) =
     let b = length-if (p n) (low n) (high n) (cost n) in
     omega arith)
 
-pub length-plan : (t : Table) → length (planText t) ≡ 17 + 13 * keptCount t + 5
+pub length-plan : (t : Table) → length (planText t) ≡ keptStart (keptCount t) + 5
 unfolding planText
 length-plan t =
     let a = length-append (headLine (t .number) (keptCount t) (costOf t (kept t))) (keptLines t ++ closingLine) in
@@ -63,11 +63,11 @@ count-part p k (suc n) l = go (count-part p k n) (decLe k n)
     go before (no h) = let e : k ≡ suc n = omega arith in rw e (omega arith)
 
 -- the next link's line, stored behind those before it
-pub lines-then : (p : ℕ → Bool) (low high cost : ℕ → ℕ) (n at : ℕ) (l m r : List ℕ) → m ≡ sets l 17 (joined (lineIf p low high cost) n)
-    → at ≡ 17 + 13 * count n p → r ≡ sets m at (lineIf p low high cost n) → r ≡ sets l 17 (joined (lineIf p low high cost) (n + 1))
+pub lines-then : (p : ℕ → Bool) (low high cost : ℕ → ℕ) (n at : ℕ) (l m r : List ℕ) → m ≡ sets l (keptStart 0) (joined (lineIf p low high cost) n)
+    → at ≡ keptStart (count n p) → r ≡ sets m at (lineIf p low high cost n) → r ≡ sets l (keptStart 0) (joined (lineIf p low high cost) (n + 1))
 lines-then p low high cost n at l m r e a g =
     rw (joined-next (lineIf p low high cost) n)
-    (sets-then l m r 17 at (joined (lineIf p low high cost) n) (lineIf p low high cost n) e (let k = length-lines p low high cost n in omega arith) g)
+    (sets-then l m r (keptStart 0) at (joined (lineIf p low high cost) n) (lineIf p low high cost n) e (let k = length-lines p low high cost n in omega arith) g)
 
 byte-back : (b : Bool) → eqb (planByte b) 1 ≡ b
 byte-back true = refl
@@ -89,8 +89,8 @@ module _ (t : Table) (plan plan′ : List ℕ) (room : t .links ≤ length plan)
 
   -- the head, the kept lines and the closing line, stored in turn
   pub plan-then : (n c : ℕ) (l l₁ l₂ l₃ : List ℕ) → n ≡ count (t .links) says → c ≡ weigh (t .links) says (t .cost)
-      → l₁ ≡ sets l 0 (headLine (t .number) n c) → l₂ ≡ sets l₁ 17 (joined (lineIf says (t .low) (t .high) (t .cost)) (t .links))
-      → l₃ ≡ sets l₂ (17 + 13 * n) closingLine → l₃ ≡ sets l 0 (planText t)
+      → l₁ ≡ sets l 0 (headLine (t .number) n c) → l₂ ≡ sets l₁ (keptStart 0) (joined (lineIf says (t .low) (t .high) (t .cost)) (t .links))
+      → l₃ ≡ sets l₂ (keptStart n) closingLine → l₃ ≡ sets l 0 (planText t)
   unfolding planText
   plan-then n c l l₁ l₂ l₃ en ec e₁ e₂ e₃ =
       let kn = en ∙ count-says in
@@ -99,5 +99,5 @@ module _ (t : Table) (plan plan′ : List ℕ) (room : t .links ≤ length plan)
       let h = length-head (t .number) n c in
       let m = length-lines says (t .low) (t .high) (t .cost) (t .links) in
       rw (← kn, ← kc, ← kl)
-      (sets-then l l₁ l₃ 0 17 (headLine (t .number) n c) (joined (lineIf says (t .low) (t .high) (t .cost)) (t .links) ++ closingLine) e₁ (omega arith)
-      (sets-then l₁ l₂ l₃ 17 (17 + 13 * n) (joined (lineIf says (t .low) (t .high) (t .cost)) (t .links)) closingLine e₂ (omega arith) e₃))
+      (sets-then l l₁ l₃ 0 (keptStart 0) (headLine (t .number) n c) (joined (lineIf says (t .low) (t .high) (t .cost)) (t .links) ++ closingLine) e₁ (omega arith)
+      (sets-then l₁ l₂ l₃ (keptStart 0) (keptStart n) (joined (lineIf says (t .low) (t .high) (t .cost)) (t .links)) closingLine e₂ (omega arith) e₃))

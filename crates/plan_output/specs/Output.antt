@@ -1,5 +1,5 @@
 -- What the plan program prints: document 01, "Programs". Every printed line is closed by a line feed.
-use Prim.Native.Nat.{ℕ}
+use Prim.Native.Nat.{ℕ, _+_, _*_}
 use mathlib.Core.Bool.{false, cond}
 use mathlib.Core.List.{List, [], _∷_, _++_}
 use lib.Dec.{eqb}
@@ -13,6 +13,10 @@ use Rattle.output.specs.Output.{refusalLine}
 -- "table number, kept count (four digits each) and cost (eight)"
 abbrev pub headLine : ℕ → ℕ → ℕ → List ℕ
 headLine number kept cost = digits 4 number ++ (digits 4 kept ++ (digits 8 cost ++ (10 ∷ [])))
+
+-- where the line of the kept link number k starts, behind the first line and those of the kept links before it
+abbrev pub keptStart : ℕ → ℕ
+keptStart k = 17 + 13 * k
 
 -- "then kept link lines"
 abbrev pub keptLines : Table → List ℕ

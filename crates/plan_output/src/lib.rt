@@ -5,6 +5,7 @@ ghost use Rattle.output.specs.Output.{shortFault, Prints};
 ghost use Rattle.plan_output.specs.Output.{outputOf};
 
 pub mod plan_lines;
+pub mod starts;
 pub mod text;
 
 // Prints the plan of the table that a text gives, or the text's refusal.

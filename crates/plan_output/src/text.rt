@@ -1,9 +1,8 @@
 // The whole output of a plan.
 use output::Output;
 use table::CLOSING_BYTES;
-use table::LINK_BYTES;
 ghost use mathlib.Core.Path.{_≡_};
-ghost use Prim.Native.Nat.{ℕ, _+_, _*_};
+ghost use Prim.Native.Nat.{ℕ};
 ghost use lib.ListN.{length};
 ghost use Rattle.table.specs.Table.{ofSlices};
 ghost use Rattle.table.specs.Legal.{tableFault, roomFault};
@@ -29,7 +28,7 @@ pub fn print_plan(
     let mut plan = [0u8; 2048];
     plan_methods::limited::slse_plan(&mut plan, links, needs, lows, highs, costs);
     let kept = plan_methods::counts::kept_count(&plan, links);
-    let end = 17 + LINK_BYTES * (kept as usize);
+    let end = super::starts::kept_start(kept);
     if out.len() < end + CLOSING_BYTES {
         return Output::Refused(8);
     }

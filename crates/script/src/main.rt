@@ -4,10 +4,8 @@ use script_output::Handling;
 use script_steps::Progress;
 use standard_io::Filling;
 use standard_io::Got;
-use table::CLOSING_BYTES;
 use table::HEADER_BYTES;
-use table::LINK_BYTES;
-use table::NEED_BYTES;
+use table::starts::text_end;
 ghost use mathlib.Core.Path.{_≡_};
 ghost use Prim.Native.Nat.{_+_, _*_, _≤_};
 ghost use lib.ListN.{length};
@@ -52,7 +50,7 @@ fn table_end(head: &[u8]) -> usize
     }
     let probes = hex::fields::number(head, 4, 4);
     let links = hex::fields::number(head, 8, 4);
-    HEADER_BYTES + NEED_BYTES * probes + LINK_BYTES * links + CLOSING_BYTES
+    text_end(probes, links)
 }
 
 // Reads the table's bytes and no more: the header's line, then the rest that it tells of.
@@ -60,7 +58,7 @@ fn read_table_text(text: &mut [u8]) -> Filling
     requires { ⌜ 27922 ≤ length (now text) ⌝ }
     ensures { λ r. ⌜ ReadsTableText r (now (text .exit)) ⌝ }
 {
-    let head = standard_io::fill(&mut text[..13], 0);
+    let head = standard_io::fill(&mut text[..HEADER_BYTES], 0);
     match head {
         Filling::Until(n) => {
             let end = table_end(&text[..n]);

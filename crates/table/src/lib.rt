@@ -8,6 +8,7 @@ ghost use Rattle.table.specs.Checking.{checkingReply};
 pub mod checks;
 pub mod degrees;
 pub mod numbers;
+pub mod starts;
 
 // The closing line: the text's reader compares with it, and the writers write it.
 pub const CLOSING: [u8; 5] = *b"ffff\n";
@@ -21,10 +22,10 @@ pub const LINK_BYTES: usize = 13;
 
 pub const CLOSING_BYTES: usize = 5;
 
-// Where the second and the third field of the first link line stand in a text without need lines; the first is behind the header.
-pub const FIRST_HIGH: usize = 17;
+// Where the high and the cost stand in a link's line; its low is in front.
+pub const HIGH_AT: usize = 4;
 
-pub const FIRST_COST: usize = 21;
+pub const COST_AT: usize = 8;
 
 // A table's answer: fine, or the number of its refusal.
 pub enum Checking {

@@ -1,14 +1,16 @@
 // A text read within limits: its answer, and its fields stored. The public readers call these, and so do readers with other limits.
 use super::Reading;
-use table::CLOSING_BYTES;
-use table::FIRST_COST;
-use table::FIRST_HIGH;
-use table::HEADER_BYTES;
+use table::COST_AT;
+use table::HIGH_AT;
 use table::LINK_BYTES;
 use table::NEED_BYTES;
+use table::starts::link_start;
+use table::starts::need_start;
+use table::starts::text_end;
+use table_text::text_checks::fill;
 ghost use mathlib.Core.Path.{_≡_};
 ghost use mathlib.Core.Bool.{true};
-ghost use Prim.Native.Nat.{_+_, _*_, _≤_};
+ghost use Prim.Native.Nat.{_≤_};
 ghost use lib.ListN.{length};
 ghost use Rattle.range.specs.Reply.{values};
 ghost use Rattle.table.specs.Legal.{roomFault};
@@ -55,7 +57,7 @@ fn answer(text: &[u8]) -> Reading
         number: number as u16,
         probes: probes as u16,
         links: links as u16,
-        rest: HEADER_BYTES + NEED_BYTES * probes + LINK_BYTES * links + CLOSING_BYTES,
+        rest: text_end(probes, links),
     }
 }
 
@@ -76,28 +78,11 @@ fn fill_table(
 {
     let probes = hex::fields::number(text, 4, 4);
     let links = hex::fields::number(text, 8, 4);
-    table_text::text_checks::fill(text, HEADER_BYTES, NEED_BYTES, probes, needs);
-    table_text::text_checks::fill(
-        text,
-        HEADER_BYTES + NEED_BYTES * probes,
-        LINK_BYTES,
-        links,
-        lows,
-    );
-    table_text::text_checks::fill(
-        text,
-        FIRST_HIGH + NEED_BYTES * probes,
-        LINK_BYTES,
-        links,
-        highs,
-    );
-    table_text::text_checks::fill(
-        text,
-        FIRST_COST + NEED_BYTES * probes,
-        LINK_BYTES,
-        links,
-        costs,
-    );
+    let start = link_start(probes, 0);
+    fill(text, need_start(0), NEED_BYTES, probes, needs);
+    fill(text, start, LINK_BYTES, links, lows);
+    fill(text, start + HIGH_AT, LINK_BYTES, links, highs);
+    fill(text, start + COST_AT, LINK_BYTES, links, costs);
 }
 
 // Reads a text within the limits pmax and lmax; `more`: whether it may go on behind its closing line.

@@ -1,4 +1,5 @@
 // 1 to 6 of a table's text, line by line. Each line is taken from the reader, at the offset that the line before gave.
+use table::HIGH_AT;
 ghost use mathlib.Core.Path.{_≡_};
 ghost use mathlib.Core.Bool.{true};
 ghost use Prim.Native.Nat.{_-_, _≤_};
@@ -73,7 +74,7 @@ fn link_line(text: &[u8], probes: usize, before: usize, at: usize, i: usize) -> 
         return line;
     }
     let low = hex::fields::number(text, at, 4);
-    let high = hex::fields::number(text, at + 4, 4);
+    let high = hex::fields::number(text, at + HIGH_AT, 4);
     let ends = table::checks::ends_fault(probes, low, high);
     if ends != 0 {
         return Checked {
@@ -85,7 +86,7 @@ fn link_line(text: &[u8], probes: usize, before: usize, at: usize, i: usize) -> 
         return line;
     }
     let low0 = hex::fields::number(text, before, 4);
-    let high0 = hex::fields::number(text, before + 4, 4);
+    let high0 = hex::fields::number(text, before + HIGH_AT, 4);
     Checked {
         fault: table::checks::order_fault(low0, high0, low, high),
         next: line.next,

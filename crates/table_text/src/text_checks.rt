@@ -1,8 +1,9 @@
 // The faults of a table's text as a whole, and its numbers stored.
-use table::FIRST_HIGH;
-use table::HEADER_BYTES;
+use table::HIGH_AT;
 use table::LINK_BYTES;
 use table::NEED_BYTES;
+use table::starts::link_start;
+use table::starts::need_start;
 ghost use mathlib.Core.Path.{_≡_};
 ghost use Prim.Native.Nat.{ℕ, _+_, _*_, _<_, _≤_};
 ghost use lib.ListN.{length};
@@ -34,21 +35,10 @@ fn needs_fault(text: &[u8], probes: usize, links: usize) -> u8
     let mut needs = [0u16; 256];
     let mut lows = [0u16; 2048];
     let mut highs = [0u16; 2048];
-    fill(text, HEADER_BYTES, NEED_BYTES, probes, &mut needs);
-    fill(
-        text,
-        HEADER_BYTES + NEED_BYTES * probes,
-        LINK_BYTES,
-        links,
-        &mut lows,
-    );
-    fill(
-        text,
-        FIRST_HIGH + NEED_BYTES * probes,
-        LINK_BYTES,
-        links,
-        &mut highs,
-    );
+    let start = link_start(probes, 0);
+    fill(text, need_start(0), NEED_BYTES, probes, &mut needs);
+    fill(text, start, LINK_BYTES, links, &mut lows);
+    fill(text, start + HIGH_AT, LINK_BYTES, links, &mut highs);
     table::checks::needs_fault(probes, links, &needs, &lows, &highs)
 }
 

@@ -1,9 +1,6 @@
 // A table written within limits.
-use table::CLOSING_BYTES;
-use table::HEADER_BYTES;
-use table::LINK_BYTES;
-use table::NEED_BYTES;
-ghost use Prim.Native.Nat.{_+_, _≤_};
+use table::starts::text_end;
+ghost use Prim.Native.Nat.{_≤_};
 ghost use Rattle.table.specs.Slices.{slicesOf};
 ghost use Rattle.table_write.specs.Writing.{WritesTable};
 
@@ -26,7 +23,7 @@ pub fn write_limited(
 {
     let n = probes as usize;
     let m = links as usize;
-    let end = HEADER_BYTES + NEED_BYTES * n + LINK_BYTES * m + CLOSING_BYTES;
+    let end = text_end(n, m);
     if out.len() < end {
         return super::Writing::Refused(8);
     }

@@ -1,4 +1,6 @@
 // The lines of a table's text, written one by one. The writers of a table, of a frame and of a plan call these.
+use table::CLOSING;
+use table::CLOSING_BYTES;
 ghost use mathlib.Core.Path.{_≡_};
 ghost use Prim.Native.Nat.{_+_, _≤_};
 ghost use lib.ListN.{length};
@@ -29,8 +31,8 @@ pub fn put_closing(out: &mut [u8], at: usize)
     ensures { λ _. ⌜ now (out .exit) ≡ sets (now (out .entry)) at closingLine ⌝ }
 {
     let mut k = 0;
-    while k < 5 {
-        out[at + k] = table::CLOSING[k];
+    while k < CLOSING_BYTES {
+        out[at + k] = CLOSING[k];
         k += 1;
     }
 }

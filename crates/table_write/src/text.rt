@@ -1,9 +1,8 @@
 // A table's text, written as a whole.
-use table::HEADER_BYTES;
-use table::LINK_BYTES;
-use table::NEED_BYTES;
+use table::starts::link_start;
+use table::starts::need_start;
 ghost use mathlib.Core.Path.{_≡_};
-ghost use Prim.Native.Nat.{_+_, _≤_};
+ghost use Prim.Native.Nat.{_≤_};
 ghost use lib.ListN.{length};
 ghost use lib.Seq.{sets};
 ghost use Rattle.range.specs.Lists.{joined};
@@ -14,12 +13,12 @@ use super::line::put_need;
 use super::line::put_triple;
 
 fn put_needs(out: &mut [u8], probes: usize, needs: &[u16])
-    requires { ⌜ (needStart probes ≤ length (now out)) × (probes ≤ length (now needs)) ⌝ }
+    requires { ⌜ (needStart probes ≤ length (now out)) × (probes ≤ length (now needs)) × (probes ≤ 65535) ⌝ }
     ensures { λ _. ⌜ now (out .exit) ≡ sets (now (out .entry)) (needStart 0) (joined (λ v. needLine (item (now (needs .entry)) v)) probes) ⌝ }
 {
     let mut v = 0;
     while v < probes {
-        put_need(out, HEADER_BYTES + NEED_BYTES * v, needs[v]);
+        put_need(out, need_start(v), needs[v]);
         v += 1;
     }
 }
@@ -33,19 +32,13 @@ fn put_links(
     costs: &[u16],
 )
     requires { ⌜ (linkStart probes links ≤ length (now out))
-        × (links ≤ length (now lows)) × (links ≤ length (now highs)) × (links ≤ length (now costs)) ⌝ }
+        × (links ≤ length (now lows)) × (links ≤ length (now highs)) × (links ≤ length (now costs)) × (probes ≤ 65535) × (links ≤ 65535) ⌝ }
     ensures { λ _. ⌜ now (out .exit) ≡ sets (now (out .entry)) (needStart probes)
         (joined (λ i. tripleLine (item (now (lows .entry)) i) (item (now (highs .entry)) i) (item (now (costs .entry)) i)) links) ⌝ }
 {
     let mut i = 0;
     while i < links {
-        put_triple(
-            out,
-            HEADER_BYTES + NEED_BYTES * probes + LINK_BYTES * i,
-            lows[i],
-            highs[i],
-            costs[i],
-        );
+        put_triple(out, link_start(probes, i), lows[i], highs[i], costs[i]);
         i += 1;
     }
 }
@@ -71,5 +64,5 @@ pub fn put_table(
     put_triple(out, 0, number, probes, links);
     put_needs(out, n, needs);
     put_links(out, n, m, lows, highs, costs);
-    put_closing(out, HEADER_BYTES + NEED_BYTES * n + LINK_BYTES * m);
+    put_closing(out, link_start(n, m));
 }

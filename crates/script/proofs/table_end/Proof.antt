@@ -37,92 +37,28 @@ number-requires-2 c κs =
     let w = head-field 256 2048 (a .head .now) 8 g (omega arith) .within in
     (omega arith, omega arith)
 
-mul-result : tie.Need-mul-result
-mul-result c =
+text-end-requires : tie.Need-text-end-requires
+text-end-requires c κs =
     let at-number2 = c in
     let at-number = c .before in
     let at-if1 = at-number .before in
     let at-head-fault = at-if1 .before in
     let a = at-head-fault .before .before .args in
     let e = sym (at-head-fault .head-fault .ensures) ∙ at-if1 .if1 .left in
-    let g = head-good 256 2048 (a .head .now) e in
-    let few = g .size .few in
-    let within = g .size .within in
-    omega (arith, at-number .number .ensures)
-
-add-result : tie.Need-add-result
-add-result c =
-    let at-number2 = c in
-    let at-number = c .before in
-    let at-if1 = at-number .before in
-    let at-head-fault = at-if1 .before in
-    let a = at-head-fault .before .before .args in
-    let e = sym (at-head-fault .head-fault .ensures) ∙ at-if1 .if1 .left in
-    let g = head-good 256 2048 (a .head .now) e in
-    let few = g .size .few in
-    let within = g .size .within in
-    omega (arith, at-number .number .ensures)
-
-mul-result-2 : tie.Need-mul-result-2
-mul-result-2 c =
-    let at-number2 = c in
-    let at-number = c .before in
-    let at-if1 = at-number .before in
-    let at-head-fault = at-if1 .before in
-    let a = at-head-fault .before .before .args in
-    let e = sym (at-head-fault .head-fault .ensures) ∙ at-if1 .if1 .left in
-    let g = head-good 256 2048 (a .head .now) e in
-    let few = g .size .few in
-    let within = g .size .within in
-    omega (arith, at-number2 .number2 .ensures)
-
-add-result-2 : tie.Need-add-result-2
-add-result-2 c =
-    let at-number2 = c in
-    let at-number = c .before in
-    let at-if1 = at-number .before in
-    let at-head-fault = at-if1 .before in
-    let a = at-head-fault .before .before .args in
-    let e = sym (at-head-fault .head-fault .ensures) ∙ at-if1 .if1 .left in
-    let g = head-good 256 2048 (a .head .now) e in
-    let few = g .size .few in
-    let within = g .size .within in
-    omega (arith, at-number .number .ensures, at-number2 .number2 .ensures)
-
-add-result-3 : tie.Need-add-result-3
-add-result-3 c =
-    let at-number2 = c in
-    let at-number = c .before in
-    let at-if1 = at-number .before in
-    let at-head-fault = at-if1 .before in
-    let a = at-head-fault .before .before .args in
-    let e = sym (at-head-fault .head-fault .ensures) ∙ at-if1 .if1 .left in
-    let g = head-good 256 2048 (a .head .now) e in
-    let few = g .size .few in
-    let within = g .size .within in
-    omega (arith, at-number .number .ensures, at-number2 .number2 .ensures)
+    let z = head-good 256 2048 (a .head .now) e .size in
+    let p = at-number .number .ensures in
+    let m = at-number2 .number2 .ensures in
+    (omega arith, omega arith)
 
 returns-2 : tie.Need-returns-2
 returns-2 c =
-    let at-number2 = c in
-    let at-number = c .before in
+    let at-number2 = c .before in
+    let at-number = at-number2 .before in
     let at-if1 = at-number .before in
     let at-head-fault = at-if1 .before in
     let a = at-head-fault .before .before .args in
     let e = sym (at-head-fault .head-fault .ensures) ∙ at-if1 .if1 .left in
-    rw (eq-eqb (headFault 256 2048 (a .head .now)) 0 e) (omega (arith, at-number .number .ensures, at-number2 .number2 .ensures))
+    rw (eq-eqb (headFault 256 2048 (a .head .now)) 0 e) (omega (arith, c .text-end .ensures, at-number .number .ensures, at-number2 .number2 .ensures))
 
 pub table-end-spec : {M : Type 1} → statement M
-table-end-spec =
-    tie.close
-    (tie.spec
-    head-fault-requires
-    returns
-    number-requires
-    number-requires-2
-    mul-result
-    add-result
-    mul-result-2
-    add-result-2
-    add-result-3
-    returns-2)
+table-end-spec = tie.close (tie.spec head-fault-requires returns number-requires number-requires-2 text-end-requires returns-2)

@@ -3,7 +3,7 @@
 use borrow.Author.Needs.{needs}
 use Rattle.plan_output.proofs.plan_lines.put_kept.Statement.{statement}
 use Rattle.plan_output.proofs.plan_lines.put_kept.Tie as tie
-use Prim.Native.Nat.{ℕ, _+_, _-_, _*_, _≤_}
+use Prim.Native.Nat.{ℕ, _+_, _-_, _≤_}
 use mathlib.Core.Path.{_≡_, refl, _∙_}
 use native.Mathlib.Omega.{arith}
 use lib.ListN.{length}
@@ -12,18 +12,22 @@ use Rattle.range.specs.Sum.{sum, count}
 use Rattle.range.specs.Lists.{joined}
 use Rattle.range.proofs.Sums.{weigh-next}
 use Rattle.table.specs.Table.{item}
-use Rattle.plan_output.proofs.Printing.{lineIf, count-part, lines-then}
+use Rattle.plan_output.specs.Output.{keptStart}
+use Rattle.plan_output.proofs.Printing.{lineIf, length-if, count-part, lines-then}
 use Rattle.plan_theory.specs.Plan.{isKept}
 
 abbrev Inv-loop : tie.InvT-loop
-Inv-loop out₀ plan links lows highs costs at₀ i₀ out at i = (i ≤ links) × (at ≡ 17 + 13 * count i (isKept plan)) × (out ≡ sets out₀ 17 (joined (lineIf (isKept plan) (item lows) (item highs) (item costs)) i)) × (length out ≡ length out₀)
+Inv-loop out₀ plan links lows highs costs at₀ i₀ out at i = (i ≤ links) × (at ≡ keptStart (count i (isKept plan))) × (out ≡ sets out₀ (keptStart 0) (joined (lineIf (isKept plan) (item lows) (item highs) (item costs)) i)) × (length out ≡ length out₀)
 
 abbrev μ-loop : tie.MeasureT-loop
 μ-loop out₀ plan links lows highs costs at₀ i₀ out at i = links - i
 
+kept-start-requires : tie.Need-kept-start-requires Inv-loop μ-loop
+kept-start-requires c κs = search needs
+
 loop-holds : tie.Need-loop-holds Inv-loop μ-loop
 unfolding joined sum
-loop-holds c = (search needs, refl, refl, refl)
+loop-holds c = (search needs, c .kept-start .ensures, refl, refl)
 
 shared-slice-read-put-link : tie.Need-shared-slice-read-put-link Inv-loop μ-loop
 shared-slice-read-put-link c = search needs
@@ -51,9 +55,11 @@ put-link-requires c κs =
     let at-loop-test = c .before .before .before .before .before in
     let at-loop = at-loop-test .before in
     let l = at-loop .loop in
-    let s = c .before .before .before .before .before .before .before .before .before .before .before .before in
-    let n = weigh-next (l .i) (isKept (s .args .plan .now)) (λ (j : ℕ). 1) in
-    let m = count-part (isKept (s .args .plan .now)) (l .i + 1) (s .args .links) (omega (arith, at-loop-test .loop-test .taken)) in
+    let s = at-loop .before .before .before .before .before .before .before in
+    let a = s .args in
+    let n = weigh-next (l .i) (isKept (a .plan .now)) (λ (j : ℕ). 1) in
+    let m = count-part (isKept (a .plan .now)) (l .i + 1) (a .links) (omega (arith, at-loop-test .loop-test .taken)) in
+    let k = length-if (isKept (a .plan .now) (l .i)) (item (a .lows .now) (l .i)) (item (a .highs .now) (l .i)) (item (a .costs .now) (l .i)) in
     omega (arith, l .inv .1, l .inv .3, s .pre .0)
 
 add-i : tie.Need-add-i Inv-loop μ-loop
@@ -66,9 +72,10 @@ loop-again : tie.Need-loop-again Inv-loop μ-loop
 loop-again c =
     let at-loop = c .before .before .before .before .before .before .before .before .before in
     let l = at-loop .loop in
-    let a = c .before .before .before .before .before .before .before .before .before .before .before .before .before .before .before .args in
+    let a = at-loop .before .before .before .before .before .before .before .args in
     let e = c .before .before .put-link .ensures in
     let n = weigh-next (l .i) (isKept (a .plan .now)) (λ (j : ℕ). 1) in
+    let k = length-if (isKept (a .plan .now) (l .i)) (item (a .lows .now) (l .i)) (item (a .highs .now) (l .i)) (item (a .costs .now) (l .i)) in
     (search needs, omega (arith, e .1, l .inv .1), lines-then (isKept (a .plan .now)) (item (a .lows .now)) (item (a .highs .now)) (item (a .costs .now)) (l .i) (l .at) (a .out .now) (l .out) _ (l .inv .2) (l .inv .1) (e .0), c .before .before .put-link .kept .0 ∙ l .inv .3)
 
 same-length : tie.Need-same-length Inv-loop μ-loop
@@ -76,7 +83,7 @@ same-length c = c .before .loop .inv .3
 
 returns : tie.Need-returns Inv-loop μ-loop
 returns c =
-    let at-start = c .before .before .before .before .before .before .before in
+    let at-start = c .before .before .before .before .before .before .before .before in
     let e : c .before .loop .i ≡ at-start .args .links = omega arith in
     rw (← e) (c .before .loop .inv .2)
 
@@ -86,6 +93,7 @@ put-kept-spec =
     (tie.spec
     Inv-loop
     μ-loop
+    kept-start-requires
     loop-holds
     shared-slice-read-put-link
     mul-put-link

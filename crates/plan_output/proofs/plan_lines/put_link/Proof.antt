@@ -4,6 +4,7 @@ use Rattle.plan_output.proofs.plan_lines.put_link.Statement.{statement}
 use Rattle.plan_output.proofs.plan_lines.put_link.Tie as tie
 use native.Mathlib.Omega.{arith}
 use borrow.Author.Tests.{eq-eqb, ne-eqb}
+use Rattle.table.proofs.Lengths.{length-triple}
 
 returns : tie.Need-returns
 returns c =
@@ -13,7 +14,9 @@ returns c =
 put-triple-requires : tie.Need-put-triple-requires
 put-triple-requires c κs =
     let at-start = c .before .before .before in
-    let p = rw (eq-eqb (at-start .args .byte) 1 (c .before .if1 .left)) at (at-start .pre) in
+    let a = at-start .args in
+    let p = rw (eq-eqb (a .byte) 1 (c .before .if1 .left)) at (at-start .pre) in
+    let l = length-triple (a .low) (a .high) (a .cost) in
     omega arith
 
 add-result : tie.Need-add-result
@@ -26,7 +29,9 @@ returns-2 : tie.Need-returns-2
 returns-2 c =
     let at-if1 = c .before .before .before .before in
     let at-start = at-if1 .before .before in
-    let n = eq-eqb (at-start .args .byte) 1 (at-if1 .if1 .left) in
+    let a = at-start .args in
+    let n = eq-eqb (a .byte) 1 (at-if1 .if1 .left) in
+    let l = length-triple (a .low) (a .high) (a .cost) in
     (rw n (c .before .before .put-triple .ensures), rw n (omega arith))
 
 pub put-link-spec : {M : Type 1} → statement M

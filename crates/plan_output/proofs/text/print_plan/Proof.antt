@@ -2,7 +2,7 @@
 use borrow.Author.Needs.{needs}
 use Rattle.plan_output.proofs.text.print_plan.Statement.{statement}
 use Rattle.plan_output.proofs.text.print_plan.Tie as tie
-use Prim.Native.Nat.{_+_, _*_}
+use Prim.Native.Nat.{_+_}
 use native.Mathlib.Omega.{arith}
 use lib.ListN.{length, replicate}
 use Rattle.table.specs.Table.{ofSlices}
@@ -37,28 +37,25 @@ kept-count-requires c κs =
     let within = z .within in
     (omega arith, within)
 
-cast-end : tie.Need-cast-end
-cast-end c = search needs
-
-mul-end : tie.Need-mul-end
-mul-end c = search needs
-
-add-end : tie.Need-add-end
-add-end c = search needs
+kept-start-requires : tie.Need-kept-start-requires
+kept-start-requires c κs = search needs
 
 add-if1 : tie.Need-add-if1
 add-if1 c = search needs
 
 returns : tie.Need-returns
 returns c probes legal =
-    let at-slse-plan = c .before .before .before .before in
-    let s = c .before .before .before .before .before .before .before .before .before .before .before in
+    let at-kept-start = c .before in
+    let at-kept-count = at-kept-start .before in
+    let at-slse-plan = at-kept-count .before .before .before in
+    let s = at-slse-plan .before .before .before .before .before .before .before in
     let a = s .args in
     let t = ofSlices (a .number) probes (a .links) (a .needs .now) (a .lows .now) (a .highs .now) (a .costs .now) in
     let z = size probes (a .links) (a .needs .now) (a .lows .now) (a .highs .now) (a .costs .now) legal in
     let p = numbered (a .number) probes (a .links) (a .needs .now) (a .lows .now) (a .highs .now) (a .costs .now) (replicate 2048 0) _ (at-slse-plan .slse-plan .ensures probes legal) in
     let n = count-says t (replicate 2048 0) _ (z .within) p in
-    let k = c .before .kept-count .ensures in
+    let k = at-kept-count .kept-count .ensures in
+    let e = at-kept-start .kept-start .ensures in
     let l = length-plan t in
     prints-refused _ 8 _ (a .out .now) (too-short (length (a .out .now)) (planText t) (omega (arith, c .if1 .taken))) (λ z. omega arith)
 
@@ -67,8 +64,8 @@ slice-aggregate-kept-cost c = search needs
 
 kept-cost-requires : tie.Need-kept-cost-requires
 kept-cost-requires c κs =
-    let at-slse-plan = c .before .before .before .before .before in
-    let s = c .before .before .before .before .before .before .before .before .before .before .before .before in
+    let at-slse-plan = c .before .before .before .before .before .before in
+    let s = at-slse-plan .before .before .before .before .before .before .before in
     let a = s .args in
     let probes = s .pre .0 in
     let z = size probes (a .links) (a .needs .now) (a .lows .now) (a .highs .now) (a .costs .now) (s .pre .1) in
@@ -87,16 +84,17 @@ put-kept-requires : tie.Need-put-kept-requires
 put-kept-requires c κs =
     let at-put-head = c .before .before .before .before in
     let at-if1 = at-put-head .before .before .before .before in
-    let at-kept-count = at-if1 .before in
+    let at-kept-start = at-if1 .before in
+    let at-kept-count = at-kept-start .before in
     let at-slse-plan = at-kept-count .before .before .before in
-    let s = c .before .before .before .before .before .before .before .before .before .before .before .before .before .before .before .before .before .before .before in
+    let s = at-slse-plan .before .before .before .before .before .before .before in
     let a = s .args in
     let probes = s .pre .0 in
     let z = size probes (a .links) (a .needs .now) (a .lows .now) (a .highs .now) (a .costs .now) (s .pre .1) in
     let r = room-good probes (a .links) (length (a .needs .now)) (length (a .lows .now)) (length (a .highs .now)) (length (a .costs .now)) (s .pre .2) in
     let long = at-slse-plan .slse-plan .kept .0 in
     let within = z .within in
-    (omega (arith, at-kept-count .kept-count .ensures, at-if1 .if1 .left, at-put-head .put-head .kept .0), omega arith, r .linked, omega (arith, r .linked, r .equal), omega (arith, r .linked, r .equal, r .equal₂))
+    (omega (arith, at-kept-count .kept-count .ensures, at-kept-start .kept-start .ensures, at-if1 .if1 .left, at-put-head .put-head .kept .0), omega arith, r .linked, omega (arith, r .linked, r .equal), omega (arith, r .linked, r .equal, r .equal₂))
 
 put-closing-requires : tie.Need-put-closing-requires
 put-closing-requires c κs = search needs
@@ -109,23 +107,27 @@ same-length c = search needs
 
 returns-2 : tie.Need-returns-2
 returns-2 c probes legal =
-    let at-put-kept = c .before .before .before .before .before .before in
+    let at-put-closing = c .before .before in
+    let at-put-kept = at-put-closing .before .before .before .before in
     let at-put-head = at-put-kept .before .before .before .before .before in
     let at-kept-cost = at-put-head .before .before in
     let at-if1 = at-kept-cost .before .before in
-    let at-kept-count = at-if1 .before in
+    let at-kept-start = at-if1 .before in
+    let at-kept-count = at-kept-start .before in
     let at-slse-plan = at-kept-count .before .before .before in
-    let s = c .before .before .before .before .before .before .before .before .before .before .before .before .before .before .before .before .before .before .before .before .before .before .before .before .before .before in
+    let s = at-slse-plan .before .before .before .before .before .before .before in
     let a = s .args in
     let t = ofSlices (a .number) probes (a .links) (a .needs .now) (a .lows .now) (a .highs .now) (a .costs .now) in
     let z = size probes (a .links) (a .needs .now) (a .lows .now) (a .highs .now) (a .costs .now) legal in
     let p = numbered (a .number) probes (a .links) (a .needs .now) (a .lows .now) (a .highs .now) (a .costs .now) (replicate 2048 0) _ (at-slse-plan .slse-plan .ensures probes legal) in
     let n = count-says t (replicate 2048 0) _ (z .within) p in
     let k = at-kept-count .kept-count .ensures in
+    let e = at-kept-start .kept-start .ensures in
     let l = length-plan t in
     let f = at-if1 .if1 .left in
-    prints-done _ (17 + 13 * (at-kept-count .kept-count .result) + 5) _ (a .out .now) _ (long-enough (length (a .out .now)) (planText t) (omega arith)) (omega arith) f
-    (plan-then t (replicate 2048 0) _ (z .within) p (at-kept-count .kept-count .result) (at-kept-cost .kept-cost .result) (a .out .now) _ _ _ k (at-kept-cost .kept-cost .ensures) (at-put-head .put-head .ensures) (at-put-kept .put-kept .ensures) (c .before .before .put-closing .ensures))
+    let closed = rw e at (at-put-closing .put-closing .ensures) in
+    prints-done _ (at-kept-start .kept-start .result + 5) _ (a .out .now) _ (long-enough (length (a .out .now)) (planText t) (omega arith)) (omega arith) f
+    (plan-then t (replicate 2048 0) _ (z .within) p (at-kept-count .kept-count .result) (at-kept-cost .kept-cost .result) (a .out .now) _ _ _ k (at-kept-cost .kept-cost .ensures) (at-put-head .put-head .ensures) (at-put-kept .put-kept .ensures) closed)
 
 pub print-plan-spec : {M : Type 1} → statement M
 print-plan-spec =
@@ -135,9 +137,7 @@ print-plan-spec =
     slse-plan-requires
     slice-aggregate-kept-count
     kept-count-requires
-    cast-end
-    mul-end
-    add-end
+    kept-start-requires
     add-if1
     returns
     slice-aggregate-kept-cost

@@ -43,45 +43,20 @@ cast-t7 c =
     let e = c .number3 .ensures in
     omega arith
 
-mul-t8 : tie.Need-mul-t8
-mul-t8 c =
-    let at-start = c .before .before .before .before in
-    let z = text-head 256 2048 true (at-start .args .text .now) (at-start .pre) .size in
-    let e = c .before .number2 .ensures in
-    omega arith
-
-add-t9 : tie.Need-add-t9
-add-t9 c =
-    let at-start = c .before .before .before .before in
-    let z = text-head 256 2048 true (at-start .args .text .now) (at-start .pre) .size in
-    let e = c .before .number2 .ensures in
-    omega arith
-
-mul-t10 : tie.Need-mul-t10
-mul-t10 c =
-    let at-start = c .before .before .before .before in
-    let z = text-head 256 2048 true (at-start .args .text .now) (at-start .pre) .size in
-    let e = c .number3 .ensures in
-    omega arith
-
-add-t11 : tie.Need-add-t11
-add-t11 c =
+text-end-requires : tie.Need-text-end-requires
+text-end-requires c κs =
     let at-start = c .before .before .before .before in
     let z = text-head 256 2048 true (at-start .args .text .now) (at-start .pre) .size in
     let e = c .before .number2 .ensures in
     let f = c .number3 .ensures in
-    omega arith
-
-add-t12 : tie.Need-add-t12
-add-t12 c =
-    let at-start = c .before .before .before .before in
-    let z = text-head 256 2048 true (at-start .args .text .now) (at-start .pre) .size in
-    let e = c .before .number2 .ensures in
-    let f = c .number3 .ensures in
-    omega arith
+    (omega arith, omega arith)
 
 returns : tie.Need-returns
-returns c = rw (c .before .before .number .ensures, c .before .number2 .ensures, c .number3 .ensures)
+returns c =
+    let at-number3 = c .before in
+    let at-number2 = at-number3 .before in
+    let at-number = at-number2 .before in
+    rw (c .text-end .ensures, at-number .number .ensures, at-number2 .number2 .ensures, at-number3 .number3 .ensures)
 
 pub answer-spec : {M : Type 1} → statement M
 answer-spec =
@@ -93,9 +68,5 @@ answer-spec =
     cast-t5
     cast-t6
     cast-t7
-    mul-t8
-    add-t9
-    mul-t10
-    add-t11
-    add-t12
+    text-end-requires
     returns)

@@ -2,8 +2,7 @@
 use borrow.Author.Needs.{needs}
 use Rattle.table_read.proofs.limited.fill_table.Statement.{statement}
 use Rattle.table_read.proofs.limited.fill_table.Tie as tie
-use Prim.Native.Nat.{_+_, _*_}
-use mathlib.Core.Path.{refl}
+use Prim.Native.Nat.{_+_}
 use mathlib.Core.Bool.{true}
 use native.Mathlib.Omega.{arith}
 use lib.ListN.{length}
@@ -24,37 +23,22 @@ number-requires-2 c κs =
     let w = text-head 256 2048 true (at-start .args .text .now) (at-start .pre .0) .line .within in
     (omega arith, omega arith)
 
+link-start-requires : tie.Need-link-start-requires
+link-start-requires c κs =
+    let at-number = c .before in
+    let at-start = at-number .before .before .before .before .before .before in
+    let p = at-number .number .ensures in
+    let z = text-head 256 2048 true (at-start .args .text .now) (at-start .pre .0) .size in
+    (omega arith, omega arith)
+
+need-start-requires : tie.Need-need-start-requires
+need-start-requires c κs = search needs
+
 fill-requires : tie.Need-fill-requires
 fill-requires c κs =
-    let at-start = c .before .before .before .before .before .before .before .before in
-    let a = at-start .args in
-    let s = a .text .now in
-    let p = c .before .before .number .ensures in
-    let m = c .before .number2 .ensures in
-    let z = text-head 256 2048 true s (at-start .pre .0) .size in
-    let room = room-good (ofText s .probes) (ofText s .links) (length (a .needs .now)) (length (a .lows .now)) (length (a .highs .now)) (length (a .costs .now)) (at-start .pre .1) in
-    let g = text-good 256 2048 true s (at-start .pre .0) in
-    (omega arith, fields s 13 5 (c .before .before .number .result) 4 0 needStart (λ v l. g .need v (omega arith)) (omega arith) (λ i. omega arith))
-
-mul-fill : tie.Need-mul-fill
-mul-fill c =
-    let at-number = c .before .before .before .before .before in
-    let at-start = at-number .before .before .before .before .before .before in
-    let p = at-number .number .ensures in
-    let z = text-head 256 2048 true (at-start .args .text .now) (at-start .pre .0) .size in
-    omega arith
-
-add-fill : tie.Need-add-fill
-add-fill c =
-    let at-number = c .before .before .before .before .before in
-    let at-start = at-number .before .before .before .before .before .before in
-    let p = at-number .number .ensures in
-    let z = text-head 256 2048 true (at-start .args .text .now) (at-start .pre .0) .size in
-    omega arith
-
-fill-requires-2 : tie.Need-fill-requires-2
-fill-requires-2 c κs =
-    let at-number2 = c .before .before .before .before .before in
+    let at-need-start = c .before in
+    let at-link-start = at-need-start .before in
+    let at-number2 = at-link-start .before in
     let at-number = at-number2 .before in
     let at-start = at-number .before .before .before .before .before .before in
     let a = at-start .args in
@@ -64,27 +48,39 @@ fill-requires-2 c κs =
     let z = text-head 256 2048 true s (at-start .pre .0) .size in
     let room = room-good (ofText s .probes) (ofText s .links) (length (a .needs .now)) (length (a .lows .now)) (length (a .highs .now)) (length (a .costs .now)) (at-start .pre .1) in
     let g = text-good 256 2048 true s (at-start .pre .0) in
-    (omega arith, fields s (13 + 5 * at-number .number .result) 13 (at-number2 .number2 .result) 12 0 (linkStart (ofText s .probes)) (λ i l. g .link i (omega arith)) (omega arith) (λ i. omega arith))
+    let e = at-need-start .need-start .ensures in
+    (omega arith, fields s (at-need-start .need-start .result) 5 (at-number .number .result) 4 0 needStart (λ v l. g .need v (omega arith)) (omega arith) (λ i. omega arith))
 
-mul-fill-2 : tie.Need-mul-fill-2
-mul-fill-2 c =
-    let at-number = c .before .before .before .before .before .before .before .before .before in
+fill-requires-2 : tie.Need-fill-requires-2
+fill-requires-2 c κs =
+    let at-link-start = c .before .before .before .before .before .before in
+    let at-number2 = at-link-start .before in
+    let at-number = at-number2 .before in
+    let at-start = at-number .before .before .before .before .before .before in
+    let a = at-start .args in
+    let s = a .text .now in
+    let p = at-number .number .ensures in
+    let m = at-number2 .number2 .ensures in
+    let z = text-head 256 2048 true s (at-start .pre .0) .size in
+    let room = room-good (ofText s .probes) (ofText s .links) (length (a .needs .now)) (length (a .lows .now)) (length (a .highs .now)) (length (a .costs .now)) (at-start .pre .1) in
+    let g = text-good 256 2048 true s (at-start .pre .0) in
+    let e = at-link-start .link-start .ensures in
+    (omega arith, fields s (at-link-start .link-start .result) 13 (at-number2 .number2 .result) 12 0 (linkStart (ofText s .probes)) (λ i l. g .link i (omega arith)) (omega arith) (λ i. omega arith))
+
+add-fill : tie.Need-add-fill
+add-fill c =
+    let at-link-start = c .before .before .before .before .before .before .before .before .before in
+    let at-number = at-link-start .before .before in
     let at-start = at-number .before .before .before .before .before .before in
     let p = at-number .number .ensures in
-    let z = text-head 256 2048 true (at-start .args .text .now) (at-start .pre .0) .size in
-    omega arith
-
-add-fill-2 : tie.Need-add-fill-2
-add-fill-2 c =
-    let at-number = c .before .before .before .before .before .before .before .before .before in
-    let at-start = at-number .before .before .before .before .before .before in
-    let p = at-number .number .ensures in
+    let e = at-link-start .link-start .ensures in
     let z = text-head 256 2048 true (at-start .args .text .now) (at-start .pre .0) .size in
     omega arith
 
 fill-requires-3 : tie.Need-fill-requires-3
 fill-requires-3 c κs =
-    let at-number2 = c .before .before .before .before .before .before .before .before .before in
+    let at-link-start = c .before .before .before .before .before .before .before .before .before .before in
+    let at-number2 = at-link-start .before in
     let at-number = at-number2 .before in
     let at-start = at-number .before .before .before .before .before .before in
     let a = at-start .args in
@@ -94,27 +90,23 @@ fill-requires-3 c κs =
     let z = text-head 256 2048 true s (at-start .pre .0) .size in
     let room = room-good (ofText s .probes) (ofText s .links) (length (a .needs .now)) (length (a .lows .now)) (length (a .highs .now)) (length (a .costs .now)) (at-start .pre .1) in
     let g = text-good 256 2048 true s (at-start .pre .0) in
-    (omega arith, fields s (17 + 5 * at-number .number .result) 13 (at-number2 .number2 .result) 12 4 (linkStart (ofText s .probes)) (λ i l. g .link i (omega arith)) (omega arith) (λ i. omega arith))
+    let e = at-link-start .link-start .ensures in
+    (omega arith, fields s (at-link-start .link-start .result + 4) 13 (at-number2 .number2 .result) 12 4 (linkStart (ofText s .probes)) (λ i l. g .link i (omega arith)) (omega arith) (λ i. omega arith))
 
-mul-fill-3 : tie.Need-mul-fill-3
-mul-fill-3 c =
-    let at-number = c .before .before .before .before .before .before .before .before .before .before .before .before .before in
+add-fill-2 : tie.Need-add-fill-2
+add-fill-2 c =
+    let at-link-start = c .before .before .before .before .before .before .before .before .before .before .before .before .before in
+    let at-number = at-link-start .before .before in
     let at-start = at-number .before .before .before .before .before .before in
     let p = at-number .number .ensures in
-    let z = text-head 256 2048 true (at-start .args .text .now) (at-start .pre .0) .size in
-    omega arith
-
-add-fill-3 : tie.Need-add-fill-3
-add-fill-3 c =
-    let at-number = c .before .before .before .before .before .before .before .before .before .before .before .before .before in
-    let at-start = at-number .before .before .before .before .before .before in
-    let p = at-number .number .ensures in
+    let e = at-link-start .link-start .ensures in
     let z = text-head 256 2048 true (at-start .args .text .now) (at-start .pre .0) .size in
     omega arith
 
 fill-requires-4 : tie.Need-fill-requires-4
 fill-requires-4 c κs =
-    let at-number2 = c .before .before .before .before .before .before .before .before .before .before .before .before .before in
+    let at-link-start = c .before .before .before .before .before .before .before .before .before .before .before .before .before .before in
+    let at-number2 = at-link-start .before in
     let at-number = at-number2 .before in
     let at-start = at-number .before .before .before .before .before .before in
     let a = at-start .args in
@@ -124,7 +116,8 @@ fill-requires-4 c κs =
     let z = text-head 256 2048 true s (at-start .pre .0) .size in
     let room = room-good (ofText s .probes) (ofText s .links) (length (a .needs .now)) (length (a .lows .now)) (length (a .highs .now)) (length (a .costs .now)) (at-start .pre .1) in
     let g = text-good 256 2048 true s (at-start .pre .0) in
-    (omega arith, fields s (21 + 5 * at-number .number .result) 13 (at-number2 .number2 .result) 12 8 (linkStart (ofText s .probes)) (λ i l. g .link i (omega arith)) (omega arith) (λ i. omega arith))
+    let e = at-link-start .link-start .ensures in
+    (omega arith, fields s (at-link-start .link-start .result + 8) 13 (at-number2 .number2 .result) 12 8 (linkStart (ofText s .probes)) (λ i l. g .link i (omega arith)) (omega arith) (λ i. omega arith))
 
 same-length : tie.Need-same-length
 same-length c = search needs
@@ -140,20 +133,27 @@ same-length-4 c = search needs
 
 returns : tie.Need-returns
 returns c =
-    let at-fill3 = c .before .before .before .before .before .before in
+    let at-fill4 = c .before .before in
+    let at-fill3 = at-fill4 .before .before .before .before in
     let at-fill2 = at-fill3 .before .before .before .before in
     let at-fill = at-fill2 .before .before .before .before in
-    let at-number2 = at-fill .before .before in
+    let at-need-start = at-fill .before .before in
+    let at-link-start = at-need-start .before in
+    let at-number2 = at-link-start .before in
     let at-number = at-number2 .before in
-    let a = c .before .before .before .before .before .before .before .before .before .before .before .before .before .before .before .before .before .before .before .before .before .before .before .args in
+    let a = at-number .before .before .before .before .before .before .args in
     let s = a .text .now in
     let p = at-number .number .ensures in
     let m = at-number2 .number2 .ensures in
+    let first-need = at-need-start .need-start .result in
+    let first-link = at-link-start .link-start .result in
+    let en = at-need-start .need-start .ensures in
+    let el = at-link-start .link-start .ensures in
     record {
-      need = fields-stored s 13 5 _ (ofText s .probes) needStart (a .needs .now) _ (at-fill .fill .ensures) p (λ i. refl);
-      low = fields-stored s (13 + 5 * at-number .number .result) 13 _ (ofText s .links) (linkStart (ofText s .probes)) (a .lows .now) _ (at-fill2 .fill2 .ensures) m (λ i. omega arith);
-      high = fields-stored s (17 + 5 * at-number .number .result) 13 _ (ofText s .links) (λ i. linkStart (ofText s .probes) i + 4) (a .highs .now) _ (at-fill3 .fill3 .ensures) m (λ i. omega arith);
-      cost = fields-stored s (21 + 5 * at-number .number .result) 13 _ (ofText s .links) (λ i. linkStart (ofText s .probes) i + 8) (a .costs .now) _ (c .before .before .fill4 .ensures) m (λ i. omega arith);
+      need = fields-stored s first-need 5 _ (ofText s .probes) needStart (a .needs .now) _ (at-fill .fill .ensures) p (λ i. omega arith);
+      low = fields-stored s first-link 13 _ (ofText s .links) (linkStart (ofText s .probes)) (a .lows .now) _ (at-fill2 .fill2 .ensures) m (λ i. omega arith);
+      high = fields-stored s (first-link + 4) 13 _ (ofText s .links) (λ i. linkStart (ofText s .probes) i + 4) (a .highs .now) _ (at-fill3 .fill3 .ensures) m (λ i. omega arith);
+      cost = fields-stored s (first-link + 8) 13 _ (ofText s .links) (λ i. linkStart (ofText s .probes) i + 8) (a .costs .now) _ (at-fill4 .fill4 .ensures) m (λ i. omega arith);
     }
 
 pub fill-table-spec : {M : Type 1} → statement M
@@ -162,15 +162,13 @@ fill-table-spec =
     (tie.spec
     number-requires
     number-requires-2
+    link-start-requires
+    need-start-requires
     fill-requires
-    mul-fill
-    add-fill
     fill-requires-2
-    mul-fill-2
-    add-fill-2
+    add-fill
     fill-requires-3
-    mul-fill-3
-    add-fill-3
+    add-fill-2
     fill-requires-4
     same-length
     same-length-2

@@ -24,32 +24,23 @@ loop-holds : tie.Need-loop-holds Inv-loop μ-loop
 unfolding joined
 loop-holds c = (search needs, refl, refl)
 
+link-start-requires : tie.Need-link-start-requires Inv-loop μ-loop
+link-start-requires c κs = search needs
+
 mul-put-triple : tie.Need-mul-put-triple Inv-loop μ-loop
 mul-put-triple c = search needs
-
-add-put-triple : tie.Need-add-put-triple Inv-loop μ-loop
-add-put-triple c = search needs
-
-mul-put-triple-2 : tie.Need-mul-put-triple-2 Inv-loop μ-loop
-mul-put-triple-2 c = search needs
-
-add-put-triple-2 : tie.Need-add-put-triple-2 Inv-loop μ-loop
-add-put-triple-2 c = search needs
-
-mul-put-triple-3 : tie.Need-mul-put-triple-3 Inv-loop μ-loop
-mul-put-triple-3 c = search needs
 
 shared-slice-read-put-triple : tie.Need-shared-slice-read-put-triple Inv-loop μ-loop
 shared-slice-read-put-triple c = search needs
 
-mul-put-triple-4 : tie.Need-mul-put-triple-4 Inv-loop μ-loop
-mul-put-triple-4 c = search needs
+mul-put-triple-2 : tie.Need-mul-put-triple-2 Inv-loop μ-loop
+mul-put-triple-2 c = search needs
 
 shared-slice-read-put-triple-2 : tie.Need-shared-slice-read-put-triple-2 Inv-loop μ-loop
 shared-slice-read-put-triple-2 c = search needs
 
-mul-put-triple-5 : tie.Need-mul-put-triple-5 Inv-loop μ-loop
-mul-put-triple-5 c = search needs
+mul-put-triple-3 : tie.Need-mul-put-triple-3 Inv-loop μ-loop
+mul-put-triple-3 c = search needs
 
 shared-slice-read-put-triple-3 : tie.Need-shared-slice-read-put-triple-3 Inv-loop μ-loop
 shared-slice-read-put-triple-3 c = search needs
@@ -65,10 +56,13 @@ loop-less c = search needs
 
 loop-again : tie.Need-loop-again Inv-loop μ-loop
 loop-again c =
-    let at-loop = c .before .before .before .before .before .before .before .before in
+    let at-put-triple = c .before .before in
+    let at-link-start = at-put-triple .before .before .before .before in
+    let at-loop = at-link-start .before .before .before in
     let l = at-loop .loop in
-    let a = c .before .before .before .before .before .before .before .before .before .before .before .before .before .args in
-    (search needs, joined-then (λ k. tripleLine (item (a .lows .now) k) (item (a .highs .now) k) (item (a .costs .now) k)) 13 (l .i) (a .out .now) (l .out) _ (needStart (a .probes)) (λ k. length-triple (item (a .lows .now) k) (item (a .highs .now) k) (item (a .costs .now) k)) (l .inv .1) (c .before .before .put-triple .ensures), c .before .before .put-triple .kept .0 ∙ l .inv .2)
+    let a = at-loop .before .before .before .before .before .args in
+    let stored = rw (at-link-start .link-start .ensures) at (at-put-triple .put-triple .ensures) in
+    (search needs, joined-then (λ k. tripleLine (item (a .lows .now) k) (item (a .highs .now) k) (item (a .costs .now) k)) 13 (l .i) (a .out .now) (l .out) _ (needStart (a .probes)) (λ k. length-triple (item (a .lows .now) k) (item (a .highs .now) k) (item (a .costs .now) k)) (l .inv .1) stored, at-put-triple .put-triple .kept .0 ∙ l .inv .2)
 
 same-length : tie.Need-same-length Inv-loop μ-loop
 same-length c = c .before .loop .inv .2
@@ -86,15 +80,12 @@ put-links-spec =
     Inv-loop
     μ-loop
     loop-holds
+    link-start-requires
     mul-put-triple
-    add-put-triple
-    mul-put-triple-2
-    add-put-triple-2
-    mul-put-triple-3
     shared-slice-read-put-triple
-    mul-put-triple-4
+    mul-put-triple-2
     shared-slice-read-put-triple-2
-    mul-put-triple-5
+    mul-put-triple-3
     shared-slice-read-put-triple-3
     put-triple-requires
     add-i

@@ -24,14 +24,11 @@ loop-holds : tie.Need-loop-holds Inv-loop μ-loop
 unfolding joined
 loop-holds c = (search needs, refl, refl)
 
+need-start-requires : tie.Need-need-start-requires Inv-loop μ-loop
+need-start-requires c κs = search needs
+
 mul-put-need : tie.Need-mul-put-need Inv-loop μ-loop
 mul-put-need c = search needs
-
-add-put-need : tie.Need-add-put-need Inv-loop μ-loop
-add-put-need c = search needs
-
-mul-put-need-2 : tie.Need-mul-put-need-2 Inv-loop μ-loop
-mul-put-need-2 c = search needs
 
 shared-slice-read-put-need : tie.Need-shared-slice-read-put-need Inv-loop μ-loop
 shared-slice-read-put-need c = search needs
@@ -47,10 +44,13 @@ loop-less c = search needs
 
 loop-again : tie.Need-loop-again Inv-loop μ-loop
 loop-again c =
-    let at-loop = c .before .before .before .before .before .before in
+    let at-put-need = c .before .before in
+    let at-need-start = at-put-need .before .before in
+    let at-loop = at-need-start .before .before .before in
     let l = at-loop .loop in
-    let a = c .before .before .before .before .before .before .before .before .before .args in
-    (search needs, joined-then (λ u. needLine (item (a .needs .now) u)) 5 (l .v) (a .out .now) (l .out) _ (needStart 0) (λ u. length-need (item (a .needs .now) u)) (l .inv .1) (c .before .before .put-need .ensures), c .before .before .put-need .kept .0 ∙ l .inv .2)
+    let a = at-loop .before .before .before .args in
+    let stored = rw (at-need-start .need-start .ensures) at (at-put-need .put-need .ensures) in
+    (search needs, joined-then (λ u. needLine (item (a .needs .now) u)) 5 (l .v) (a .out .now) (l .out) _ (needStart 0) (λ u. length-need (item (a .needs .now) u)) (l .inv .1) stored, at-put-need .put-need .kept .0 ∙ l .inv .2)
 
 same-length : tie.Need-same-length Inv-loop μ-loop
 same-length c = c .before .loop .inv .2
@@ -68,9 +68,8 @@ put-needs-spec =
     Inv-loop
     μ-loop
     loop-holds
+    need-start-requires
     mul-put-need
-    add-put-need
-    mul-put-need-2
     shared-slice-read-put-need
     put-need-requires
     add-v

@@ -14,17 +14,8 @@ put-needs-requires c κs = search needs
 put-links-requires : tie.Need-put-links-requires
 put-links-requires c κs = search needs
 
-mul-put-closing : tie.Need-mul-put-closing
-mul-put-closing c = search needs
-
-add-put-closing : tie.Need-add-put-closing
-add-put-closing c = search needs
-
-mul-put-closing-2 : tie.Need-mul-put-closing-2
-mul-put-closing-2 c = search needs
-
-add-put-closing-2 : tie.Need-add-put-closing-2
-add-put-closing-2 c = search needs
+link-start-requires : tie.Need-link-start-requires
+link-start-requires c κs = search needs
 
 put-closing-requires : tie.Need-put-closing-requires
 put-closing-requires c κs = search needs
@@ -34,12 +25,15 @@ same-length c = search needs
 
 returns : tie.Need-returns
 returns c =
-    let at-put-links = c .before .before .before .before .before .before in
+    let at-put-closing = c .before .before in
+    let at-link-start = at-put-closing .before in
+    let at-put-links = at-link-start .before .before .before .before in
     let at-put-needs = at-put-links .before .before .before .before in
     let at-put-triple = at-put-needs .before .before .before .before in
-    let a = c .before .before .before .before .before .before .before .before .before .before .before .before .before .before .before .before .before .before .before .before .before .args in
+    let a = at-put-triple .before .before .before .before .before .before .before .args in
     let t = ofSlices (a .number) (a .probes) (a .links) (a .needs .now) (a .lows .now) (a .highs .now) (a .costs .now) in
-    text-then t _ _ _ _ _ (at-put-triple .put-triple .ensures) (at-put-needs .put-needs .ensures) (at-put-links .put-links .ensures) (c .before .before .put-closing .ensures)
+    let closed = rw (at-link-start .link-start .ensures) at (at-put-closing .put-closing .ensures) in
+    text-then t _ _ _ _ _ (at-put-triple .put-triple .ensures) (at-put-needs .put-needs .ensures) (at-put-links .put-links .ensures) closed
 
 pub put-table-spec : {M : Type 1} → statement M
 put-table-spec =
@@ -48,10 +42,7 @@ put-table-spec =
     put-triple-requires
     put-needs-requires
     put-links-requires
-    mul-put-closing
-    add-put-closing
-    mul-put-closing-2
-    add-put-closing-2
+    link-start-requires
     put-closing-requires
     same-length
     returns)
