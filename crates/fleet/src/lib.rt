@@ -29,6 +29,7 @@ pub fn event(
     ensures { λ r. let x = slicesOf number probes links (now (needs .entry)) (now (lows .entry)) (now (highs .entry)) (now (costs .entry)) in
         ⌜ Handled x used room (now (line .entry)) r (now (rec .entry)) (now (rec .exit)) ⌝ }
 {
+    let mut degrees = [0u16; 256];
     let fault = fleet_state::checks::state_fault(
         probes as usize,
         links as usize,
@@ -37,12 +38,11 @@ pub fn event(
         highs,
         costs,
         rec,
+        &mut degrees,
     );
     if fault != 0 {
         return wake_log::Answer::Refused(fault);
     }
-    let mut degrees = [0u16; 256];
-    table::degrees::count_degrees(&mut degrees, links as usize, lows, highs);
     steps::handle_line(
         number,
         probes as usize,
@@ -73,6 +73,7 @@ pub fn finished(
     ensures { λ r. let x = slicesOf number probes links (now (needs .entry)) (now (lows .entry)) (now (highs .entry)) (now (costs .entry)) in
         ⌜ finishingReply r ≡ whetherFinished x (now (rec .entry)) ⌝ }
 {
+    let mut degrees = [0u16; 256];
     let fault = fleet_state::checks::state_fault(
         probes as usize,
         links as usize,
@@ -81,6 +82,7 @@ pub fn finished(
         highs,
         costs,
         rec,
+        &mut degrees,
     );
     if fault != 0 {
         return Finishing::Refused(fault);
@@ -89,6 +91,7 @@ pub fn finished(
         probes as usize,
         links as usize,
         needs,
+        &degrees,
         lows,
         highs,
         rec,

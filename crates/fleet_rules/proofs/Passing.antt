@@ -1,4 +1,4 @@
--- The pass over an end's own links, link by link.
+-- The pass over the links, from each own link of the end to the next.
 use Prim.Native.Nat.{ℕ, zero, suc, _+_, _-_, _≤_, _<_}
 use mathlib.Core.Path.{_≡_, refl, sym, _∙_, ap}
 use mathlib.Core.Logic.{_⊎_, inl, inr}

@@ -1,4 +1,4 @@
--- What one pass over its own links tells of an end.
+-- What one pass over the links tells of an end.
 use Prim.Native.Nat.{ℕ}
 use mathlib.Core.Path.{_≡_}
 use mathlib.Core.Bool.{Bool}

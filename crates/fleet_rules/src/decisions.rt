@@ -1,4 +1,4 @@
-// What befalls an end of a fleet, found in one pass over its own links. The fleet calls `decide`, within the bounds that it asks.
+// What befalls an end of a fleet, found in one pass over the links that stops at its own. The fleet calls `decide`, within the bounds that it asks.
 use super::Survey;
 use probe_rules::Event;
 use probe_rules::Outcome;
@@ -8,9 +8,8 @@ ghost use mathlib.Core.List.{[]};
 ghost use Prim.Native.Nat.{ℕ, _+_, _*_, _<_, _≤_};
 ghost use lib.Dec.{leb, eqb};
 ghost use lib.ListN.{length};
-ghost use Rattle.table.specs.Table.{item, ofSlices, dearerByPlace};
+ghost use Rattle.table.specs.Table.{item, ofSlices, dearerByPlace, Degrees};
 ghost use Rattle.table_links.specs.OrderedLinks.{OrderedLinks};
-ghost use Rattle.table_links.specs.Own.{Degrees};
 ghost use Rattle.probe_record.specs.Record.{sideByte, sideBetter};
 ghost use Rattle.probe_rules.specs.Rules.{opening, offer, befalls};
 ghost use Rattle.probe_rules.specs.Within.{EventWithin};

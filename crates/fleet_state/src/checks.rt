@@ -1,12 +1,12 @@
 // 20, 21 and 22 of a fleet's record.
 ghost use mathlib.Core.Path.{_≡_};
 ghost use mathlib.Core.List.{[]};
-ghost use Prim.Native.Nat.{_*_, _-_, _<_, _≤_};
-ghost use lib.ListN.{length};
+ghost use Prim.Native.Nat.{ℕ, _*_, _-_, _<_, _≤_};
+ghost use lib.ListN.{length, getD};
 ghost use Rattle.range.specs.First.{orElse, first};
 ghost use Rattle.table.specs.Slices.{slicesOf, tableOf, slicesFault};
 ghost use Rattle.probe_record.specs.Record.{spareFault};
-ghost use Rattle.table.specs.Table.{item, ofSlices};
+ghost use Rattle.table.specs.Table.{item, ofSlices, Degrees};
 ghost use Rattle.fleet_theory.specs.Fleet.{own, overTwo, fleetFault};
 ghost use Rattle.fleet_state.specs.Faults.{overFault};
 ghost use Rattle.fleet_state.specs.Within.{LegalWithoutCosts};
@@ -51,7 +51,7 @@ fn over_spare_fault(
     0
 }
 
-// 22.
+// 22; counts each probe's links into zeros.
 fn spares_fault(
     probes: usize,
     links: usize,
@@ -59,21 +59,22 @@ fn spares_fault(
     lows: &[u16],
     highs: &[u16],
     rec: &[u8],
+    degrees: &mut [u16],
 ) -> u8
-    requires { ⌜ LegalWithoutCosts probes links (now needs) (now lows) (now highs) × (4 * links ≤ length (now rec)) ⌝ }
+    requires { ⌜ LegalWithoutCosts probes links (now needs) (now lows) (now highs) × (4 * links ≤ length (now rec))
+        × (length (now degrees) ≡ 256) × ((v : ℕ) → getD (now degrees) v 0 ≡ 0) ⌝ }
     ensures { λ r. let t = ofSlices 0 probes links (now (needs .entry)) (now (lows .entry)) (now (highs .entry)) [] in
-        ⌜ r ≡ first (λ p. spareFault t p (own t p (now (rec .entry)))) probes ⌝ }
+        ⌜ (r ≡ first (λ p. spareFault t p (own t p (now (rec .entry)))) probes) × Degrees t (now (degrees .exit)) ⌝ }
 {
-    let mut degrees = [0u16; 256];
     let mut standing = [0u16; 256];
     let mut held = [0u16; 256];
-    table::degrees::count_degrees(&mut degrees, links, lows, highs);
+    table::degrees::count_degrees(degrees, links, lows, highs);
     super::counts::count_bytes(&mut standing, rec, links, lows, highs, 0, 2, 1);
     super::counts::count_bytes(&mut held, rec, links, lows, highs, 3, 1, 1);
-    over_spare_fault(probes, needs, &degrees, &standing, &held)
+    over_spare_fault(probes, needs, degrees, &standing, &held)
 }
 
-// 20, 21, 22.
+// 20, 21, 22; where there is none, each probe's links are counted.
 fn fleet_fault(
     probes: usize,
     links: usize,
@@ -81,10 +82,11 @@ fn fleet_fault(
     lows: &[u16],
     highs: &[u16],
     rec: &[u8],
+    degrees: &mut [u16],
 ) -> u8
-    requires { ⌜ LegalWithoutCosts probes links (now needs) (now lows) (now highs) ⌝ }
+    requires { ⌜ LegalWithoutCosts probes links (now needs) (now lows) (now highs) × (length (now degrees) ≡ 256) × ((v : ℕ) → getD (now degrees) v 0 ≡ 0) ⌝ }
     ensures { λ r. let t = ofSlices 0 probes links (now (needs .entry)) (now (lows .entry)) (now (highs .entry)) [] in
-        ⌜ r ≡ fleetFault t (now (rec .entry)) ⌝ }
+        ⌜ (r ≡ fleetFault t (now (rec .entry))) × (r ≡ 0 → Degrees t (now (degrees .exit))) ⌝ }
 {
     if rec.len() != 4 * links {
         return 20;
@@ -93,10 +95,10 @@ fn fleet_fault(
     if fault != 0 {
         return fault;
     }
-    spares_fault(probes, links, needs, lows, highs, rec)
+    spares_fault(probes, links, needs, lows, highs, rec, degrees)
 }
 
-// The table's own, then 20, 21, 22.
+// The table's own, then 20, 21, 22; where there is none, each probe's links are counted into zeros.
 pub fn state_fault(
     probes: usize,
     links: usize,
@@ -105,13 +107,15 @@ pub fn state_fault(
     highs: &[u16],
     costs: &[u16],
     rec: &[u8],
+    degrees: &mut [u16],
 ) -> u8
+    requires { ⌜ (length (now degrees) ≡ 256) × ((v : ℕ) → getD (now degrees) v 0 ≡ 0) ⌝ }
     ensures { λ r. let x = slicesOf 0 probes links (now (needs .entry)) (now (lows .entry)) (now (highs .entry)) (now (costs .entry)) in
-        ⌜ r ≡ orElse (slicesFault x) (fleetFault (tableOf x) (now (rec .entry))) ⌝ }
+        ⌜ (r ≡ orElse (slicesFault x) (fleetFault (tableOf x) (now (rec .entry)))) × (r ≡ 0 → Degrees (tableOf x) (now (degrees .exit))) ⌝ }
 {
     let fault = table::checks::slice_fault(256, 2048, probes, links, needs, lows, highs, costs);
     if fault != 0 {
         return fault;
     }
-    fleet_fault(probes, links, needs, lows, highs, rec)
+    fleet_fault(probes, links, needs, lows, highs, rec, degrees)
 }

@@ -1,12 +1,12 @@
 // Whether a fleet is finished.
 ghost use mathlib.Core.Path.{_≡_};
 ghost use mathlib.Core.Bool.{_||_};
-ghost use mathlib.Core.List.{List};
+ghost use mathlib.Core.List.{List, []};
 ghost use Prim.Native.Nat.{ℕ, _+_, _*_, _-_, _<_, _≤_};
 ghost use lib.Dec.{eqb};
 ghost use lib.ListN.{length};
 ghost use Rattle.range.specs.Sum.{count};
-ghost use Rattle.table.specs.Table.{item, ofSlices};
+ghost use Rattle.table.specs.Table.{item, ofSlices, Degrees};
 ghost use Rattle.fleet_theory.specs.Fleet.{finished, mayAlter};
 ghost use Rattle.fleet_state.specs.Within.{LegalWithoutCosts};
 ghost use Rattle.fleet_state.specs.Opening.{mayOpen};
@@ -69,26 +69,26 @@ fn none_opens(
     true
 }
 
-// Whether the fleet is finished; the costs do not bear on it.
+// Whether the fleet is finished, by each probe's number of links; the costs do not bear on it.
 pub fn is_finished(
     probes: usize,
     links: usize,
     needs: &[u16],
+    degrees: &[u16],
     lows: &[u16],
     highs: &[u16],
     rec: &[u8],
 ) -> bool
-    requires { ⌜ LegalWithoutCosts probes links (now needs) (now lows) (now highs) × (4 * links ≤ length (now rec)) ⌝ }
+    requires { ⌜ LegalWithoutCosts probes links (now needs) (now lows) (now highs) × (4 * links ≤ length (now rec))
+        × (probes ≤ length (now degrees)) × Degrees (ofSlices 0 probes links (now needs) (now lows) (now highs) []) (now degrees) ⌝ }
     ensures { λ r. ⌜ ((number : ℕ) (costs : List ℕ) → r ≡ finished (ofSlices number probes links (now (needs .entry)) (now (lows .entry)) (now (highs .entry)) costs) (now (rec .entry))) ⌝ }
 {
     if !none_alters(rec, links) {
         return false;
     }
-    let mut degrees = [0u16; 256];
     let mut standing = [0u16; 256];
     let mut untried = [0u16; 256];
-    table::degrees::count_degrees(&mut degrees, links, lows, highs);
     super::counts::count_bytes(&mut standing, rec, links, lows, highs, 0, 2, 1);
     super::counts::count_bytes(&mut untried, rec, links, lows, highs, 0, 2, 0);
-    none_opens(probes, needs, &degrees, &standing, &untried)
+    none_opens(probes, needs, degrees, &standing, &untried)
 }

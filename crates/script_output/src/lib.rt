@@ -3,11 +3,12 @@ use output::Output;
 use script_steps::Progress;
 ghost use mathlib.Core.Path.{_≡_};
 ghost use mathlib.Core.Bool.{cond};
-ghost use Prim.Native.Nat.{_≤_, _<_};
+ghost use Prim.Native.Nat.{ℕ, _≤_, _<_};
 ghost use lib.Dec.{ltb};
-ghost use lib.ListN.{length};
+ghost use lib.ListN.{length, getD};
 ghost use Rattle.output.specs.Output.{shortFault, Prints};
-ghost use Rattle.table.specs.Slices.{slicesOf};
+ghost use Rattle.table.specs.Table.{Degrees};
+ghost use Rattle.table.specs.Slices.{slicesOf, tableOf};
 ghost use Rattle.script_theory.specs.Script.{endText, scriptOutput};
 ghost use Rattle.script_steps.specs.Within.{underWay};
 ghost use Rattle.script_output.specs.Handling.{pieceFault, HandlesPiece, endCallFault};
@@ -33,7 +34,7 @@ fn begun(progress: Progress) -> Progress
 }
 
 // The fault of a piece: 8 for fewer than 16 bytes of `line`, the table's own, 20 to 22, and 8 where the output slice, of length `room`, does not hold what is printed.
-// Five bytes for each byte held or given hold any output; else it is counted, on copies.
+// Five bytes for each byte held or given hold any output; else it is counted, on copies. Where there is no fault, each probe's links are counted.
 fn piece_fault(
     number: u16,
     probes: u16,
@@ -47,10 +48,12 @@ fn piece_fault(
     begun: Progress,
     piece: &[u8],
     room: usize,
+    degrees: &mut [u16],
 ) -> u8
-    requires { ⌜ (begun .held ≤ 16) × (room < 9223372036854775808) ⌝ }
+    requires { ⌜ (begun .held ≤ 16) × (room < 9223372036854775808) × (length (now degrees) ≡ 256) × ((v : ℕ) → getD (now degrees) v 0 ≡ 0) ⌝ }
     ensures { λ r. let x = slicesOf number probes links (now (needs .entry)) (now (lows .entry)) (now (highs .entry)) (now (costs .entry)) in
-        ⌜ r ≡ pieceFault x (underWay begun (now (rec .entry)) (now (line .entry))) (now (piece .entry)) (length (now (line .entry))) room ⌝ }
+        ⌜ (r ≡ pieceFault x (underWay begun (now (rec .entry)) (now (line .entry))) (now (piece .entry)) (length (now (line .entry))) room)
+        × (r ≡ 0 → Degrees (tableOf x) (now (degrees .exit))) ⌝ }
 {
     if line.len() < 16 {
         return 8;
@@ -65,6 +68,7 @@ fn piece_fault(
         highs,
         costs,
         rec,
+        degrees,
     );
     if fault != 0 {
         return fault;
@@ -77,6 +81,7 @@ fn piece_fault(
         probe_count,
         link_count,
         needs,
+        degrees,
         lows,
         highs,
         costs,
@@ -110,6 +115,7 @@ pub fn script_piece(
         ⌜ HandlesPiece x progress (now (piece .entry)) r (now (rec .entry)) (now (rec .exit)) (now (line .entry)) (now (line .exit)) (now (out .entry)) (now (out .exit)) ⌝ }
 {
     let begun = begun(progress);
+    let mut degrees = [0u16; 256];
     let fault = piece_fault(
         number,
         probes,
@@ -123,6 +129,7 @@ pub fn script_piece(
         begun,
         piece,
         out.len(),
+        &mut degrees,
     );
     if fault != 0 {
         return Handling::Refused(fault);
@@ -134,6 +141,7 @@ pub fn script_piece(
         probes as usize,
         links as usize,
         needs,
+        &degrees,
         lows,
         highs,
         costs,
@@ -173,6 +181,7 @@ pub fn script_end(
     }
     let probe_count = probes as usize;
     let link_count = links as usize;
+    let mut degrees = [0u16; 256];
     let fault = fleet_state::checks::state_fault(
         probe_count,
         link_count,
@@ -181,6 +190,7 @@ pub fn script_end(
         highs,
         costs,
         rec,
+        &mut degrees,
     );
     if fault != 0 {
         return Output::Refused(fault);
@@ -189,6 +199,7 @@ pub fn script_end(
         probe_count,
         link_count,
         needs,
+        &degrees,
         lows,
         highs,
         rec,

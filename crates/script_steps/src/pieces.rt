@@ -9,8 +9,8 @@ ghost use lib.Dec.{ltb, leb, eqb};
 ghost use lib.ListN.{length, take};
 ghost use lib.Seq.{sets};
 ghost use Rattle.fleet_theory.specs.Fleet.{fleetFault};
+ghost use Rattle.table.specs.Table.{ofSlices, Degrees};
 ghost use Rattle.table.specs.Slices.{slicesFault, tableOf, slicesOf};
-ghost use Rattle.table_links.specs.Own.{Degrees};
 ghost use Rattle.fleet_state.specs.Within.{LegalWithoutCosts};
 ghost use Rattle.fleet.specs.Answers.{changesBy};
 ghost use Rattle.output.specs.Output.{shortFault, Prints};
@@ -164,6 +164,7 @@ pub fn take_piece(
     probes: usize,
     links: usize,
     needs: &[u16],
+    degrees: &[u16],
     lows: &[u16],
     highs: &[u16],
     costs: &[u16],
@@ -174,14 +175,12 @@ pub fn take_piece(
     out: &mut [u8],
 ) -> Place
     requires { let x = slicesOf number probes links (now needs) (now lows) (now highs) (now costs) in
-        ⌜ (slicesFault x ≡ 0) × (fleetFault (tableOf x) (now rec) ≡ 0)
+        ⌜ (slicesFault x ≡ 0) × (fleetFault (tableOf x) (now rec) ≡ 0) × (probes ≤ length (now degrees)) × Degrees (tableOf x) (now degrees)
         × (progress .held ≤ 16) × (length (now line) ≡ 17) ⌝ }
     ensures { λ r. let x = slicesOf number probes links (now (needs .entry)) (now (lows .entry)) (now (highs .entry)) (now (costs .entry)) in
         ⌜ Buffered (afterPiece x 1024 (underWay progress (now (rec .entry)) (now (line .entry))) (now (piece .entry)))
         0 r (now (rec .exit)) (now (line .exit)) (now (out .entry)) (now (out .exit)) × (r .progress .held ≤ 16) ⌝ }
 {
-    let mut degrees = [0u16; 256];
-    table::degrees::count_degrees(&mut degrees, links, lows, highs);
     let mut place = Place { at: 0, progress };
     let mut i = 0;
     while i < piece.len() {
@@ -190,7 +189,7 @@ pub fn take_piece(
             probes,
             links,
             needs,
-            &degrees,
+            degrees,
             lows,
             highs,
             costs,
@@ -220,6 +219,7 @@ pub fn put_end(
     probes: usize,
     links: usize,
     needs: &[u16],
+    degrees: &[u16],
     lows: &[u16],
     highs: &[u16],
     rec: &[u8],
@@ -228,7 +228,8 @@ pub fn put_end(
     out: &mut [u8],
     at: usize,
 ) -> usize
-    requires { ⌜ LegalWithoutCosts probes links (now needs) (now lows) (now highs) × (4 * links ≤ length (now rec)) × (at ≤ 9223372036854775808) ⌝ }
+    requires { ⌜ LegalWithoutCosts probes links (now needs) (now lows) (now highs) × (4 * links ≤ length (now rec))
+        × (probes ≤ length (now degrees)) × Degrees (ofSlices 0 probes links (now needs) (now lows) (now highs) []) (now degrees) × (at ≤ 9223372036854775808) ⌝ }
     ensures { λ r. ⌜ ((number : ℕ) (costs : List ℕ) → (now (out .exit) ≡ storedWithin (now (out .entry)) at
         (endText (slicesOf number probes links (now (needs .entry)) (now (lows .entry)) (now (highs .entry)) costs) (now (rec .entry)) held changed)))
         × (r ≡ capped (at + cond (eqb held 0) 11 16)) ⌝ }
@@ -238,7 +239,7 @@ pub fn put_end(
         return script_lines::answers::cap(end);
     }
     let next = script_lines::answers::put_unclosed(out, at, held);
-    let done = fleet_state::finishing::is_finished(probes, links, needs, lows, highs, rec);
+    let done = fleet_state::finishing::is_finished(probes, links, needs, degrees, lows, highs, rec);
     script_lines::answers::put_last(out, next, done, changed);
     end
 }
@@ -261,6 +262,7 @@ pub fn count_piece(
     probes: usize,
     links: usize,
     needs: &[u16],
+    degrees: &[u16],
     lows: &[u16],
     highs: &[u16],
     costs: &[u16],
@@ -270,7 +272,7 @@ pub fn count_piece(
     piece: &[u8],
 ) -> usize
     requires { let x = slicesOf number probes links (now needs) (now lows) (now highs) (now costs) in
-        ⌜ (slicesFault x ≡ 0) × (fleetFault (tableOf x) (now rec) ≡ 0) × (progress .held ≤ 16) × (progress .held ≤ length (now line)) ⌝ }
+        ⌜ (slicesFault x ≡ 0) × (fleetFault (tableOf x) (now rec) ≡ 0) × (probes ≤ length (now degrees)) × Degrees (tableOf x) (now degrees) × (progress .held ≤ 16) × (progress .held ≤ length (now line)) ⌝ }
     ensures { λ r. let x = slicesOf number probes links (now (needs .entry)) (now (lows .entry)) (now (highs .entry)) (now (costs .entry)) in
         ⌜ r ≡ capped (length (afterPiece x 1024 (underWay progress (now (rec .entry)) (now (line .entry))) (now (piece .entry)) .out)) ⌝ }
 {
@@ -285,6 +287,7 @@ pub fn count_piece(
         probes,
         links,
         needs,
+        degrees,
         lows,
         highs,
         costs,
@@ -314,6 +317,8 @@ fn put_script(
         let printed = scriptText x 1024 (now (text .entry)) in
         ⌜ (r ≡ capped (length printed)) × (length printed ≤ length (now (out .entry)) → now (out .exit) ≡ sets (now (out .entry)) 0 printed) ⌝ }
 {
+    let mut degrees = [0u16; 256];
+    table::degrees::count_degrees(&mut degrees, links, lows, highs);
     let mut bytes = [0u8; 8192];
     let mut line = [0u8; 17];
     let rec = &mut bytes[..4 * links];
@@ -327,6 +332,7 @@ fn put_script(
         probes,
         links,
         needs,
+        &degrees,
         lows,
         highs,
         costs,
@@ -341,6 +347,7 @@ fn put_script(
         probes,
         links,
         needs,
+        &degrees,
         lows,
         highs,
         rec,

@@ -1,5 +1,6 @@
 -- A site and the order of its links. The sentences are those of document 01, "Table and order".
 use Prim.Native.Nat.{ℕ, _-_}
+use mathlib.Core.Path.{_≡_}
 use mathlib.Core.Bool.{Bool, cond, _&&_, _||_}
 use mathlib.Core.List.{List}
 use lib.Dec.{ltb, eqb}
@@ -42,6 +43,10 @@ touches t v i = eqb v (t .low i) || eqb v (t .high i)
 -- the probe's number of links
 abbrev pub degree : Table → ℕ → ℕ
 degree t v = count (t .links) (touches t v)
+
+-- the slice holds each probe's number of links
+abbrev pub Degrees : Table → List ℕ → Type 0
+Degrees t degrees = (v : ℕ) → item degrees v ≡ degree t v
 
 -- "Its spare is its number of links less its need."
 abbrev pub spare : Table → ℕ → ℕ

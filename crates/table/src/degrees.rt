@@ -4,7 +4,7 @@ ghost use mathlib.Core.Path.{_≡_};
 ghost use mathlib.Core.List.{[]};
 ghost use Prim.Native.Nat.{ℕ, _+_, _-_, _<_, _≤_};
 ghost use lib.ListN.{length, getD, set};
-ghost use Rattle.table.specs.Table.{item, ofSlices, degree};
+ghost use Rattle.table.specs.Table.{item, ofSlices, Degrees};
 ghost use Rattle.table.specs.Legal.{Ends};
 
 // One more at a probe.
@@ -28,7 +28,7 @@ pub fn count_degrees(counts: &mut [u16], links: usize, lows: &[u16], highs: &[u1
     requires { ⌜ (links ≤ length (now lows)) × (links ≤ length (now highs)) × (links ≤ 65535)
         × ((i : ℕ) → i < links → Ends (length (now counts)) (item (now lows) i) (item (now highs) i))
         × ((v : ℕ) → getD (now counts) v 0 ≡ 0) ⌝ }
-    ensures { λ _. ⌜ ((v : ℕ) → getD (now (counts .exit)) v 0 ≡ degree (ofSlices 0 0 links [] (now (lows .entry)) (now (highs .entry)) []) v) ⌝ }
+    ensures { λ _. ⌜ Degrees (ofSlices 0 0 links [] (now (lows .entry)) (now (highs .entry)) []) (now (counts .exit)) ⌝ }
 {
     let mut i = 0;
     while i < links {

@@ -4,8 +4,10 @@ use super::HEADER_BYTES;
 use super::LINK_BYTES;
 use super::NEED_BYTES;
 ghost use mathlib.Core.Path.{_≡_};
-ghost use Prim.Native.Nat.{_+_, _≤_};
-ghost use Rattle.table.specs.Text.{needStart, linkStart};
+ghost use mathlib.Core.List.{[]};
+ghost use Prim.Native.Nat.{_≤_};
+ghost use Rattle.table.specs.Table.{ofSlices};
+ghost use Rattle.table.specs.Text.{needStart, linkStart, textEnd};
 
 // The need line of probe v.
 pub fn need_start(v: usize) -> usize
@@ -26,7 +28,7 @@ pub fn link_start(probes: usize, i: usize) -> usize
 // Behind the closing line.
 pub fn text_end(probes: usize, links: usize) -> usize
     requires { ⌜ (probes ≤ 65535) × (links ≤ 65535) ⌝ }
-    ensures { λ r. ⌜ r ≡ linkStart probes links + 5 ⌝ }
+    ensures { λ r. ⌜ r ≡ textEnd (ofSlices 0 probes links [] [] [] []) ⌝ }
 {
     link_start(probes, links) + CLOSING_BYTES
 }

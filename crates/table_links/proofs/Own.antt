@@ -4,8 +4,7 @@ use mathlib.Core.Path.{_≡_, sym, _∙_, ap}
 use mathlib.Core.Bool.{Bool, true, false}
 use native.Mathlib.Omega.{arith}
 use native.Mathlib.Decide.{decLt}
-use Rattle.range.specs.Choice.{lowest}
-use Rattle.range.proofs.Choice.{Lowest, lowest-is, is-lowest}
+use Rattle.range.proofs.Choice.{lowest-is, is-lowest}
 use Rattle.table.specs.Table.{Table, touches}
 use Rattle.table_links.specs.Own.{nextOwn}
 
@@ -28,8 +27,8 @@ module _ (t : Table) (v from : ℕ) (l : from ≤ t .links) where
     pub inside : k < t .links → touches t v k ≡ true
     pub before : (j : ℕ) → from ≤ j → j < k → touches t v j ≡ false
 
-  at : (j : ℕ) → from ≤ j → touches t v j ≡ shifted (j - from)
-  at j m = ap (touches t v) (let e : j ≡ from + (j - from) = omega arith in e)
+  from-here : (j : ℕ) → from ≤ j → touches t v j ≡ shifted (j - from)
+  from-here j m = ap (touches t v) (let e : j ≡ from + (j - from) = omega arith in e)
 
   pub next-own-is : Next (nextOwn t v from)
   next-own-is =
@@ -39,12 +38,12 @@ module _ (t : Table) (v from : ℕ) (l : from ≤ t .links) where
         behind = omega arith;
         within = omega arith;
         inside = λ m. h .inside (omega arith);
-        before = λ j m n. at j m ∙ h .before (j - from) (omega arith);
+        before = λ j m n. from-here j m ∙ h .before (j - from) (omega arith);
       }
 
   pub is-next-own : (k : ℕ) → Next k → k ≡ nextOwn t v from
   is-next-own k h =
       let b = h .behind in
       let w = h .within in
-      let e = is-lowest shifted (t .links - from) (k - from) (record { within = omega arith; inside = λ m. sym (at k b) ∙ h .inside (omega arith); before = λ j m. h .before (from + j) (omega arith) (omega arith) }) in
+      let e = is-lowest shifted (t .links - from) (k - from) (record { within = omega arith; inside = λ m. sym (from-here k b) ∙ h .inside (omega arith); before = λ j m. h .before (from + j) (omega arith) (omega arith) }) in
       omega arith

@@ -9,6 +9,7 @@ use mathlib.Core.List.{[]}
 use native.Mathlib.Omega.{arith}
 use lib.Dec.{eqb}
 use lib.ListN.{length}
+use Rattle.range.proofs.Lists.{zeros-at}
 use Rattle.range.proofs.Faults.{or-left, or-right, or-here, or-none}
 use Rattle.table.proofs.Slices.{legal-slices}
 use Rattle.table.specs.Slices.{tableOf, slicesFault, slicesOf}
@@ -37,13 +38,16 @@ returns c =
     let short : length (a .out .now) < length printed = omega (arith, at-end-length .end-length .ensures, c .if1 .taken) in
     prints-refused _ 8 printed (a .out .now) (or-here 8 (shortFault (length (a .out .now)) printed) (siteFault x (a .rec .now)) (too-short (length (a .out .now)) printed short) (λ z. omega arith)) (λ z. omega arith)
 
+slice-aggregate-state-fault : tie.Need-slice-aggregate-state-fault
+slice-aggregate-state-fault c = search needs
+
 state-fault-requires : tie.Need-state-fault-requires
-state-fault-requires c κs = search needs
+state-fault-requires c κs = (search needs, zeros-at 256)
 
 returns-2 : tie.Need-returns-2
 returns-2 c =
-    let at-state-fault = c .before in
-    let at-if1 = at-state-fault .before in
+    let at-state-fault = c .before .before in
+    let at-if1 = at-state-fault .before .before in
     let at-end-length = at-if1 .before in
     let s = at-end-length .before .before .before .before .before .before .before in
     let a = s .args in
@@ -51,20 +55,26 @@ returns-2 c =
     let printed = endText x (a .rec .now) (a .progress .held) (a .progress .changed) in
     let n = length-end x (a .rec .now) (a .progress .held) (a .progress .changed) in
     let long : length printed ≤ length (a .out .now) = omega (arith, at-end-length .end-length .ensures, at-if1 .if1 .left) in
-    let f = state-is (a .number) (a .probes) (a .links) (a .needs .now) (a .lows .now) (a .highs .now) (a .costs .now) 0 0 [] (a .rec .now) _ (at-state-fault .state-fault .ensures) in
+    let f = state-is (a .number) (a .probes) (a .links) (a .needs .now) (a .lows .now) (a .highs .now) (a .costs .now) 0 0 [] (a .rec .now) _ (at-state-fault .state-fault .ensures .0) in
     prints-refused _ _ printed (a .out .now) (f ∙ sym (or-none (shortFault (length (a .out .now)) printed) (siteFault x (a .rec .now)) (long-enough (length (a .out .now)) printed long))) (c .if2 .taken)
+
+slice-aggregate-put-end : tie.Need-slice-aggregate-put-end
+slice-aggregate-put-end c = search needs
 
 put-end-requires : tie.Need-put-end-requires
 put-end-requires c κs =
-    let at-if2 = c .before in
-    let at-state-fault = at-if2 .before in
-    let s = at-state-fault .before .before .before .before .before .before .before .before .before in
+    let at-if2 = c .before .before in
+    let at-state-fault = at-if2 .before .before in
+    let s = at-state-fault .before .before .before .before .before .before .before .before .before .before in
     let a = s .args in
     let x = slicesOf (a .number) (a .probes) (a .links) (a .needs .now) (a .lows .now) (a .highs .now) (a .costs .now) in
-    let f = state-is (a .number) (a .probes) (a .links) (a .needs .now) (a .lows .now) (a .highs .now) (a .costs .now) 0 0 [] (a .rec .now) _ (at-state-fault .state-fault .ensures) in
+    let f = state-is (a .number) (a .probes) (a .links) (a .needs .now) (a .lows .now) (a .highs .now) (a .costs .now) 0 0 [] (a .rec .now) _ (at-state-fault .state-fault .ensures .0) in
     let z = sym f ∙ at-if2 .if2 .left in
+    let l = legal-slices 256 2048 x (or-left (slicesFault x) (fleetFault (tableOf x) (a .rec .now)) z) in
+    let told = at-state-fault .state-fault in
+    let room : length (told .last .1 .1 .1 .1 .1 .1 .1 .0) ≡ 256 = told .kept .1 .1 .1 .1 .1 .1 .1 .0 in
     let g = fleet-good (tableOf x) (a .rec .now) (or-right (slicesFault x) (fleetFault (tableOf x) (a .rec .now)) z) in
-    (fits (a .number) (a .probes) (a .links) (a .needs .now) (a .lows .now) (a .highs .now) (a .costs .now) (legal-slices 256 2048 x (or-left (slicesFault x) (fleetFault (tableOf x) (a .rec .now)) z)), omega (arith, g .0), omega arith)
+    (fits (a .number) (a .probes) (a .links) (a .needs .now) (a .lows .now) (a .highs .now) (a .costs .now) l, omega (arith, g .0), omega (arith, l .few, room), told .ensures .1 (at-if2 .if2 .left), omega arith)
 
 same-length : tie.Need-same-length
 same-length c = search needs
@@ -72,15 +82,15 @@ same-length c = search needs
 returns-3 : tie.Need-returns-3
 returns-3 c =
     let at-put-end = c .before .before in
-    let at-if2 = at-put-end .before .before in
-    let at-state-fault = at-if2 .before in
-    let at-if1 = at-state-fault .before in
+    let at-if2 = at-put-end .before .before .before in
+    let at-state-fault = at-if2 .before .before in
+    let at-if1 = at-state-fault .before .before in
     let at-end-length = at-if1 .before in
     let s = at-end-length .before .before .before .before .before .before .before in
     let a = s .args in
     let x = slicesOf (a .number) (a .probes) (a .links) (a .needs .now) (a .lows .now) (a .highs .now) (a .costs .now) in
     let printed = endText x (a .rec .now) (a .progress .held) (a .progress .changed) in
-    let f = state-is (a .number) (a .probes) (a .links) (a .needs .now) (a .lows .now) (a .highs .now) (a .costs .now) 0 0 [] (a .rec .now) _ (at-state-fault .state-fault .ensures) in
+    let f = state-is (a .number) (a .probes) (a .links) (a .needs .now) (a .lows .now) (a .highs .now) (a .costs .now) 0 0 [] (a .rec .now) _ (at-state-fault .state-fault .ensures .0) in
     let k = at-put-end .put-end in
     let n = length-end x (a .rec .now) (a .progress .held) (a .progress .changed) in
     let m = end-most (eqb (a .progress .held) 0) in
@@ -96,8 +106,10 @@ script-end-spec =
     (tie.spec
     end-length-requires
     returns
+    slice-aggregate-state-fault
     state-fault-requires
     returns-2
+    slice-aggregate-put-end
     put-end-requires
     same-length
     returns-3)

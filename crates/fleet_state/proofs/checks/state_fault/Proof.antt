@@ -13,17 +13,27 @@ slice-fault-requires : tie.Need-slice-fault-requires
 slice-fault-requires c κs = search needs
 
 returns : tie.Need-returns
-returns c = or-here _ _ _ (c .before .slice-fault .ensures) (c .if1 .taken)
+returns c = (or-here _ _ _ (c .before .slice-fault .ensures) (c .if1 .taken), λ z. absurd (c .if1 .taken z))
 
 fleet-fault-requires : tie.Need-fleet-fault-requires
 fleet-fault-requires c κs =
-    let a = c .before .before .before .before .before .before .before .args in
-    fits 0 (a .probes) (a .links) (a .needs .now) (a .lows .now) (a .highs .now) (a .costs .now) (legal-slices 256 2048 (slicesOf 0 (a .probes) (a .links) (a .needs .now) (a .lows .now) (a .highs .now) (a .costs .now)) (sym (c .before .slice-fault .ensures) ∙ c .if1 .left))
+    let at-test = c .before in
+    let at-slice-fault = at-test .before in
+    let at-start = at-slice-fault .before .before .before .before .before .before .before in
+    let a = at-start .args in
+    (fits 0 (a .probes) (a .links) (a .needs .now) (a .lows .now) (a .highs .now) (a .costs .now) (legal-slices 256 2048 (slicesOf 0 (a .probes) (a .links) (a .needs .now) (a .lows .now) (a .highs .now) (a .costs .now)) (sym (at-slice-fault .slice-fault .ensures) ∙ at-test .if1 .left)), at-start .pre .0, at-start .pre .1)
+
+same-length : tie.Need-same-length
+same-length c = search needs
 
 returns-2 : tie.Need-returns-2
 returns-2 c =
-    let a = c .before .before .before .before .before .before .before .before .args in
-    or-next _ _ _ _ (c .before .before .slice-fault .ensures) (c .before .if1 .left) (c .fleet-fault .ensures ∙ fleet-same 0 (a .probes) (a .links) (a .needs .now) (a .lows .now) (a .highs .now) (a .costs .now) (a .rec .now))
+    let at-fleet-fault = c .before .before in
+    let at-test = at-fleet-fault .before .before in
+    let at-slice-fault = at-test .before in
+    let a = at-slice-fault .before .before .before .before .before .before .before .args in
+    let told = at-fleet-fault .fleet-fault .ensures in
+    (or-next _ _ _ _ (at-slice-fault .slice-fault .ensures) (at-test .if1 .left) (told .0 ∙ fleet-same 0 (a .probes) (a .links) (a .needs .now) (a .lows .now) (a .highs .now) (a .costs .now) (a .rec .now)), told .1)
 
 pub state-fault-spec : {M : Type 1} → statement M
-state-fault-spec = tie.close (tie.spec slice-fault-requires returns fleet-fault-requires returns-2)
+state-fault-spec = tie.close (tie.spec slice-fault-requires returns fleet-fault-requires same-length returns-2)

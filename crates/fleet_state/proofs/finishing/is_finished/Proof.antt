@@ -22,28 +22,16 @@ none-alters-requires c κs = search needs
 
 returns : tie.Need-returns
 returns c =
-    let at-start = c .before .before .before .before .before .before in
-    let a = at-start .args in
-    λ number costs. not-finished (ofSlices number (a .probes) (a .links) (a .needs .now) (a .lows .now) (a .highs .now) costs) (a .rec .now) (at-start .pre .0 .legal) _ (c .before .none-alters .ensures) (not-true _ (c .if1 .taken))
-
-slice-aggregate-count-degrees : tie.Need-slice-aggregate-count-degrees
-slice-aggregate-count-degrees c = search needs
-
-count-degrees-requires : tie.Need-count-degrees-requires
-count-degrees-requires c κs =
     let at-start = c .before .before .before .before .before .before .before in
     let a = at-start .args in
-    let p = at-start .pre .0 in
-    let t = ofSlices 0 (a .probes) (a .links) (a .needs .now) (a .lows .now) (a .highs .now) [] in
-    let s = legal-table 256 2048 t (p .legal) .size in
-    (p .in-lows, p .in-highs, omega (arith, s .within), fits-ends (a .probes) (a .links) (a .needs .now) (a .lows .now) (a .highs .now) p, zeros-at 256)
+    λ number costs. not-finished (ofSlices number (a .probes) (a .links) (a .needs .now) (a .lows .now) (a .highs .now) costs) (a .rec .now) (at-start .pre .0 .legal) _ (c .before .none-alters .ensures) (not-true _ (c .if1 .taken))
 
 slice-aggregate-count-bytes : tie.Need-slice-aggregate-count-bytes
 slice-aggregate-count-bytes c = search needs
 
 count-bytes-requires : tie.Need-count-bytes-requires
 count-bytes-requires c κs =
-    let at-start = c .before .before .before .before .before .before .before .before .before .before in
+    let at-start = c .before .before .before .before .before .before .before .before in
     let a = at-start .args in
     let p = at-start .pre .0 in
     let s = legal-table 256 2048 (ofSlices 0 (a .probes) (a .links) (a .needs .now) (a .lows .now) (a .highs .now) []) (p .legal) .size in
@@ -55,7 +43,7 @@ slice-aggregate-count-bytes-2 c = search needs
 
 count-bytes-requires-2 : tie.Need-count-bytes-requires-2
 count-bytes-requires-2 c κs =
-    let at-start = c .before .before .before .before .before .before .before .before .before .before .before .before .before in
+    let at-start = c .before .before .before .before .before .before .before .before .before .before .before in
     let a = at-start .args in
     let p = at-start .pre .0 in
     let s = legal-table 256 2048 (ofSlices 0 (a .probes) (a .links) (a .needs .now) (a .lows .now) (a .highs .now) []) (p .legal) .size in
@@ -68,35 +56,29 @@ slice-aggregate-none-opens c = search needs
 slice-aggregate-none-opens-2 : tie.Need-slice-aggregate-none-opens-2
 slice-aggregate-none-opens-2 c = search needs
 
-slice-aggregate-none-opens-3 : tie.Need-slice-aggregate-none-opens-3
-slice-aggregate-none-opens-3 c = search needs
-
 none-opens-requires : tie.Need-none-opens-requires
 none-opens-requires c κs =
-    let at-count-bytes2 = c .before .before .before .before in
+    let at-count-bytes2 = c .before .before .before in
     let at-count-bytes = at-count-bytes2 .before .before .before in
-    let at-count-degrees = at-count-bytes .before .before .before in
-    let at-start = at-count-degrees .before .before .before .before .before .before .before .before in
+    let at-start = at-count-bytes .before .before .before .before .before .before .before .before .before in
     let a = at-start .args in
     let p = at-start .pre .0 in
     let s = legal-table 256 2048 (ofSlices 0 (a .probes) (a .links) (a .needs .now) (a .lows .now) (a .highs .now) []) (p .legal) .size in
-    let d : length (at-count-degrees .count-degrees .last .0) ≡ 256 = at-count-degrees .count-degrees .kept .0 in
     let e : length (at-count-bytes .count-bytes .last .0) ≡ 256 = at-count-bytes .count-bytes .kept .0 in
     let f : length (at-count-bytes2 .count-bytes2 .last .0) ≡ 256 = at-count-bytes2 .count-bytes2 .kept .0 in
-    (omega (arith, s .few), omega (arith, s .few), omega (arith, s .few))
+    (at-start .pre .2, omega (arith, s .few), omega (arith, s .few))
 
 returns-2 : tie.Need-returns-2
 returns-2 c =
-    let at-count-bytes2 = c .before .before .before .before .before in
+    let at-count-bytes2 = c .before .before .before .before in
     let at-count-bytes = at-count-bytes2 .before .before .before in
-    let at-count-degrees = at-count-bytes .before .before .before in
-    let at-test = at-count-degrees .before .before in
+    let at-test = at-count-bytes .before .before in
     let at-none-alters = at-test .before in
-    let at-start = at-none-alters .before .before .before .before .before in
+    let at-start = at-none-alters .before .before .before .before .before .before in
     let a = at-start .args in
     λ number costs.
     let t : Table = ofSlices number (a .probes) (a .links) (a .needs .now) (a .lows .now) (a .highs .now) costs in
-    finished-counted t (a .rec .now) (at-start .pre .0 .legal) _ _ (at-none-alters .none-alters .ensures) (not-false _ (at-test .if1 .left)) (c .none-opens .ensures ∙ ap (λ (k : ℕ). eqb k 0) (weigh-same (a .probes) _ (wouldOpen t (a .rec .now)) (λ i. 1) (λ v l. open-counted t (a .rec .now) v _ _ _ (at-count-degrees .count-degrees .ensures v) (at-count-bytes .count-bytes .ensures v) (at-count-bytes2 .count-bytes2 .ensures v))))
+    finished-counted t (a .rec .now) (at-start .pre .0 .legal) _ _ (at-none-alters .none-alters .ensures) (not-false _ (at-test .if1 .left)) (c .none-opens .ensures ∙ ap (λ (k : ℕ). eqb k 0) (weigh-same (a .probes) _ (wouldOpen t (a .rec .now)) (λ i. 1) (λ v l. open-counted t (a .rec .now) v _ _ _ (at-start .pre .3 v) (at-count-bytes .count-bytes .ensures v) (at-count-bytes2 .count-bytes2 .ensures v))))
 
 pub is-finished-spec : {M : Type 1} → statement M
 is-finished-spec =
@@ -104,14 +86,11 @@ is-finished-spec =
     (tie.spec
     none-alters-requires
     returns
-    slice-aggregate-count-degrees
-    count-degrees-requires
     slice-aggregate-count-bytes
     count-bytes-requires
     slice-aggregate-count-bytes-2
     count-bytes-requires-2
     slice-aggregate-none-opens
     slice-aggregate-none-opens-2
-    slice-aggregate-none-opens-3
     none-opens-requires
     returns-2)

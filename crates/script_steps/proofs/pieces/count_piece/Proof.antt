@@ -19,7 +19,7 @@ slice-aggregate-copy c = search needs
 
 copy-requires : tie.Need-copy-requires
 copy-requires c κs =
-    let s = c .before .before .before .before .before .before .before .before in
+    let s = c .before .before .before .before .before .before .before .before .before in
     let a = s .args in
     let x = slicesOf (a .number) (a .probes) (a .links) (a .needs .now) (a .lows .now) (a .highs .now) (a .costs .now) in
     let m = links-within x (s .pre .0) in
@@ -37,7 +37,7 @@ copy-requires-2 c κs = search needs
 
 array-borrow-prefix-bytes : tie.Need-array-borrow-prefix-bytes
 array-borrow-prefix-bytes c =
-    let s = c .before .before .before .before .before .before .before .before .before .before .before .before .before .before in
+    let s = c .before .before .before .before .before .before .before .before .before .before .before .before .before .before .before in
     let at-copy = c .before .before .before .before .before in
     let a = s .args in
     let x = slicesOf (a .number) (a .probes) (a .links) (a .needs .now) (a .lows .now) (a .highs .now) (a .costs .now) in
@@ -48,7 +48,7 @@ array-borrow-prefix-bytes c =
 slice-aggregate-take-piece : tie.Need-slice-aggregate-take-piece
 slice-aggregate-take-piece c =
     let at-copy = c .before .before .before .before .before .before in
-    let s = at-copy .before .before .before .before .before .before .before .before .before in
+    let s = at-copy .before .before .before .before .before .before .before .before .before .before in
     let a = s .args in
     let x = slicesOf (a .number) (a .probes) (a .links) (a .needs .now) (a .lows .now) (a .highs .now) (a .costs .now) in
     let m = links-within x (s .pre .0) in
@@ -67,21 +67,21 @@ slice-aggregate-take-piece-3 c = search needs
 take-piece-requires : tie.Need-take-piece-requires
 take-piece-requires c κs =
     let at-copy = c .before .before .before .before .before .before .before .before in
-    let s = at-copy .before .before .before .before .before .before .before .before .before in
+    let s = at-copy .before .before .before .before .before .before .before .before .before .before in
     let a = s .args in
     let x = slicesOf (a .number) (a .probes) (a .links) (a .needs .now) (a .lows .now) (a .highs .now) (a .costs .now) in
     let m = links-within x (s .pre .0) in
     let f = fleet-good (tableOf x) (a .rec .now) (s .pre .1) in
     let zeros : List ℕ = replicate 8192 0 in
     let whole = copied-part zeros _ (a .rec .now) (length (a .rec .now)) (at-copy .copy .ensures) (omega (arith, f .0)) (omega arith) ∙ take-all (length (a .rec .now)) (a .rec .now) (omega arith) in
-    (s .pre .0, rw whole (s .pre .1), s .pre .2, c .before .before .before .before .copy2 .kept .0)
+    (s .pre .0, rw whole (s .pre .1), s .pre .2, s .pre .3, s .pre .4, c .before .before .before .before .copy2 .kept .0)
 
 returns : tie.Need-returns
 returns c =
     let at-take-piece = c .before .before .before in
     let at-copy2 = at-take-piece .before .before .before .before .before in
     let at-copy = at-copy2 .before .before .before .before in
-    let s = at-copy .before .before .before .before .before .before .before .before .before in
+    let s = at-copy .before .before .before .before .before .before .before .before .before .before in
     let a = s .args in
     let x = slicesOf (a .number) (a .probes) (a .links) (a .needs .now) (a .lows .now) (a .highs .now) (a .costs .now) in
     let m = links-within x (s .pre .0) in
@@ -89,7 +89,7 @@ returns c =
     let zeros : List ℕ = replicate 8192 0 in
     let blank : List ℕ = replicate 17 0 in
     let whole = copied-part zeros _ (a .rec .now) (length (a .rec .now)) (at-copy .copy .ensures) (omega (arith, f .0)) (omega arith) ∙ take-all (length (a .rec .now)) (a .rec .now) (omega arith) in
-    let part = copied-part blank _ (a .line .now) (a .progress .held) (at-copy2 .copy2 .ensures) (omega (arith, s .pre .2)) (s .pre .3) in
+    let part = copied-part blank _ (a .line .now) (a .progress .held) (at-copy2 .copy2 .ensures) (omega (arith, s .pre .4)) (s .pre .5) in
     at-take-piece .take-piece .ensures .0 .at ∙ rw (whole, part) (ap capped (omega arith))
 
 pub count-piece-spec : {M : Type 1} → statement M

@@ -23,9 +23,9 @@ end-length-requires c κs = search needs
 
 add-end : tie.Need-add-end
 add-end c =
-    let s = c .before .before .before .before .before .before in
+    let s = c .before .before .before .before .before .before .before in
     let n = end-most (eqb (s .args .held) 0) in
-    omega (arith, s .pre .2, c .end-length .ensures)
+    omega (arith, s .pre .4, c .end-length .ensures)
 
 cap-requires : tie.Need-cap-requires
 cap-requires c κs = search needs
@@ -34,7 +34,7 @@ returns : tie.Need-returns
 returns c =
     let at-if1 = c .before in
     let at-end-length = at-if1 .before in
-    let s = at-end-length .before .before .before .before .before .before in
+    let s = at-end-length .before .before .before .before .before .before .before in
     let a = s .args in
     let e = at-end-length .end-length .ensures in (
       λ number costs.
@@ -48,7 +48,7 @@ put-unclosed-requires : tie.Need-put-unclosed-requires
 put-unclosed-requires c κs =
     let at-if1 = c .before in
     let at-end-length = at-if1 .before in
-    let s = at-end-length .before .before .before .before .before .before in
+    let s = at-end-length .before .before .before .before .before .before .before in
     let n = eleven (eqb (s .args .held) 0) in
     omega (arith, at-if1 .if1 .left, at-end-length .end-length .ensures)
 
@@ -60,7 +60,7 @@ put-last-requires c κs =
     let at-put-unclosed = c .before .before .before .before in
     let at-if1 = at-put-unclosed .before .before in
     let at-end-length = at-if1 .before in
-    let s = at-end-length .before .before .before .before .before .before in
+    let s = at-end-length .before .before .before .before .before .before .before in
     let u = at-put-unclosed .put-unclosed in
     let n = eleven (eqb (s .args .held) 0) in
     omega (arith, at-if1 .if1 .left, at-end-length .end-length .ensures, u .ensures .1, u .kept .0)
@@ -75,7 +75,7 @@ returns-2 c =
     let at-put-unclosed = at-is-finished .before .before .before in
     let at-if1 = at-put-unclosed .before .before in
     let at-end-length = at-if1 .before in
-    let s = at-end-length .before .before .before .before .before .before in
+    let s = at-end-length .before .before .before .before .before .before .before in
     let a = s .args in
     let u = at-put-unclosed .put-unclosed in
     let e = at-end-length .end-length .ensures in (
@@ -84,7 +84,7 @@ returns-2 c =
           let n = length-end x (a .rec .now) (a .held) (a .changed) in
           end-then x (a .rec .now) (a .held) (a .changed) _ (a .at) _ (a .out .now) _ _ (at-is-finished .is-finished .ensures number costs) (u .ensures .0) (u .ensures .1) (at-put-last .put-last .ensures)
           ∙ sym (stored-fits (a .out .now) (a .at) (endText x (a .rec .now) (a .held) (a .changed)) (omega (arith, at-if1 .if1 .left))),
-      sym (capped-below (a .at + cond (eqb (a .held) 0) 11 16) (omega (arith, at-if1 .if1 .left, s .good .1 .1 .1 .1 .1 .1 .1 .1 .0)) ∙ omega arith),
+      sym (capped-below (a .at + cond (eqb (a .held) 0) 11 16) (omega (arith, at-if1 .if1 .left, s .good .1 .1 .1 .1 .1 .1 .1 .1 .1 .0)) ∙ omega arith),
     )
 
 pub put-end-spec : {M : Type 1} → statement M

@@ -8,59 +8,39 @@ use mathlib.Core.Path.{_≡_, refl, _∙_}
 use native.Mathlib.Omega.{arith}
 use lib.ListN.{length}
 use Rattle.table.specs.Slices.{slicesOf}
-use Rattle.range.proofs.Lists.{zeros-at}
-use Rattle.table.proofs.Slices.{legal-slices}
-use Rattle.fleet_state.proofs.Legal.{may-count}
 use Rattle.script_steps.specs.Within.{underWay}
 use Rattle.script_steps.proofs.PieceLaws.{at-most, Taken, taken-none, taken-next, taken-all}
 
 abbrev Inv-loop : tie.InvT-loop
-Inv-loop number probes links needs lows highs costs rec₀ line₀ piece out₀ degrees place₀ i₀ rec line out place i =
+Inv-loop number probes links needs degrees lows highs costs rec₀ line₀ piece out₀ place₀ i₀ rec line out place i =
     (i ≤ length piece) × Taken (slicesOf number probes links needs lows highs costs) 1024 (underWay (place₀ .progress) rec₀ line₀) piece out₀ i place rec line out
     × (length rec ≡ length rec₀) × (length line ≡ 17) × (length out ≡ length out₀)
 
 abbrev μ-loop : tie.MeasureT-loop
-μ-loop number probes links needs lows highs costs rec₀ line₀ piece out₀ degrees place₀ i₀ rec line out place i = length piece - i
-
-slice-aggregate-count-degrees : tie.Need-slice-aggregate-count-degrees Inv-loop μ-loop
-slice-aggregate-count-degrees c = search needs
-
-count-degrees-requires : tie.Need-count-degrees-requires Inv-loop μ-loop
-count-degrees-requires c κs =
-    let s = c .before .before .before .before .before .before .before .before .before in
-    let a = s .args in
-    let m = may-count (a .number) (a .probes) (a .links) (a .needs .now) (a .lows .now) (a .highs .now) (a .costs .now) (s .pre .0) in
-    (m .0, m .1, m .2, m .3, zeros-at 256)
+μ-loop number probes links needs degrees lows highs costs rec₀ line₀ piece out₀ place₀ i₀ rec line out place i = length piece - i
 
 loop-holds : tie.Need-loop-holds Inv-loop μ-loop
 loop-holds c =
-    let s = c .before .before .before .before .before .before .before .before .before .before .before in
+    let s = c .before .before .before .before .before .before .before .before .before in
     let a = s .args in
     let x = slicesOf (a .number) (a .probes) (a .links) (a .needs .now) (a .lows .now) (a .highs .now) (a .costs .now) in
-    (omega arith, taken-none x 1024 (a .progress) (a .piece .now) (a .rec .now) (a .line .now) (a .out .now) (s .pre .1) (s .pre .2) (s .pre .3), refl, s .pre .3, refl)
-
-slice-aggregate-take-byte : tie.Need-slice-aggregate-take-byte Inv-loop μ-loop
-slice-aggregate-take-byte c = search needs
+    (omega arith, taken-none x 1024 (a .progress) (a .piece .now) (a .rec .now) (a .line .now) (a .out .now) (s .pre .1) (s .pre .4) (s .pre .5), refl, s .pre .5, refl)
 
 shared-slice-read-take-byte : tie.Need-shared-slice-read-take-byte Inv-loop μ-loop
 shared-slice-read-take-byte c = search needs
 
 take-byte-requires : tie.Need-take-byte-requires Inv-loop μ-loop
 take-byte-requires c κs =
-    let at-loop = c .before .before .before .before .before .before in
-    let at-counted = at-loop .before .before in
-    let s = at-counted .before .before .before .before .before .before .before .before .before .before in
-    let a = s .args in
-    let g = legal-slices 256 2048 (slicesOf (a .number) (a .probes) (a .links) (a .needs .now) (a .lows .now) (a .highs .now) (a .costs .now)) (s .pre .0) in
-    let room : length (at-counted .count-degrees .last .0) ≡ 256 = at-counted .count-degrees .kept .0 in
+    let at-loop = c .before .before .before .before .before in
+    let s = at-loop .before .before .before .before .before .before .before .before .before .before in
     let v = at-loop .loop .inv in
-    (s .pre .0, v .1 .usable, omega (arith, g .few, room), at-counted .count-degrees .ensures, v .1 .few, v .3, at-most _ 0 _ _ _ _ _ (v .1 .buffered))
+    (s .pre .0, v .1 .usable, s .pre .2, s .pre .3, v .1 .few, v .3, at-most _ 0 _ _ _ _ _ (v .1 .buffered))
 
 add-i : tie.Need-add-i Inv-loop μ-loop
 add-i c =
-    let at-loop-test = c .before .before .before .before .before .before .before .before .before .before .before .before in
-    let at-start = at-loop-test .before .before .before .before .before .before .before .before .before .before .before .before .before in
-    omega (arith, at-loop-test .loop-test .taken, at-start .good .1 .1 .1 .1 .1 .1 .1 .1 .1 .1 .0)
+    let at-loop-test = c .before .before .before .before .before .before .before .before .before .before .before in
+    let at-start = at-loop-test .before .before .before .before .before .before .before .before .before .before .before in
+    omega (arith, at-loop-test .loop-test .taken, at-start .good .1 .1 .1 .1 .1 .1 .1 .1 .1 .1 .1 .0)
 
 loop-less : tie.Need-loop-less Inv-loop μ-loop
 loop-less c = search needs
@@ -68,14 +48,14 @@ loop-less c = search needs
 loop-again : tie.Need-loop-again Inv-loop μ-loop
 loop-again c =
     let at-take-byte = c .before .before .before .before .before .before in
-    let at-loop-test = at-take-byte .before .before .before .before .before .before in
+    let at-loop-test = at-take-byte .before .before .before .before .before in
     let at-loop = at-loop-test .before in
-    let s = at-loop .before .before .before .before .before .before .before .before .before .before .before .before in
+    let s = at-loop .before .before .before .before .before .before .before .before .before .before in
     let a = s .args in
     let x = slicesOf (a .number) (a .probes) (a .links) (a .needs .now) (a .lows .now) (a .highs .now) (a .costs .now) in
     let v = at-loop .loop .inv in
     let t = at-take-byte .take-byte in
-    (omega (arith, at-loop-test .loop-test .taken), taken-next x 1024 (s .pre .0) (underWay (a .progress) (a .rec .now) (a .line .now)) (a .piece .now) (a .out .now) (at-loop .loop .i) (at-loop .loop .place) _ _ _ _ _ _ _ (at-loop-test .loop-test .taken) (v .4) (omega (arith, s .good .1 .1 .1 .1 .1 .1 .1 .1 .1 .1 .1 .0)) (v .1) (t .ensures), t .kept .1 .1 .1 .1 .1 .1 .1 .1 .0 ∙ v .2, t .kept .1 .1 .1 .1 .1 .1 .1 .1 .1 .0 ∙ v .3, t .kept .1 .1 .1 .1 .1 .1 .1 .1 .1 .1 .1 .0 ∙ v .4)
+    (omega (arith, at-loop-test .loop-test .taken), taken-next x 1024 (s .pre .0) (underWay (a .progress) (a .rec .now) (a .line .now)) (a .piece .now) (a .out .now) (at-loop .loop .i) (at-loop .loop .place) _ _ _ _ _ _ _ (at-loop-test .loop-test .taken) (v .4) (omega (arith, s .good .1 .1 .1 .1 .1 .1 .1 .1 .1 .1 .1 .1 .0)) (v .1) (t .ensures), t .kept .1 .1 .1 .1 .1 .1 .1 .1 .0 ∙ v .2, t .kept .1 .1 .1 .1 .1 .1 .1 .1 .1 .0 ∙ v .3, t .kept .1 .1 .1 .1 .1 .1 .1 .1 .1 .1 .1 .0 ∙ v .4)
 
 same-length : tie.Need-same-length Inv-loop μ-loop
 same-length c = search needs
@@ -88,7 +68,7 @@ same-length-3 c = search needs
 
 returns : tie.Need-returns Inv-loop μ-loop
 returns c =
-    let s = c .before .before .before .before .before .before .before .before .before .before .before .before .before in
+    let s = c .before .before .before .before .before .before .before .before .before .before .before in
     let a = s .args in
     let x = slicesOf (a .number) (a .probes) (a .links) (a .needs .now) (a .lows .now) (a .highs .now) (a .costs .now) in
     let v = c .before .loop .inv in
@@ -100,10 +80,7 @@ take-piece-spec =
     (tie.spec
     Inv-loop
     μ-loop
-    slice-aggregate-count-degrees
-    count-degrees-requires
     loop-holds
-    slice-aggregate-take-byte
     shared-slice-read-take-byte
     take-byte-requires
     add-i
