@@ -31,8 +31,11 @@
 #define PLANNER_MOST_TEXT 27922
 #define PLANNER_FRAME 15
 
+/* Packed answers start here; refusals are below. */
+#define PLANNER_ANSWER_BASE (UINT64_C(1) << 48)
+
 /* Whether an answer of 64 bits is a refusal; planner_check_table answers one, or 0, in 8 bits. */
-#define PLANNER_REFUSED(answer) ((answer) < (UINT64_C(1) << 48))
+#define PLANNER_REFUSED(answer) ((answer) < PLANNER_ANSWER_BASE)
 
 /* The answer of planner_read_table and planner_read_table_prefix. */
 #define PLANNER_READ_NUMBER(answer) ((uint16_t)((answer) >> 32))
@@ -44,7 +47,7 @@
 #define PLANNER_PLAN_COST(answer) ((uint32_t)(answer))
 
 /* The bytes written or printed: planner_write_table, _plan_text, _script_text, _script_piece and _script_end. */
-#define PLANNER_LENGTH(answer) ((size_t)((answer) - (UINT64_C(1) << 48)))
+#define PLANNER_LENGTH(answer) ((size_t)((answer) - PLANNER_ANSWER_BASE))
 
 /* The entry of an event: planner_probe_open, _probe_hear and _fleet_event, their _logged forms, planner_log_entry.
  * What befell the probe: 0 opened, 1 nothing to open, 2 taken, 3 taken with a displaced probe, 4 refused,

@@ -61,6 +61,7 @@ static void read_and_write(void) {
     expect(planner_check_table(1, PROBES, LINKS, needs, PROBES - 1, lows, LINKS, highs, LINKS, costs, LINKS) == 8,
            "check of short needs", 0);
     answer = planner_write_table(TABLE, out, sizeof out);
+    expect(answer == PLANNER_ANSWER_BASE + sizeof out, "answer of write", 0);
     expect(PLANNER_LENGTH(answer) == sizeof out && memcmp(out, M2, sizeof out) == 0, "write", 0);
 }
 

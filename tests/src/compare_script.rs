@@ -2,7 +2,7 @@
 
 use crate::buffer::Buffer;
 use crate::compare::written;
-use crate::ffi;
+use crate::ffi::{self, ANSWER_BASE};
 use crate::fleet::{Site, BYTES};
 use crate::random::Random;
 use crate::reference::{Slices, Table};
@@ -154,7 +154,9 @@ impl Pieces {
 /// The printed bytes; those behind them are untouched.
 #[track_caller]
 fn printed(answer: u64, out: &Buffer<u8>, untouched: &Buffer<u8>) -> Result<Vec<u8>, u8> {
-    let length = answer.checked_sub(1 << 48).map(|length| length as usize);
+    let length = answer
+        .checked_sub(ANSWER_BASE)
+        .map(|length| length as usize);
     assert!(out.kept_beyond(length.unwrap_or(0), untouched));
     match length {
         Some(length) => Ok(out.entries()[..length].to_vec()),

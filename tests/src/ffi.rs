@@ -134,14 +134,15 @@ pub fn probe_ask(
     ask(given, probe, record, link, out)
 }
 
-const ACCEPTED: u64 = 1 << 48;
+/// Packed answers start here; refusals are below.
+pub const ANSWER_BASE: u64 = 1 << 48;
 
 /// The number that stands for a reading's result.
 pub fn read_answer(result: &Result<Table, u8>) -> u64 {
     match result {
         Ok(table) => {
             let (probes, links) = (table.needs.len() as u64, table.links.len() as u64);
-            ACCEPTED + ((table.number as u64) << 32) + (probes << 16) + links
+            ANSWER_BASE + ((table.number as u64) << 32) + (probes << 16) + links
         }
         Err(refusal) => *refusal as u64,
     }
@@ -155,7 +156,7 @@ pub fn check_answer(result: &Result<(), u8>) -> u8 {
 /// The number that stands for a plan.
 pub fn plan_answer(result: &Result<Plan, u8>) -> u64 {
     match result {
-        Ok(plan) => ACCEPTED + ((plan.count as u64) << 32) + plan.cost,
+        Ok(plan) => ANSWER_BASE + ((plan.count as u64) << 32) + plan.cost,
         Err(refusal) => *refusal as u64,
     }
 }
@@ -163,7 +164,7 @@ pub fn plan_answer(result: &Result<Plan, u8>) -> u64 {
 /// The number that stands for the result of writing a text.
 pub fn write_answer(result: &Result<usize, u8>) -> u64 {
     match result {
-        Ok(length) => ACCEPTED + *length as u64,
+        Ok(length) => ANSWER_BASE + *length as u64,
         Err(refusal) => *refusal as u64,
     }
 }
@@ -182,7 +183,7 @@ pub fn entry_answer(result: &Result<Entry, u8>) -> u64 {
 /// The number that stands for whether a line is written, a link rests or a fleet is finished.
 pub fn yes_answer(result: &Result<bool, u8>) -> u64 {
     match result {
-        Ok(yes) => ACCEPTED + *yes as u64,
+        Ok(yes) => ANSWER_BASE + *yes as u64,
         Err(refusal) => *refusal as u64,
     }
 }

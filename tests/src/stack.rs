@@ -16,7 +16,8 @@ struct Page([u8; PAGE]);
 /// a guard below the limit that no frame steps over.
 const SPARE: usize = 32;
 
-/// A thread's own data keep their place in a stack whose upper end moves by such steps.
+/// A stack's upper end is moved by multiples of this. So it keeps its alignment, and the thread's own
+/// data keep their place below it.
 pub const STEP: usize = 64;
 
 #[repr(align(64))]

@@ -1,7 +1,7 @@
 // 1 and 2 of a line that was found. The frames, and the table's text through the reader, go by these.
 use super::Line;
 ghost use mathlib.Core.Path.{_≡_};
-ghost use Prim.Native.Nat.{_+_, _≤_};
+ghost use Prim.Native.Nat.{ℕ, _+_, _≤_};
 ghost use lib.ListN.{length, getD};
 ghost use Rattle.range.specs.First.{first};
 ghost use Rattle.lines.specs.Line.{lineAt};
@@ -22,10 +22,10 @@ fn digits_fault(text: &[u8], at: usize, width: usize) -> u8
     0
 }
 
-// 1, then 2, of the line of so many digits that was found at an offset.
-pub fn found_fault(text: &[u8], at: usize, line: Line, width: usize) -> u8
-    requires { ⌜ line ≡ lineAt (now text) at .line ⌝ }
-    ensures { λ r. ⌜ r ≡ lineFault (now (text .entry)) at width ⌝ }
+// 1, then 2, of a line of so many digits that was found in the text.
+pub fn found_fault(text: &[u8], line: Line, width: usize) -> u8
+    requires { ⌜ ((at : ℕ) × (line ≡ lineAt (now text) at .line)) ⌝ }
+    ensures { λ r. ⌜ ((at : ℕ) → line ≡ lineAt (now (text .entry)) at .line → r ≡ lineFault (now (text .entry)) at width) ⌝ }
 {
     match line {
         Line::Here { start, len } => {

@@ -52,5 +52,5 @@ pub fn line_fault(text: &[u8], at: usize, width: usize) -> u8
 {
     let found = find_line(text, at);
     let line = found.line;
-    checks::found_fault(text, at, line, width)
+    checks::found_fault(text, line, width)
 }

@@ -1,7 +1,7 @@
 -- A log of packed entries is the log of the entries, place by place, with numbers of any value behind the used ones. By induction on the used entries.
 use Prim.Native.Nat.{ℕ, zero, suc, _<_}
 use mathlib.Core.Path.{_≡_, refl, ap}
-use mathlib.Core.Bool.{Bool, true, false, cond, _&&_}
+use mathlib.Core.Bool.{Bool, true, false}
 use mathlib.Core.List.{List, [], _∷_, _++_, map}
 use native.Mathlib.Omega.{arith}
 use borrow.Author.Tests.{ltb-true, lt-ltb}
@@ -9,7 +9,6 @@ use lib.Dec.{ltb}
 use lib.ListN.{length, getD, length-append, length-map}
 use Rattle.wake_log.specs.declared.Entry.{Entry}
 use Rattle.wake_log.specs.declared.Answer.the-variants.{Logged}
-use Rattle.wake_log.specs.declared.Slot.the-variants.{Used, Unused}
 use Rattle.wake_log.specs.Log.{noEntry, slotOf}
 use Rattle.packed_answers.specs.Packed.{packedEntry, packedSlot, packedAt, packedAfter}
 
@@ -23,7 +22,7 @@ pub packed-at : (es : List Entry) (rest : List ℕ) (i : ℕ) → packedAt (map 
 packed-at es rest i = go (ltb i (length es)) refl
   where
     go : (b : Bool) → ltb i (length es) ≡ b
-        → packedAt (map packedEntry es ++ rest) (length es) i ≡ packedSlot (cond (ltb i (length es) && ltb i (length es)) (Used (getD es i noEntry)) Unused)
+        → packedAt (map packedEntry es ++ rest) (length es) i ≡ packedSlot (slotOf es (length es) i)
     go true e =
         let less = ltb-true i (length es) e in
         let n = length-append (map packedEntry es) rest in

@@ -1,9 +1,8 @@
 -- Answers as one number, for callers in other languages.
 use Prim.Native.Nat.{ℕ, _+_, _*_, _^_}
 use mathlib.Core.Path.{_≡_}
-use mathlib.Core.Bool.{cond, _&&_}
+use mathlib.Core.Bool.{cond}
 use mathlib.Core.List.{List, [], _∷_}
-use lib.Dec.{ltb}
 use lib.ListN.{length, getD, set}
 use Rattle.range.specs.Reply.{Reply, refusal, values, replyOf}
 use Rattle.output.specs.Output.{printedInto}
@@ -13,6 +12,7 @@ use Rattle.wake_log.specs.declared.Entry.{Entry}
 use Rattle.wake_log.specs.declared.Slot.{Slot}
 use Rattle.wake_log.specs.declared.Slot.the-variants.{Used, Unused}
 use Rattle.wake_log.specs.Entry.{codeOf, linkOf, displacedOf}
+use Rattle.wake_log.specs.Log.{isUsed}
 
 -- a refusal is its number; any other answer is `answerBase` or more, an entry `entryBase` or more
 
@@ -47,7 +47,7 @@ packedSlot Unused = 0
 
 -- what a place of it holds: a used one its number; past the used ones, or past the log's end, 0
 abbrev pub packedAt : List ℕ → ℕ → ℕ → ℕ
-packedAt log used i = cond (ltb i used && ltb i (length log)) (getD log i 0) 0
+packedAt log used i = cond (isUsed (length log) used i) (getD log i 0) 0
 
 -- after an answer: an accepted event's entry stands behind the used ones
 abbrev pub packedAfter : List ℕ → ℕ → Answer → List ℕ

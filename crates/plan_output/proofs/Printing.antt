@@ -2,7 +2,7 @@
 use Prim.Native.Nat.{ℕ, zero, suc, _+_, _*_, _≤_, _<_}
 use mathlib.Core.Path.{_≡_, refl, _∙_, ap}
 use mathlib.Core.Bool.{Bool, true, false, cond}
-use mathlib.Core.List.{List, [], _++_}
+use mathlib.Core.List.{List, _++_}
 use native.Mathlib.Omega.{arith}
 use native.Mathlib.Decide.{decLe}
 use lib.Dec.{eqb}
@@ -14,11 +14,11 @@ use Rattle.range.proofs.Sums.{weigh-same}
 use Rattle.range.proofs.Lists.{joined-next, joined-same, stored-at}
 use Rattle.hex.proofs.Laws.{length-digits}
 use Rattle.table.specs.Table.{Table, item}
-use Rattle.table.specs.Text.{closingLine, tripleLine}
+use Rattle.table.specs.Text.{closingLine}
 use Rattle.table.proofs.Lengths.{length-triple}
 use Rattle.range.proofs.Sets.{sets-then}
 use Rattle.plan_theory.specs.Plan.{kept, keptCount, costOf, planByte}
-use Rattle.plan_output.specs.Output.{headLine, keptStart, keptLines, planText}
+use Rattle.plan_output.specs.Output.{headLine, keptStart, keptLine, keptLines, planText}
 
 -- Lengths.
 
@@ -26,21 +26,21 @@ pub length-head : (number kept cost : ℕ) → length (headLine number kept cost
 length-head number kept cost =
     simp length-append (let a = length-digits 4 number in let b = length-digits 4 kept in let c = length-digits 8 cost in omega arith)
 
--- the line of a link that is kept, and no bytes for another
-abbrev pub lineIf : (ℕ → Bool) → (ℕ → ℕ) → (ℕ → ℕ) → (ℕ → ℕ) → ℕ → List ℕ
-lineIf p low high cost i = cond (p i) (tripleLine (low i) (high i) (cost i)) []
+pub length-kept-line : (b : Bool) (low high cost : ℕ) → length (keptLine b low high cost) ≡ 13 * cond b 1 0
+length-kept-line true low high cost = length-triple low high cost
+length-kept-line false low high cost = refl
 
-pub length-if : (b : Bool) (low high cost : ℕ) → length (cond b (tripleLine low high cost) []) ≡ 13 * cond b 1 0
-length-if true low high cost = length-triple low high cost
-length-if false low high cost = refl
+-- link i's line, where it is kept
+abbrev pub keptLineAt : (ℕ → Bool) → (ℕ → ℕ) → (ℕ → ℕ) → (ℕ → ℕ) → ℕ → List ℕ
+keptLineAt p low high cost i = keptLine (p i) (low i) (high i) (cost i)
 
-pub length-lines : (p : ℕ → Bool) (low high cost : ℕ → ℕ) (n : ℕ) → length (joined (lineIf p low high cost) n) ≡ 13 * count n p
+pub length-lines : (p : ℕ → Bool) (low high cost : ℕ → ℕ) (n : ℕ) → length (joined (keptLineAt p low high cost) n) ≡ 13 * count n p
 unfolding joined sum
 length-lines p low high cost zero = refl
 length-lines p low high cost (suc n) =
-    length-append (joined (lineIf p low high cost) n) (lineIf p low high cost n)
+    length-append (joined (keptLineAt p low high cost) n) (keptLineAt p low high cost n)
     ∙ (let a = length-lines p low high cost n in
-    let b = length-if (p n) (low n) (high n) (cost n) in
+    let b = length-kept-line (p n) (low n) (high n) (cost n) in
     omega arith)
 
 pub length-plan : (t : Table) → length (planText t) ≡ keptStart (keptCount t) + 5
@@ -63,11 +63,11 @@ count-part p k (suc n) l = go (count-part p k n) (decLe k n)
     go before (no h) = let e : k ≡ suc n = omega arith in rw e (omega arith)
 
 -- the next link's line, stored behind those before it
-pub lines-then : (p : ℕ → Bool) (low high cost : ℕ → ℕ) (n at : ℕ) (l m r : List ℕ) → m ≡ sets l (keptStart 0) (joined (lineIf p low high cost) n)
-    → at ≡ keptStart (count n p) → r ≡ sets m at (lineIf p low high cost n) → r ≡ sets l (keptStart 0) (joined (lineIf p low high cost) (n + 1))
+pub lines-then : (p : ℕ → Bool) (low high cost : ℕ → ℕ) (n at : ℕ) (l m r : List ℕ) → m ≡ sets l (keptStart 0) (joined (keptLineAt p low high cost) n)
+    → at ≡ keptStart (count n p) → r ≡ sets m at (keptLineAt p low high cost n) → r ≡ sets l (keptStart 0) (joined (keptLineAt p low high cost) (n + 1))
 lines-then p low high cost n at l m r e a g =
-    rw (joined-next (lineIf p low high cost) n)
-    (sets-then l m r (keptStart 0) at (joined (lineIf p low high cost) n) (lineIf p low high cost n) e (let k = length-lines p low high cost n in omega arith) g)
+    rw (joined-next (keptLineAt p low high cost) n)
+    (sets-then l m r (keptStart 0) at (joined (keptLineAt p low high cost) n) (keptLineAt p low high cost n) e (let k = length-lines p low high cost n in omega arith) g)
 
 byte-back : (b : Bool) → eqb (planByte b) 1 ≡ b
 byte-back true = refl
@@ -89,15 +89,15 @@ module _ (t : Table) (plan plan′ : List ℕ) (room : t .links ≤ length plan)
 
   -- the head, the kept lines and the closing line, stored in turn
   pub plan-then : (n c : ℕ) (l l₁ l₂ l₃ : List ℕ) → n ≡ count (t .links) says → c ≡ weigh (t .links) says (t .cost)
-      → l₁ ≡ sets l 0 (headLine (t .number) n c) → l₂ ≡ sets l₁ (keptStart 0) (joined (lineIf says (t .low) (t .high) (t .cost)) (t .links))
+      → l₁ ≡ sets l 0 (headLine (t .number) n c) → l₂ ≡ sets l₁ (keptStart 0) (joined (keptLineAt says (t .low) (t .high) (t .cost)) (t .links))
       → l₃ ≡ sets l₂ (keptStart n) closingLine → l₃ ≡ sets l 0 (planText t)
   unfolding planText
   plan-then n c l l₁ l₂ l₃ en ec e₁ e₂ e₃ =
       let kn = en ∙ count-says in
       let kc = ec ∙ weigh-same (t .links) says (kept t) (t .cost) byte-says in
-      let kl = joined-same (lineIf says (t .low) (t .high) (t .cost)) (lineIf (kept t) (t .low) (t .high) (t .cost)) (t .links) (λ i k. rw (byte-says i k)) in
+      let kl = joined-same (keptLineAt says (t .low) (t .high) (t .cost)) (keptLineAt (kept t) (t .low) (t .high) (t .cost)) (t .links) (λ i k. rw (byte-says i k)) in
       let h = length-head (t .number) n c in
       let m = length-lines says (t .low) (t .high) (t .cost) (t .links) in
       rw (← kn, ← kc, ← kl)
-      (sets-then l l₁ l₃ 0 (keptStart 0) (headLine (t .number) n c) (joined (lineIf says (t .low) (t .high) (t .cost)) (t .links) ++ closingLine) e₁ (omega arith)
-      (sets-then l₁ l₂ l₃ (keptStart 0) (keptStart n) (joined (lineIf says (t .low) (t .high) (t .cost)) (t .links)) closingLine e₂ (omega arith) e₃))
+      (sets-then l l₁ l₃ 0 (keptStart 0) (headLine (t .number) n c) (joined (keptLineAt says (t .low) (t .high) (t .cost)) (t .links) ++ closingLine) e₁ (omega arith)
+      (sets-then l₁ l₂ l₃ (keptStart 0) (keptStart n) (joined (keptLineAt says (t .low) (t .high) (t .cost)) (t .links)) closingLine e₂ (omega arith) e₃))

@@ -2,18 +2,18 @@
 use Prim.Native.Nat.{ℕ}
 use mathlib.Core.Path.{_≡_, _∙_, ap}
 use mathlib.Core.Bool.{cond}
-use mathlib.Core.List.{List, [], _++_}
+use mathlib.Core.List.{List, _++_}
 use Rattle.range.specs.Sum.{count, weigh}
 use Rattle.range.specs.Lists.{joined}
 use Rattle.range.proofs.Sums.{sum-same, weigh-same}
 use Rattle.range.proofs.Lists.{joined-same}
 use Rattle.table.specs.Table.{Table}
 use Rattle.table.specs.Legal.{Legal}
-use Rattle.table.specs.Text.{closingLine, tripleLine}
+use Rattle.table.specs.Text.{closingLine}
 use Rattle.table.specs.Same.{Same}
 use Rattle.plan_theory.proofs.Same.{rested-same}
 use Rattle.plan_theory.specs.Plan.{kept, keptCount, costOf}
-use Rattle.plan_output.specs.Output.{headLine, keptLines, planText}
+use Rattle.plan_output.specs.Output.{headLine, keptLine, keptLines, planText}
 
 parts-same : {n n′ k k′ c c′ : ℕ} {l l′ : List ℕ} → n ≡ n′ → k ≡ k′ → c ≡ c′ → l ≡ l′
     → headLine n k c ++ (l ++ closingLine) ≡ headLine n′ k′ c′ ++ (l′ ++ closingLine)
@@ -34,6 +34,6 @@ module _ (t u : Table) (same : Same t u) (legal : Legal t) where
 
       lines : keptLines t ≡ keptLines u
       lines =
-          joined-same (λ i. cond (kept t i) (tripleLine (t .low i) (t .high i) (t .cost i)) []) (λ i. cond (kept u i) (tripleLine (u .low i) (u .high i) (u .cost i)) []) (t .links)
+          joined-same (λ i. keptLine (kept t i) (t .low i) (t .high i) (t .cost i)) (λ i. keptLine (kept u i) (u .low i) (u .high i) (u .cost i)) (t .links)
           (λ i l. rw (rested-same t u same legal i l, same .low i l, same .high i l, same .cost i l))
-          ∙ ap (λ (n : ℕ). joined (λ i. cond (kept u i) (tripleLine (u .low i) (u .high i) (u .cost i)) []) n) (same .links)
+          ∙ ap (λ (n : ℕ). joined (λ i. keptLine (kept u i) (u .low i) (u .high i) (u .cost i)) n) (same .links)

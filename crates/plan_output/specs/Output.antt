@@ -1,6 +1,6 @@
 -- What the plan program prints: document 01, "Programs". Every printed line is closed by a line feed.
 use Prim.Native.Nat.{ℕ, _+_, _*_}
-use mathlib.Core.Bool.{false, cond}
+use mathlib.Core.Bool.{Bool, false, cond}
 use mathlib.Core.List.{List, [], _∷_, _++_}
 use lib.Dec.{eqb}
 use Rattle.range.specs.Lists.{joined}
@@ -18,9 +18,13 @@ headLine number kept cost = digits 4 number ++ (digits 4 kept ++ (digits 8 cost 
 abbrev pub keptStart : ℕ → ℕ
 keptStart k = 17 + 13 * k
 
+-- the line of a link that is kept, none of one that is not
+abbrev pub keptLine : Bool → ℕ → ℕ → ℕ → List ℕ
+keptLine kept low high cost = cond kept (tripleLine low high cost) []
+
 -- "then kept link lines"
 abbrev pub keptLines : Table → List ℕ
-keptLines t = joined (λ i. cond (kept t i) (tripleLine (t .low i) (t .high i) (t .cost i)) []) (t .links)
+keptLines t = joined (λ i. keptLine (kept t i) (t .low i) (t .high i) (t .cost i)) (t .links)
 
 -- "It prints table number, kept count (four digits each) and cost (eight), then kept link lines, then `ffff`."
 unfoldable pub planText : Table → List ℕ

@@ -1,8 +1,6 @@
 // A plan's lines: its first line, and those of the kept links.
 use table::LINK_BYTES;
 ghost use mathlib.Core.Path.{_≡_};
-ghost use mathlib.Core.Bool.{cond};
-ghost use mathlib.Core.List.{[]};
 ghost use Prim.Native.Nat.{_+_, _≤_};
 ghost use lib.Dec.{eqb};
 ghost use lib.ListN.{length};
@@ -10,9 +8,8 @@ ghost use lib.Seq.{sets};
 ghost use Rattle.range.specs.Sum.{count};
 ghost use Rattle.range.specs.Lists.{joined};
 ghost use Rattle.table.specs.Table.{item};
-ghost use Rattle.table.specs.Text.{tripleLine};
 ghost use Rattle.plan_theory.specs.Plan.{isKept};
-ghost use Rattle.plan_output.specs.Output.{headLine, keptStart};
+ghost use Rattle.plan_output.specs.Output.{headLine, keptStart, keptLine};
 
 // A plan's first line.
 pub fn put_head(out: &mut [u8], number: u16, kept: u32, cost: u32)
@@ -27,8 +24,8 @@ pub fn put_head(out: &mut [u8], number: u16, kept: u32, cost: u32)
 
 // The line of a link whose byte says that it is kept. Answers where the next line starts.
 fn put_link(out: &mut [u8], at: usize, byte: u8, low: u16, high: u16, cost: u16) -> usize
-    requires { ⌜ at + length (cond (eqb byte 1) (tripleLine low high cost) []) ≤ length (now out) ⌝ }
-    ensures { λ r. let line = cond (eqb byte 1) (tripleLine low high cost) [] in
+    requires { ⌜ at + length (keptLine (eqb byte 1) low high cost) ≤ length (now out) ⌝ }
+    ensures { λ r. let line = keptLine (eqb byte 1) low high cost in
         ⌜ (now (out .exit) ≡ sets (now (out .entry)) at line) × (r ≡ at + length line) ⌝ }
 {
     if byte != 1 {
@@ -50,7 +47,7 @@ pub fn put_kept(
     requires { ⌜ (keptStart (count links (isKept (now plan))) ≤ length (now out)) × (links ≤ length (now plan))
         × (links ≤ length (now lows)) × (links ≤ length (now highs)) × (links ≤ length (now costs)) ⌝ }
     ensures { λ _. ⌜ now (out .exit) ≡ sets (now (out .entry)) (keptStart 0)
-        (joined (λ i. cond (isKept (now (plan .entry)) i) (tripleLine (item (now (lows .entry)) i) (item (now (highs .entry)) i) (item (now (costs .entry)) i)) []) links) ⌝ }
+        (joined (λ i. keptLine (isKept (now (plan .entry)) i) (item (now (lows .entry)) i) (item (now (highs .entry)) i) (item (now (costs .entry)) i)) links) ⌝ }
 {
     let mut at = super::starts::kept_start(0);
     let mut i = 0;

@@ -1,5 +1,5 @@
 // The plan by offers in turn. The working bytes are four a link: two for each direction, at its source and at its target. Beside them are four entries a probe, the marks.
-use table_links::spares::spare_of;
+use table_links::spares::spare_at;
 ghost use mathlib.Core.Path.{_≡_};
 ghost use mathlib.Core.List.{[]};
 ghost use Prim.Native.Nat.{ℕ, _+_, _*_, _-_, _<_, _≤_};
@@ -18,7 +18,7 @@ fn take_needs(counts: &mut [u16], probes: usize, needs: &[u16])
 {
     let mut v = 0;
     while v < probes {
-        counts[v] = spare_of(table::numbers::wide(counts[v]), needs, v) as u16;
+        counts[v] = spare_at(counts, needs, v) as u16;
         v += 1;
     }
 }

@@ -72,9 +72,9 @@ raise dirs source key v k k′ r b l h =
       none = λ m g lg own a. b .none m g lg own (h g lg own a);
     }
 
--- just above the keys of the links from place k on
-abbrev pub roof : ℕ → (ℕ → ℕ) → List ℕ → ℕ → ℕ
-roof links key order k = cond (ltb k links) (key (item order k) + 1) 0
+-- one more than the largest key of the links from place k on; 0 where there are none
+abbrev pub keyBound : ℕ → (ℕ → ℕ) → List ℕ → ℕ → ℕ
+keyBound links key order k = cond (ltb k links) (key (item order k) + 1) 0
 
 module _ (links : ℕ) (lows highs order : List ℕ) (key : ℕ → ℕ) (f : Falls links key order) where
   abbrev at : ℕ → ℕ
@@ -83,25 +83,25 @@ module _ (links : ℕ) (lows highs order : List ℕ) (key : ℕ → ℕ) (f : Fa
   abbrev source : ℕ → ℕ
   source = endOf lows highs
 
-  pub chain-start : (heads nexts : List ℕ) → ((v : ℕ) → v < length heads → 2 * links ≤ item heads v) → ChainBelow (2 * links) source at heads nexts (roof links key order links)
+  pub chain-start : (heads nexts : List ℕ) → ((v : ℕ) → v < length heads → 2 * links ≤ item heads v) → ChainBelow (2 * links) source at heads nexts (keyBound links key order links)
   chain-start heads nexts h =
       rw (le-ltb links links (omega arith)) record {
         firsts = λ v l. record { own = λ m. let a = h v l in absurd (omega arith); less = λ m. let a = h v l in absurd (omega arith); most = λ m g lg own a. absurd (omega arith); none = λ m g lg own a. omega arith };
         follows = λ d l a. absurd (omega arith);
       }
 
-  pub chain-done : (heads nexts : List ℕ) → ChainBelow (2 * links) source at heads nexts (roof links key order 0) → ((i : ℕ) → i < links → key i < 4294967296) → ChainBelow (2 * links) source at heads nexts 4294967296
+  pub chain-done : (heads nexts : List ℕ) → ChainBelow (2 * links) source at heads nexts (keyBound links key order 0) → ((i : ℕ) → i < links → key i < 4294967296) → ChainBelow (2 * links) source at heads nexts 4294967296
   chain-done heads nexts c small =
       record {
-        firsts = λ v m. raise (2 * links) source at v (roof links key order 0) 4294967296 (item heads v) (c .firsts v m) (top (decLt 0 links)) (λ g lg own a. under g lg);
+        firsts = λ v m. raise (2 * links) source at v (keyBound links key order 0) 4294967296 (item heads v) (c .firsts v m) (top (decLt 0 links)) (λ g lg own a. under g lg);
         follows = λ d m a. c .follows d m (under d m);
       }
     where
-      top : Dec (0 < links) → roof links key order 0 ≤ 4294967296
+      top : Dec (0 < links) → keyBound links key order 0 ≤ 4294967296
       top (yes l) = let a = small (item order 0) (f .below 0 l) in rw (lt-ltb 0 links l) (omega arith)
       top (no n) = rw (le-ltb 0 links (omega arith)) (omega arith)
 
-      under : (g : ℕ) → g < 2 * links → at g < roof links key order 0
+      under : (g : ℕ) → g < 2 * links → at g < keyBound links key order 0
       under g lg = let x = f .found (g / 2) (omega arith) in rw (lt-ltb 0 links (omega arith)) (go (x .0) (x .1) (x .2) (decLt 0 (x .0)))
         where
           go : (k : ℕ) → k < links → item order k ≡ g / 2 → Dec (0 < k) → at g < key (item order 0) + 1
@@ -110,11 +110,11 @@ module _ (links : ℕ) (lows highs order : List ℕ) (key : ℕ → ℕ) (f : Fa
 
   -- the link i at place k is put before all that its ends have
   module _ (rises : (j : ℕ) → j < links → item lows j < item highs j) (heads nexts heads′ nexts′ : List ℕ) (k i low high : ℕ)
-      (c : ChainBelow (2 * links) source at heads nexts (roof links key order (k + 1))) (lk : k < links) (ei : i ≡ item order k) (el : low ≡ item lows i) (eh : high ≡ item highs i)
+      (c : ChainBelow (2 * links) source at heads nexts (keyBound links key order (k + 1))) (lk : k < links) (ei : i ≡ item order k) (el : low ≡ item lows i) (eh : high ≡ item highs i)
       (room : high < length heads) (long : 2 * links ≤ length nexts)
       (eheads : heads′ ≡ set (set heads low (2 * i)) high (2 * i + 1)) (enexts : nexts′ ≡ set (set nexts (2 * i) (item heads low)) (2 * i + 1) (item heads high)) where
     abbrev held : ℕ
-    held = roof links key order (k + 1)
+    held = keyBound links key order (k + 1)
 
     abbrev top : ℕ
     top = key i
@@ -237,7 +237,7 @@ module _ (links : ℕ) (lows highs order : List ℕ) (key : ℕ → ℕ) (f : Fa
             go (no x) = gap d m (omega arith)
             go (yes x) = let h = own-link d m x in absurd (omega (arith, n, n′))
 
-    pub chain-next : ChainBelow (2 * links) source at heads′ nexts′ (roof links key order k)
+    pub chain-next : ChainBelow (2 * links) source at heads′ nexts′ (keyBound links key order k)
     chain-next = rw (lt-ltb k links lk, ← top-at) next
 
 module _ (links : ℕ) (lows highs costs : List ℕ) (few : links ≤ 2048) (cheap : (i : ℕ) → item costs i < 65536) (order : List ℕ) (p : ByPlace links (item costs) order) where

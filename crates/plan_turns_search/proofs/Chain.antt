@@ -50,17 +50,17 @@ opposite-key : (costs : List ℕ) (d : ℕ) → keyOf costs (opposite d) ≡ key
 unfolding keyOf
 opposite-key costs d = rw (opposite-half d)
 
--- a number that falls along a chain
-abbrev pub height : ℕ → (ℕ → ℕ) → ℕ → ℕ
-height dirs key e = cond (ltb e dirs) (key e + 1) 0
+-- one more than a direction's key, 0 at the chain's end; it falls along a chain
+abbrev pub chainMeasure : ℕ → (ℕ → ℕ) → ℕ → ℕ
+chainMeasure dirs key e = cond (ltb e dirs) (key e + 1) 0
 
-pub falls : (dirs : ℕ) (source key : ℕ → ℕ) (nexts : List ℕ) → Follows dirs source key nexts → (d e : ℕ) → d < dirs → e ≡ item nexts d → height dirs key e < height dirs key d
+pub falls : (dirs : ℕ) (source key : ℕ → ℕ) (nexts : List ℕ) → Follows dirs source key nexts → (d e : ℕ) → d < dirs → e ≡ item nexts d → chainMeasure dirs key e < chainMeasure dirs key d
 falls dirs source key nexts follows d e l q = rw (lt-ltb d dirs l) (go (decLt e dirs))
   where
     b : Below dirs source key (source d) (key d) e
     b = rw q (follows .next d l)
 
-    go : Dec (e < dirs) → height dirs key e < key d + 1
+    go : Dec (e < dirs) → chainMeasure dirs key e < key d + 1
     go (yes k) = let a = b .less k in rw (lt-ltb e dirs k) (omega arith)
     go (no k) = rw (le-ltb e dirs (omega arith)) (omega arith)
 

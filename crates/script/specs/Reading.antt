@@ -4,7 +4,7 @@ use mathlib.Core.Bool.{cond}
 use mathlib.Core.List.{List}
 use lib.Dec.{eqb}
 use lib.ListN.{length, take}
-use Rattle.table.specs.Text.{ofText, headFault, textEnd}
+use Rattle.table.specs.Text.{ofText, needStart, headFault, textEnd}
 use Rattle.standard_io.specs.declared.Filling.{Filling}
 use Rattle.standard_io.specs.declared.Filling.the-variants.{Until, Failed}
 
@@ -14,9 +14,9 @@ tableEnd head = cond (eqb (headFault 256 2048 head) 0) (textEnd (ofText head)) (
 
 -- the table's text at the start of an input, and perhaps less where the header is refused or the input ends
 abbrev pub tableText : List ℕ → List ℕ
-tableText input = take (tableEnd (take 13 input)) input
+tableText input = take (tableEnd (take (needStart 0) input)) input
 
 -- the bytes read stand at the buffer's start, and are none but the table's
 abbrev pub ReadsTableText : Filling → List ℕ → Type 0
-ReadsTableText (Until n) text = (n ≤ length text) × (n ≤ tableEnd (take 13 (take n text)))
+ReadsTableText (Until n) text = (n ≤ length text) × (n ≤ tableEnd (take (needStart 0) (take n text)))
 ReadsTableText Failed text = Unit {0}

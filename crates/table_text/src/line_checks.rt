@@ -21,7 +21,7 @@ fn digits_line(text: &[u8], at: usize, width: usize) -> Checked
 {
     let found = reader::line_at(text, at);
     let line = found.line;
-    let fault = lines::checks::found_fault(text, at, line, width);
+    let fault = lines::checks::found_fault(text, line, width);
     Checked {
         fault,
         next: found.next,
@@ -34,7 +34,7 @@ pub fn head_fault(text: &[u8], pmax: usize, lmax: usize) -> u8
 {
     let found = reader::first_line(text);
     let line = found.line;
-    let fault = lines::checks::found_fault(text, 0, line, 12);
+    let fault = lines::checks::found_fault(text, line, 12);
     if fault != 0 {
         return fault;
     }

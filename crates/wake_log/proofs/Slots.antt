@@ -43,7 +43,7 @@ slot-of-used entries behind i = go (ltb i (length entries)) refl
 
 -- what a place holds, by its values
 pub slot-is : (r : Slot) (log : List Entry) (used i : ℕ) → slotReply r ≡ values (slotValues log used i) → r ≡ slotOf log used i
-slot-is r log used i e = go r (isUsed log used i) e
+slot-is r log used i e = go r (isUsed (length log) used i) e
   where
     go : (r : Slot) (b : Bool) → slotReply r ≡ values (cond b (entryValues (getD log i noEntry)) []) → r ≡ cond b (Used (getD log i noEntry)) Unused
     go (Used d) true e = ap Used (entry-is d (getD log i noEntry) (cc))
@@ -53,7 +53,7 @@ slot-is r log used i e = go r (isUsed log used i) e
 
 -- and back
 pub slot-reply : (r : Slot) (log : List Entry) (used i : ℕ) → r ≡ slotOf log used i → slotReply r ≡ values (slotValues log used i)
-slot-reply r log used i e = ap slotReply e ∙ go (isUsed log used i)
+slot-reply r log used i e = ap slotReply e ∙ go (isUsed (length log) used i)
   where
     go : (b : Bool) → slotReply (cond b (Used (getD log i noEntry)) Unused) ≡ values (cond b (entryValues (getD log i noEntry)) [])
     go true = refl

@@ -23,13 +23,13 @@ abbrev pub toldOf : ℕ → ℕ → Answer → Told
 toldOf used room (Logged e) = record { at = used; entry = e; answer = Logged e }
 toldOf used room (Refused n) = record { at = room; entry = noEntry; answer = Refused n }
 
--- a used place of the log; past the used ones, or past the log's end, there is none
-abbrev pub isUsed : List Entry → ℕ → ℕ → Bool
-isUsed log used i = ltb i used && ltb i (length log)
+-- a used place of a log of so many places; past the used ones, or past the log's end, there is none
+abbrev pub isUsed : ℕ → ℕ → ℕ → Bool
+isUsed room used i = ltb i used && ltb i room
 
 -- what a place holds: a used one its entry
 abbrev pub slotOf : List Entry → ℕ → ℕ → Slot
-slotOf log used i = cond (isUsed log used i) (Used (getD log i noEntry)) Unused
+slotOf log used i = cond (isUsed (length log) used i) (Used (getD log i noEntry)) Unused
 
 -- the values of its entry, or none
 abbrev pub slotReply : Slot → Reply
@@ -37,4 +37,4 @@ slotReply (Used e) = values (entryValues e)
 slotReply Unused = values []
 
 abbrev pub slotValues : List Entry → ℕ → ℕ → List ℕ
-slotValues log used i = cond (isUsed log used i) (entryValues (getD log i noEntry)) []
+slotValues log used i = cond (isUsed (length log) used i) (entryValues (getD log i noEntry)) []

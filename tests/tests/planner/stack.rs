@@ -3,7 +3,7 @@
 
 use planner_tests::ends::Kind;
 use planner_tests::events::each_table;
-use planner_tests::ffi;
+use planner_tests::ffi::{self, ANSWER_BASE};
 use planner_tests::fleet::{own_record, BYTES};
 use planner_tests::lines::{offer, opening, refusal};
 use planner_tests::random::Random;
@@ -23,10 +23,8 @@ use std::thread;
 
 const KIB: usize = 1024;
 
-/// Twice what the deepest call needs.
+/// More than twice what the deepest call needs.
 const ENOUGH: usize = 256 * KIB;
-
-const ACCEPTED: u64 = 1 << 48;
 
 /// The signal that ends a process which touches what it may not.
 const SIGSEGV: i32 = 11;
@@ -126,7 +124,7 @@ impl Lending {
             own: vec![0; site.own.len()],
             record: vec![0; site.reached.len()],
             line: [9; 16],
-            log: [ACCEPTED; 2],
+            log: [ANSWER_BASE; 2],
             out: vec![9; room_for(site.input.len())],
         }
     }
@@ -148,7 +146,7 @@ fn largest(answers: impl Iterator<Item = u64>) -> u64 {
 
 /// As much of the slice as what was printed takes: printed into that, it is counted beforehand.
 fn just_holding(answer: u64, out: &mut [u8]) -> &mut [u8] {
-    &mut out[..answer.saturating_sub(ACCEPTED) as usize]
+    &mut out[..answer.saturating_sub(ANSWER_BASE) as usize]
 }
 
 /// Asks the probe for a frame on each link.
@@ -161,7 +159,7 @@ fn ask(site: &Site, kind: Kind, out: &mut [u8]) -> u64 {
 const CALLS: [(&str, Call); 21] = [
     ("planner_check_table", |site, _| {
         match ffi::check_table(site.numbers.slices()) {
-            0 => ACCEPTED,
+            0 => ANSWER_BASE,
             refusal => refusal.into(),
         }
     }),
@@ -322,7 +320,7 @@ fn depth_of_each_call() {
             let (answer, depth) = run(ENOUGH);
             // What prints accepts every text, and a log is read without a table.
             let refuses = !name.ends_with("_text") && name != "planner_log_entry";
-            assert_eq!(answer >= ACCEPTED, legal || !refuses, "{name}");
+            assert_eq!(answer >= ANSWER_BASE, legal || !refuses, "{name}");
             let figure = figures[name];
             assert!(depth <= figure * KIB, "{name}: {depth} bytes, {figure} KiB");
             assert_eq!(run(figure * KIB), (answer, depth), "{name}");

@@ -9,10 +9,12 @@ find-line-requires : tie.Need-find-line-requires
 find-line-requires c κs = search needs
 
 found-fault-requires : tie.Need-found-fault-requires
-found-fault-requires c κs = ap (λ (x : Found). x .line) (c .find-line .ensures)
+found-fault-requires c κs = (c .before .before .args .at, ap (λ (x : Found). x .line) (c .find-line .ensures))
 
 returns : tie.Need-returns
-returns c = search needs
+returns c =
+    let at-find-line = c .before in
+    c .found-fault .ensures (at-find-line .before .before .args .at) (ap (λ (x : Found). x .line) (at-find-line .find-line .ensures))
 
 pub line-fault-spec : {M : Type 1} → statement M
 line-fault-spec = tie.close (tie.spec find-line-requires found-fault-requires returns)

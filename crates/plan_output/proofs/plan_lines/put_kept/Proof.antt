@@ -13,11 +13,11 @@ use Rattle.range.specs.Lists.{joined}
 use Rattle.range.proofs.Sums.{weigh-next}
 use Rattle.table.specs.Table.{item}
 use Rattle.plan_output.specs.Output.{keptStart}
-use Rattle.plan_output.proofs.Printing.{lineIf, length-if, count-part, lines-then}
+use Rattle.plan_output.proofs.Printing.{length-kept-line, keptLineAt, count-part, lines-then}
 use Rattle.plan_theory.specs.Plan.{isKept}
 
 abbrev Inv-loop : tie.InvT-loop
-Inv-loop out₀ plan links lows highs costs at₀ i₀ out at i = (i ≤ links) × (at ≡ keptStart (count i (isKept plan))) × (out ≡ sets out₀ (keptStart 0) (joined (lineIf (isKept plan) (item lows) (item highs) (item costs)) i)) × (length out ≡ length out₀)
+Inv-loop out₀ plan links lows highs costs at₀ i₀ out at i = (i ≤ links) × (at ≡ keptStart (count i (isKept plan))) × (out ≡ sets out₀ (keptStart 0) (joined (keptLineAt (isKept plan) (item lows) (item highs) (item costs)) i)) × (length out ≡ length out₀)
 
 abbrev μ-loop : tie.MeasureT-loop
 μ-loop out₀ plan links lows highs costs at₀ i₀ out at i = links - i
@@ -59,7 +59,7 @@ put-link-requires c κs =
     let a = s .args in
     let n = weigh-next (l .i) (isKept (a .plan .now)) (λ (j : ℕ). 1) in
     let m = count-part (isKept (a .plan .now)) (l .i + 1) (a .links) (omega (arith, at-loop-test .loop-test .taken)) in
-    let k = length-if (isKept (a .plan .now) (l .i)) (item (a .lows .now) (l .i)) (item (a .highs .now) (l .i)) (item (a .costs .now) (l .i)) in
+    let k = length-kept-line (isKept (a .plan .now) (l .i)) (item (a .lows .now) (l .i)) (item (a .highs .now) (l .i)) (item (a .costs .now) (l .i)) in
     omega (arith, l .inv .1, l .inv .3, s .pre .0)
 
 add-i : tie.Need-add-i Inv-loop μ-loop
@@ -75,7 +75,7 @@ loop-again c =
     let a = at-loop .before .before .before .before .before .before .before .args in
     let e = c .before .before .put-link .ensures in
     let n = weigh-next (l .i) (isKept (a .plan .now)) (λ (j : ℕ). 1) in
-    let k = length-if (isKept (a .plan .now) (l .i)) (item (a .lows .now) (l .i)) (item (a .highs .now) (l .i)) (item (a .costs .now) (l .i)) in
+    let k = length-kept-line (isKept (a .plan .now) (l .i)) (item (a .lows .now) (l .i)) (item (a .highs .now) (l .i)) (item (a .costs .now) (l .i)) in
     (search needs, omega (arith, e .1, l .inv .1), lines-then (isKept (a .plan .now)) (item (a .lows .now)) (item (a .highs .now)) (item (a .costs .now)) (l .i) (l .at) (a .out .now) (l .out) _ (l .inv .2) (l .inv .1) (e .0), c .before .before .put-link .kept .0 ∙ l .inv .3)
 
 same-length : tie.Need-same-length Inv-loop μ-loop

@@ -1,4 +1,5 @@
--- `plan_turns::method::take_needs` meets its contract. Invariant: the first v probes have their spare, the others their counted links. Measure: the probes left.
+-- `plan_turns::method::take_needs` meets its contract.
+-- Invariant: the first v probes have their spare, the others their counted links. Measure: the probes that are left.
 use borrow.Author.Needs.{needs}
 use Rattle.plan_turns.proofs.method.take_needs.Statement.{statement}
 use Rattle.plan_turns.proofs.method.take_needs.Tie as tie
@@ -17,28 +18,26 @@ Inv-loop counts₀ probes needs v₀ counts v = (v ≤ probes) × (counts ≡ st
 abbrev μ-loop : tie.MeasureT-loop
 μ-loop counts₀ probes needs v₀ counts v = probes - v
 
+-- the next probe still has its counted links
+counted : (counts₀ needs counts : List ℕ) (v : ℕ) → counts ≡ stored (λ k. item counts₀ k - item needs k) v counts₀ → item counts v ≡ item counts₀ v
+counted counts₀ needs counts v e = ap (λ (x : List ℕ). item x v) e ∙ stored-beyond (λ k. item counts₀ k - item needs k) v counts₀ v (omega arith)
+
 loop-holds : tie.Need-loop-holds Inv-loop μ-loop
 unfolding stored
 loop-holds c = (search needs, refl, refl)
 
-mul-wide : tie.Need-mul-wide Inv-loop μ-loop
-mul-wide c = search needs
-
-slice-read-wide : tie.Need-slice-read-wide Inv-loop μ-loop
-slice-read-wide c = search needs
-
-wide-requires : tie.Need-wide-requires Inv-loop μ-loop
-wide-requires c κs = search needs
-
-spare-of-requires : tie.Need-spare-of-requires Inv-loop μ-loop
-spare-of-requires c κs = search needs
+spare-at-requires : tie.Need-spare-at-requires Inv-loop μ-loop
+spare-at-requires c κs = search needs
 
 cast-counts : tie.Need-cast-counts Inv-loop μ-loop
 cast-counts c =
-    let at-loop = c .before .before .before .before in
-    let e = c .spare-of .ensures in
-    let w = c .before .wide .ensures in
-    omega (arith, c .before .before .slice-known2 .given (at-loop .loop .v) .fits)
+    let at-loop = c .before .before .before in
+    let l = at-loop .loop in
+    let at-counts = at-loop .before .before in
+    let a = at-counts .before .args in
+    let was = counted (a .counts .now) (a .needs .now) (l .counts) (l .v) (l .inv .1) in
+    let e = c .spare-at .ensures in
+    omega (arith, at-counts .slice-known .given (l .v) .fits)
 
 mul-counts : tie.Need-mul-counts Inv-loop μ-loop
 mul-counts c = search needs
@@ -54,12 +53,12 @@ loop-less c = search needs
 
 loop-again : tie.Need-loop-again Inv-loop μ-loop
 loop-again c =
-    let at-loop = c .before .before .before .before in
+    let at-loop = c .before .before .before in
     let l = at-loop .loop in
-    let a = c .before .before .before .before .before .before .before .args in
+    let a = at-loop .before .before .before .args in
     let f : ℕ → ℕ = λ k. item (a .counts .now) k - item (a .needs .now) k in
-    let was : item (l .counts) (l .v) ≡ item (a .counts .now) (l .v) = ap (λ (x : List ℕ). item x (l .v)) (l .inv .1) ∙ stored-beyond f (l .v) (a .counts .now) (l .v) (omega arith) in
-    let val : c .spare-of .result ≡ f (l .v) = c .spare-of .ensures ∙ ap (λ (x : ℕ). x - item (a .needs .now) (l .v)) (c .before .wide .ensures ∙ was) in
+    let was = counted (a .counts .now) (a .needs .now) (l .counts) (l .v) (l .inv .1) in
+    let val : c .spare-at .result ≡ f (l .v) = c .spare-at .ensures ∙ ap (λ (x : ℕ). x - item (a .needs .now) (l .v)) was in
     (search needs, rw (val, l .inv .1) (sym (stored-next f (l .v) (a .counts .now))), simp length-set (l .inv .2))
 
 same-length : tie.Need-same-length Inv-loop μ-loop
@@ -78,10 +77,7 @@ take-needs-spec =
     Inv-loop
     μ-loop
     loop-holds
-    mul-wide
-    slice-read-wide
-    wide-requires
-    spare-of-requires
+    spare-at-requires
     cast-counts
     mul-counts
     slice-write-counts

@@ -9,10 +9,10 @@ use native.Mathlib.Omega.{arith}
 use lib.ListN.{length}
 use Rattle.plan_turns_search.specs.Record.{endOf}
 use Rattle.plan_turns_search.specs.Chain.{ChainBelow, Falls}
-use Rattle.plan_turns_search.proofs.Build.{roof, chain-start, chain-next, chain-done}
+use Rattle.plan_turns_search.proofs.Build.{keyBound, chain-start, chain-next, chain-done}
 
 abbrev Inv-loop : tie.InvT-loop
-Inv-loop heads₀ nexts₀ links lows highs order k₀ heads nexts k = (k ≤ links) × ((key : ℕ → ℕ) → Falls links key order → ChainBelow (2 * links) (endOf lows highs) (λ d. key (d / 2)) heads nexts (roof links key order k)) × (length heads ≡ length heads₀) × (length nexts ≡ length nexts₀)
+Inv-loop heads₀ nexts₀ links lows highs order k₀ heads nexts k = (k ≤ links) × ((key : ℕ → ℕ) → Falls links key order → ChainBelow (2 * links) (endOf lows highs) (λ d. key (d / 2)) heads nexts (keyBound links key order k)) × (length heads ≡ length heads₀) × (length nexts ≡ length nexts₀)
 
 abbrev μ-loop : tie.MeasureT-loop
 μ-loop heads₀ nexts₀ links lows highs order k₀ heads nexts k = k

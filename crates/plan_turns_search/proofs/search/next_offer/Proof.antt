@@ -12,20 +12,20 @@ use Rattle.plan_turns_search.specs.Record.{atSource, atTarget, endOf, ke
 use Rattle.plan_turns_search.specs.Offers.{HeldSearch, OfferSearch, holds}
 use Rattle.plan_turns_search.specs.Chain.{opposite, turnedKey}
 use Rattle.plan_turns_search.proofs.Record.{target-below}
-use Rattle.plan_turns_search.proofs.Chain.{height, falls, opposite-below, walk-next, walk-found, walk-end, taken-free, held-wanted, held-refuses, held-next}
+use Rattle.plan_turns_search.proofs.Chain.{chainMeasure, falls, opposite-below, walk-next, walk-found, walk-end, taken-free, held-wanted, held-refuses, held-next}
 use Rattle.plan_turns_search.specs.Record.{siteSlicesOf}
 
 abbrev Inv-loop : tie.InvT-loop
 Inv-loop rec marks links lows highs costs spares nexts ups u dirs found₀ e d v f₀ found f = (found ≡ 2 * links) × HeldSearch (siteOf (siteSlicesOf links lows highs costs spares)) (atSource rec) v f
 
 abbrev μ-loop : tie.MeasureT-loop
-μ-loop rec marks links lows highs costs spares nexts ups u dirs found₀ e d v f₀ found f = height (2 * links) (turnedKey costs) f
+μ-loop rec marks links lows highs costs spares nexts ups u dirs found₀ e d v f₀ found f = chainMeasure (2 * links) (turnedKey costs) f
 
 abbrev Inv-search : tie.InvT-search
 Inv-search rec marks links lows highs costs spares nexts ups u dirs found₀ e₀ found e = (found ≡ 2 * links) × OfferSearch (siteOf (siteSlicesOf links lows highs costs spares)) (atSource rec) u e
 
 abbrev μ-search : tie.MeasureT-search
-μ-search rec marks links lows highs costs spares nexts ups u dirs found₀ e₀ found e = height (2 * links) (keyOf costs) e
+μ-search rec marks links lows highs costs spares nexts ups u dirs found₀ e₀ found e = chainMeasure (2 * links) (keyOf costs) e
 
 mul-dirs : tie.Need-mul-dirs Inv-loop μ-loop Inv-search μ-search
 mul-dirs c = search needs

@@ -9,10 +9,13 @@ line-at-requires : tie.Need-line-at-requires
 line-at-requires c κs = search needs
 
 found-fault-requires : tie.Need-found-fault-requires
-found-fault-requires c κs = ap (λ (x : Found). x .line) (c .line-at .ensures)
+found-fault-requires c κs = (c .before .before .args .at, ap (λ (x : Found). x .line) (c .line-at .ensures))
 
 returns : tie.Need-returns
-returns c = (c .found-fault .ensures, ap (λ (x : Found). x .next) (c .before .line-at .ensures))
+returns c =
+    let at-line-at = c .before in
+    let found = at-line-at .line-at .ensures in
+    (c .found-fault .ensures (at-line-at .before .before .args .at) (ap (λ (x : Found). x .line) found), ap (λ (x : Found). x .next) found)
 
 pub digits-line-spec : {M : Type 1} → statement M
 digits-line-spec = tie.close (tie.spec line-at-requires found-fault-requires returns)

@@ -12,22 +12,31 @@ first-line-requires : tie.Need-first-line-requires
 first-line-requires c κs = search needs
 
 found-fault-requires : tie.Need-found-fault-requires
-found-fault-requires c κs = ap (λ (x : Found). x .line) (c .first-line .ensures)
+found-fault-requires c κs = (0, ap (λ (x : Found). x .line) (c .first-line .ensures))
 
 returns : tie.Need-returns
-returns c = or-here _ _ _ (c .before .found-fault .ensures) (c .if1 .taken)
+returns c =
+    let at-found-fault = c .before in
+    or-here _ _ _ (at-found-fault .found-fault .ensures 0 (ap (λ (x : Found). x .line) (at-found-fault .before .first-line .ensures))) (c .if1 .taken)
 
 number-requires : tie.Need-number-requires
 number-requires c κs =
-    let at-start = c .before .before .before .before in
-    let g = line-good (at-start .args .text .now) 0 12 (sym (c .before .found-fault .ensures) ∙ c .if1 .left) in
+    let at-found-fault = c .before in
+    let at-first-line = at-found-fault .before in
+    let at-start = at-first-line .before .before in
+    let fault = at-found-fault .found-fault .ensures 0 (ap (λ (x : Found). x .line) (at-first-line .first-line .ensures)) in
+    let g = line-good (at-start .args .text .now) 0 12 (sym fault ∙ c .if1 .left) in
     let w = g .within in
     (omega arith, omega arith)
 
 number-requires-2 : tie.Need-number-requires-2
 number-requires-2 c κs =
-    let at-start = c .before .before .before .before .before in
-    let g = line-good (at-start .args .text .now) 0 12 (sym (c .before .before .found-fault .ensures) ∙ c .before .if1 .left) in
+    let at-if1 = c .before in
+    let at-found-fault = at-if1 .before in
+    let at-first-line = at-found-fault .before in
+    let at-start = at-first-line .before .before in
+    let fault = at-found-fault .found-fault .ensures 0 (ap (λ (x : Found). x .line) (at-first-line .first-line .ensures)) in
+    let g = line-good (at-start .args .text .now) 0 12 (sym fault ∙ at-if1 .if1 .left) in
     let w = g .within in
     (omega arith, omega arith)
 
@@ -38,7 +47,8 @@ returns-2 : tie.Need-returns-2
 returns-2 c =
     let at-if1 = c .before .before .before in
     let at-found-fault = at-if1 .before in
-    or-next _ _ _ _ (at-found-fault .found-fault .ensures) (at-if1 .if1 .left) (c .size-fault .ensures ∙ rw (c .before .before .number .ensures, c .before .number2 .ensures))
+    let fault = at-found-fault .found-fault .ensures 0 (ap (λ (x : Found). x .line) (at-found-fault .before .first-line .ensures)) in
+    or-next _ _ _ _ fault (at-if1 .if1 .left) (c .size-fault .ensures ∙ rw (c .before .before .number .ensures, c .before .number2 .ensures))
 
 pub head-fault-spec : {M : Type 1} → statement M
 head-fault-spec =
