@@ -306,19 +306,19 @@ fn put_script(
     probes: usize,
     links: usize,
     needs: &[u16],
+    degrees: &[u16],
     lows: &[u16],
     highs: &[u16],
     costs: &[u16],
     text: &[u8],
     out: &mut [u8],
 ) -> usize
-    requires { ⌜ slicesFault (slicesOf number probes links (now needs) (now lows) (now highs) (now costs)) ≡ 0 ⌝ }
+    requires { let x = slicesOf number probes links (now needs) (now lows) (now highs) (now costs) in
+        ⌜ (slicesFault x ≡ 0) × (probes ≤ length (now degrees)) × Degrees (tableOf x) (now degrees) ⌝ }
     ensures { λ r. let x = slicesOf number probes links (now (needs .entry)) (now (lows .entry)) (now (highs .entry)) (now (costs .entry)) in
         let printed = scriptText x 1024 (now (text .entry)) in
         ⌜ (r ≡ capped (length printed)) × (length printed ≤ length (now (out .entry)) → now (out .exit) ≡ sets (now (out .entry)) 0 printed) ⌝ }
 {
-    let mut degrees = [0u16; 256];
-    table::degrees::count_degrees(&mut degrees, links, lows, highs);
     let mut bytes = [0u8; 8192];
     let mut line = [0u8; 17];
     let rec = &mut bytes[..4 * links];
@@ -332,7 +332,7 @@ fn put_script(
         probes,
         links,
         needs,
-        &degrees,
+        degrees,
         lows,
         highs,
         costs,
@@ -347,7 +347,7 @@ fn put_script(
         probes,
         links,
         needs,
-        &degrees,
+        degrees,
         lows,
         highs,
         rec,
@@ -364,13 +364,15 @@ fn script_fits(
     probes: usize,
     links: usize,
     needs: &[u16],
+    degrees: &[u16],
     lows: &[u16],
     highs: &[u16],
     costs: &[u16],
     text: &[u8],
     room: usize,
 ) -> bool
-    requires { ⌜ (slicesFault (slicesOf number probes links (now needs) (now lows) (now highs) (now costs)) ≡ 0) × (room < 9223372036854775808) ⌝ }
+    requires { let x = slicesOf number probes links (now needs) (now lows) (now highs) (now costs) in
+        ⌜ (slicesFault x ≡ 0) × (probes ≤ length (now degrees)) × Degrees (tableOf x) (now degrees) × (room < 9223372036854775808) ⌝ }
     ensures { λ r. let x = slicesOf number probes links (now (needs .entry)) (now (lows .entry)) (now (highs .entry)) (now (costs .entry)) in
         ⌜ r ≡ leb (length (scriptText x 1024 (now (text .entry)))) room ⌝ }
 {
@@ -383,6 +385,7 @@ fn script_fits(
         probes,
         links,
         needs,
+        degrees,
         lows,
         highs,
         costs,
@@ -409,9 +412,33 @@ pub fn print_script(
         let printed = scriptText x 1024 (now (text .entry)) in
         ⌜ Prints (shortFault (length (now (out .entry))) printed) printed r (now (out .entry)) (now (out .exit)) ⌝ }
 {
+    let mut degrees = [0u16; 256];
+    table::degrees::count_degrees(&mut degrees, links, lows, highs);
     let room = out.len();
-    if !script_fits(number, probes, links, needs, lows, highs, costs, text, room) {
+    if !script_fits(
+        number,
+        probes,
+        links,
+        needs,
+        &degrees,
+        lows,
+        highs,
+        costs,
+        text,
+        room,
+    ) {
         return Output::Refused(8);
     }
-    Output::Length(put_script(number, probes, links, needs, lows, highs, costs, text, out))
+    Output::Length(put_script(
+        number,
+        probes,
+        links,
+        needs,
+        &degrees,
+        lows,
+        highs,
+        costs,
+        text,
+        out,
+    ))
 }

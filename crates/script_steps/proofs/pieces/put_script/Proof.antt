@@ -4,82 +4,59 @@ use Rattle.script_steps.proofs.pieces.put_script.Statement.{statement}
 use Rattle.script_steps.proofs.pieces.put_script.Tie as tie
 use Prim.Native.Nat.{ℕ, _*_, _≤_}
 use mathlib.Core.List.{List}
-use mathlib.Core.Path.{_≡_, refl, sym}
+use mathlib.Core.Path.{refl, sym}
 use native.Mathlib.Omega.{arith}
-use lib.ListN.{length, replicate}
+use lib.ListN.{replicate}
 use lib.Seq.{length-take-le}
-use Rattle.range.proofs.Lists.{zeros-at}
 use Rattle.table.proofs.Slices.{legal-slices}
 use Rattle.table.specs.Slices.{slicesOf}
-use Rattle.fleet_state.proofs.Legal.{fits, may-count}
+use Rattle.fleet_state.proofs.Legal.{fits}
 use Rattle.script_steps.proofs.PieceLaws.{at-most}
 use Rattle.script_steps.proofs.Ends.{links-within, zeros-pass, all-printed, all-length}
 
-slice-aggregate-count-degrees : tie.Need-slice-aggregate-count-degrees
-slice-aggregate-count-degrees c = search needs
-
-count-degrees-requires : tie.Need-count-degrees-requires
-count-degrees-requires c κs =
-    let s = c .before .before .before .before .before .before .before in
-    let a = s .args in
-    let m = may-count (a .number) (a .probes) (a .links) (a .needs .now) (a .lows .now) (a .highs .now) (a .costs .now) (s .pre) in
-    (m .0, m .1, m .2, m .3, zeros-at 256)
-
 mul-bytes : tie.Need-mul-bytes
 mul-bytes c =
-    let s = c .before .before .before .before .before .before .before .before .before in
+    let s = c .before .before .before .before .before .before .before in
     let a = s .args in
-    let m = links-within (slicesOf (a .number) (a .probes) (a .links) (a .needs .now) (a .lows .now) (a .highs .now) (a .costs .now)) (s .pre) in
+    let m = links-within (slicesOf (a .number) (a .probes) (a .links) (a .needs .now) (a .lows .now) (a .highs .now) (a .costs .now)) (s .pre .0) in
     omega arith
 
 array-borrow-prefix-bytes : tie.Need-array-borrow-prefix-bytes
 array-borrow-prefix-bytes c =
-    let s = c .before .before .before .before .before .before .before .before .before in
+    let s = c .before .before .before .before .before .before .before in
     let a = s .args in
-    let m = links-within (slicesOf (a .number) (a .probes) (a .links) (a .needs .now) (a .lows .now) (a .highs .now) (a .costs .now)) (s .pre) in
+    let m = links-within (slicesOf (a .number) (a .probes) (a .links) (a .needs .now) (a .lows .now) (a .highs .now) (a .costs .now)) (s .pre .0) in
     omega arith
 
 slice-aggregate-rec : tie.Need-slice-aggregate-rec
 slice-aggregate-rec c =
-    let s = c .before .before .before .before .before .before .before .before .before .before in
+    let s = c .before .before .before .before .before .before .before .before in
     let a = s .args in
-    let m = links-within (slicesOf (a .number) (a .probes) (a .links) (a .needs .now) (a .lows .now) (a .highs .now) (a .costs .now)) (s .pre) in
+    let m = links-within (slicesOf (a .number) (a .probes) (a .links) (a .needs .now) (a .lows .now) (a .highs .now) (a .costs .now)) (s .pre .0) in
     sym (length-take-le _ _ (omega arith))
 
 slice-aggregate-take-piece : tie.Need-slice-aggregate-take-piece
 slice-aggregate-take-piece c = search needs
 
-slice-aggregate-take-piece-2 : tie.Need-slice-aggregate-take-piece-2
-slice-aggregate-take-piece-2 c = search needs
-
 take-piece-requires : tie.Need-take-piece-requires
 take-piece-requires c κs =
-    let at-counted = c .before .before .before .before .before .before in
-    let s = at-counted .before .before .before .before .before .before .before .before in
+    let s = c .before .before .before .before .before .before .before .before .before .before .before in
     let a = s .args in
     let x = slicesOf (a .number) (a .probes) (a .links) (a .needs .now) (a .lows .now) (a .highs .now) (a .costs .now) in
-    let m = links-within x (s .pre) in
-    let g = legal-slices 256 2048 x (s .pre) in
-    let room : length (at-counted .count-degrees .last .0) ≡ 256 = at-counted .count-degrees .kept .0 in
-    (s .pre, zeros-pass x (s .pre) (omega arith), omega (arith, g .few, room), at-counted .count-degrees .ensures, omega arith, refl)
-
-slice-aggregate-put-end : tie.Need-slice-aggregate-put-end
-slice-aggregate-put-end c = search needs
+    let m = links-within x (s .pre .0) in
+    (s .pre .0, zeros-pass x (s .pre .0) (omega arith), s .pre .1, s .pre .2, omega arith, refl)
 
 put-end-requires : tie.Need-put-end-requires
 put-end-requires c κs =
-    let at-take-piece = c .before .before .before .before .before .before .before .before .before in
-    let at-counted = at-take-piece .before .before .before .before .before .before .before in
-    let s = at-counted .before .before .before .before .before .before .before .before in
+    let at-take-piece = c .before .before .before .before .before .before .before .before in
+    let s = at-take-piece .before .before .before .before .before .before .before .before .before .before .before .before in
     let a = s .args in
     let x = slicesOf (a .number) (a .probes) (a .links) (a .needs .now) (a .lows .now) (a .highs .now) (a .costs .now) in
     let k = at-take-piece .take-piece in
-    let m = links-within x (s .pre) in
+    let m = links-within x (s .pre .0) in
     let zeros : List ℕ = replicate 8192 0 in
     let n = length-take-le (4 * a .links) zeros (omega arith) in
-    let g = legal-slices 256 2048 x (s .pre) in
-    let room : length (at-counted .count-degrees .last .0) ≡ 256 = at-counted .count-degrees .kept .0 in
-    (fits (a .number) (a .probes) (a .links) (a .needs .now) (a .lows .now) (a .highs .now) (a .costs .now) g, omega (arith, k .kept .1 .1 .1 .1 .1 .1 .1 .1 .0), omega (arith, g .few, room), at-counted .count-degrees .ensures, at-most _ 0 _ _ _ _ _ (k .ensures .0))
+    (fits (a .number) (a .probes) (a .links) (a .needs .now) (a .lows .now) (a .highs .now) (a .costs .now) (legal-slices 256 2048 x (s .pre .0)), omega (arith, k .kept .1 .1 .1 .1 .1 .1 .1 .1 .0), s .pre .1, s .pre .2, at-most _ 0 _ _ _ _ _ (k .ensures .0))
 
 same-length : tie.Need-same-length
 same-length c = search needs
@@ -87,30 +64,26 @@ same-length c = search needs
 returns : tie.Need-returns
 returns c =
     let at-put-end = c .before .before .before in
-    let at-take-piece = at-put-end .before .before .before .before .before .before .before .before .before .before in
-    let s = at-take-piece .before .before .before .before .before .before .before .before .before .before .before .before .before .before .before in
+    let at-take-piece = at-put-end .before .before .before .before .before .before .before .before .before in
+    let s = at-take-piece .before .before .before .before .before .before .before .before .before .before .before .before in
     let a = s .args in
     let k = at-take-piece .take-piece in
     let e = at-put-end .put-end .ensures in
     let x = slicesOf (a .number) (a .probes) (a .links) (a .needs .now) (a .lows .now) (a .highs .now) (a .costs .now) in
-    let m = links-within x (s .pre) in
+    let m = links-within x (s .pre .0) in
     let w : 4 * a .links ≤ 8192 = omega arith in
     let line : List ℕ = replicate 17 0 in
-    (all-length x (s .pre) w _ (refl, refl, refl) line _ (a .text .now) _ (a .out .now) _ (a .out .now) _ (k .ensures .0) _ (e .1), all-printed x (s .pre) w _ (refl, refl, refl) line _ (a .text .now) _ (a .out .now) _ _ _ (k .ensures .0) (k .kept .1 .1 .1 .1 .1 .1 .1 .1 .1 .1 .1 .1 .0) (omega (arith, s .good .1 .1 .1 .1 .1 .1 .1 .1 .0)) (e .0 (a .number) (a .costs .now)))
+    (all-length x (s .pre .0) w _ (refl, refl, refl) line _ (a .text .now) _ (a .out .now) _ (a .out .now) _ (k .ensures .0) _ (e .1), all-printed x (s .pre .0) w _ (refl, refl, refl) line _ (a .text .now) _ (a .out .now) _ _ _ (k .ensures .0) (k .kept .1 .1 .1 .1 .1 .1 .1 .1 .1 .1 .1 .1 .0) (omega (arith, s .good .1 .1 .1 .1 .1 .1 .1 .1 .1 .0)) (e .0 (a .number) (a .costs .now)))
 
 pub put-script-spec : {M : Type 1} → statement M
 put-script-spec =
     tie.close
     (tie.spec
-    slice-aggregate-count-degrees
-    count-degrees-requires
     mul-bytes
     array-borrow-prefix-bytes
     slice-aggregate-rec
     slice-aggregate-take-piece
-    slice-aggregate-take-piece-2
     take-piece-requires
-    slice-aggregate-put-end
     put-end-requires
     same-length
     returns)

@@ -18,7 +18,7 @@ add-if1 c = search needs
 
 returns : tie.Need-returns
 returns c =
-    let s = c .before .before .before .before .before .before in
+    let s = c .before .before .before .before .before .before .before in
     let a = s .args in
     let x = slicesOf (a .number) (a .probes) (a .links) (a .needs .now) (a .lows .now) (a .highs .now) (a .costs .now) in
     let m = links-within x (s .pre .0) in
@@ -38,10 +38,10 @@ put-script-requires c κs = search needs
 returns-2 : tie.Need-returns-2
 returns-2 c =
     let at-put-script = c .before in
-    let s = at-put-script .before .before .before .before .before .before .before .before in
+    let s = at-put-script .before .before .before .before .before .before .before .before .before in
     let a = s .args in
     let x = slicesOf (a .number) (a .probes) (a .links) (a .needs .now) (a .lows .now) (a .highs .now) (a .costs .now) in
-    ap (λ (k : ℕ). leb k (a .room)) (at-put-script .put-script .ensures .0) ∙ capped-leb (length (scriptText x 1024 (a .text .now))) (a .room) (s .pre .1)
+    ap (λ (k : ℕ). leb k (a .room)) (at-put-script .put-script .ensures .0) ∙ capped-leb (length (scriptText x 1024 (a .text .now))) (a .room) (s .pre .3)
 
 pub script-fits-spec : {M : Type 1} → statement M
 script-fits-spec =
