@@ -5,7 +5,7 @@ use mathlib.Core.Logic.{_↔_, _⊎_}
 use mathlib.Core.Bool.{Bool, true, not}
 use mathlib.Core.List.{List, [], _∷_, _++_}
 use lib.ListN.{length, take}
-use Rattle.table.specs.Table.{Table, item, touches}
+use Rattle.table.specs.Table.{Table, item, touches, countedNeed}
 use Rattle.table.specs.Slices.{Slices, tableOf}
 use Rattle.plan_theory.specs.Plan.{rested, kept, linksAt, costOf, Meets}
 use Rattle.probe_frame.specs.Frame.{frameOf}
@@ -102,7 +102,7 @@ module _ (x : Slices) (log : List Entry) (cs : List LoggedCall) where
     pub same-plan : finished t bytes ≡ true → (y : Slices) → SameTable y x → (log′ : List Entry) (cs′ : List LoggedCall) → LoggedCalls y (freshLogged y log′) cs′
         → (let bytes′ = leftAfterLogged (freshLogged y log′) cs′ .bytes in
         finished (tableOf y) bytes′ ≡ true → (i p : ℕ) → i < x .links → touches t p i ≡ true → endRests t bytes p i ≡ endRests (tableOf y) bytes′ p i)
-    -- "Every need is then met, and the plan costs at most twice as much as any choice of links that meets the needs."
-    pub needs-met : finished t bytes ≡ true → (v : ℕ) → v < x .probes → t .need v ≤ linksAt t (λ i. not (endRests t bytes v i)) v
+    -- "Every need is then met, and the plan costs at most twice as much as any choice of links that meets the needs": the counted needs (02, No. 1)
+    pub needs-met : finished t bytes ≡ true → (v : ℕ) → v < x .probes → countedNeed t v ≤ linksAt t (λ i. not (endRests t bytes v i)) v
     pub cost-twice : finished t bytes ≡ true → (choice : ℕ → Bool) → Meets t choice
         → costOf t (λ i. not (endRests t bytes (t .low i) i)) ≤ 2 * costOf t choice

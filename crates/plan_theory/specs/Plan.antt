@@ -1,9 +1,9 @@
--- The plan, S-LSE, and what a choice of links meets and costs. The sentences are those of demand 2 and of document 01. A set of links is a function ℕ → Bool.
+-- The plan, S-LSE, and what a choice of links meets and costs. The sentences are those of demand 2 and of document 01; a need is everywhere the counted one (02, No. 1). A set of links is a function ℕ → Bool.
 use Prim.Native.Nat.{ℕ, _-_, _≤_, _<_}
 use mathlib.Core.Bool.{Bool, _&&_, _||_, not, cond}
 use lib.Dec.{ltb, eqb}
 use Rattle.range.specs.Sum.{weigh, count}
-use Rattle.table.specs.Table.{Table, touches, degree, dearer, cheaper, item}
+use Rattle.table.specs.Table.{Table, touches, degree, countedNeed, dearer, cheaper, item}
 use Rattle.plan_theory.specs.Pass.{pass}
 use mathlib.Core.List.{List}
 
@@ -13,7 +13,7 @@ linksAt t s v = count (t .links) (λ i. touches t v i && s i)
 
 -- with the links of r rested, v "still has more links than" it needs
 abbrev pub hasMore : Table → (ℕ → Bool) → ℕ → Bool
-hasMore t r v = ltb (t .need v) (degree t v - linksAt t r v)
+hasMore t r v = ltb (countedNeed t v) (degree t v - linksAt t r v)
 
 -- "links are gone through from dearest to cheapest, by 01's order, and a link is rested exactly when both ends still have more links than they need"
 unfoldable pub rested : Table → ℕ → Bool
@@ -40,16 +40,16 @@ abbrev pub costOf : Table → (ℕ → Bool) → ℕ
 costOf t s = weigh (t .links) s (t .cost)
 
 -- with the links of s added, v is "short of its need"
-abbrev pub isShort : Table → (ℕ → Bool) → ℕ → Bool
-isShort t s v = ltb (linksAt t s v) (t .need v)
+abbrev pub hasFewer : Table → (ℕ → Bool) → ℕ → Bool
+hasFewer t s v = ltb (linksAt t s v) (countedNeed t v)
 
 -- "from cheapest up, add each link that then has an end short of its need"
 unfoldable pub added : Table → ℕ → Bool
-added t i = pass (t .links) (cheaper t) (λ s g. isShort t s (t .low g) || isShort t s (t .high g)) i
+added t i = pass (t .links) (cheaper t) (λ s g. hasFewer t s (t .low g) || hasFewer t s (t .high g)) i
 
 -- with the links of r removed, v has "more added links than" it needs
 abbrev pub hasMoreAdded : Table → (ℕ → Bool) → ℕ → Bool
-hasMoreAdded t r v = ltb (t .need v) (linksAt t (added t) v - linksAt t r v)
+hasMoreAdded t r v = ltb (countedNeed t v) (linksAt t (added t) v - linksAt t r v)
 
 -- "Then, from dearest down, remove an added link if both ends then have more added links than they need."
 unfoldable pub removed : Table → ℕ → Bool
@@ -61,7 +61,7 @@ slse t i = added t i && not (removed t i)
 
 -- "Choice: any set of the table's links. It meets the needs when each probe is an end of at least its need of them"
 abbrev pub Meets : Table → (ℕ → Bool) → Type 0
-Meets t s = (v : ℕ) → v < t .probes → t .need v ≤ linksAt t s v
+Meets t s = (v : ℕ) → v < t .probes → countedNeed t v ≤ linksAt t s v
 
 -- the links of one set that are not in another
 abbrev pub without : (ℕ → Bool) → (ℕ → Bool) → ℕ → Bool

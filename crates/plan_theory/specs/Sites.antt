@@ -1,10 +1,10 @@
--- The marked sites M1 to M10: document 01, "Sites to compare".
+-- The marked sites M1 to M10: document 01, "Sites to compare"; and a site with a short probe.
 use Prim.Native.Nat.{ℕ, zero, suc}
 use mathlib.Core.Path.{_≡_}
-use mathlib.Core.Bool.{Bool, cond}
+use mathlib.Core.Bool.{Bool, true, cond}
 use mathlib.Core.List.{List, [], _∷_, _++_}
 use lib.ListN.{length}
-use Rattle.table.specs.Table.{Table, ofSlices}
+use Rattle.table.specs.Table.{Table, ofSlices, spare, isShort, missing}
 use Rattle.plan_theory.specs.Plan.{kept, keptCount, costOf, added, removed}
 
 -- a site by its needs and its links' low ends, high ends and costs
@@ -45,3 +45,13 @@ pub record Sites : Type 0 where
   pub m8 : SitePlan (row (0 ∷ 0 ∷ 0 ∷ [])) ((1, 2) ∷ []) 0
   pub m9 : Phases (row (5 ∷ 6 ∷ 5 ∷ [])) ((0, 1) ∷ (2, 3) ∷ []) []
   pub m10 : Phases (row (5 ∷ 5 ∷ 5 ∷ [])) ((0, 1) ∷ (1, 2) ∷ []) ((0, 1) ∷ [])
+
+-- 02, No. 1: "a need of three meets two links"
+abbrev pub valley : Table
+valley = site (3 ∷ 0 ∷ 0 ∷ []) (0 ∷ 0 ∷ 1 ∷ []) (1 ∷ 2 ∷ 2 ∷ []) (1 ∷ 2 ∷ 3 ∷ [])
+
+pub record Valley : Type 0 where
+  pub short : isShort valley 0 ≡ true
+  pub missing-one : missing valley 0 ≡ 1
+  pub no-spare : spare valley 0 ≡ 0
+  pub keeps-both : SitePlan valley ((0, 1) ∷ (0, 2) ∷ []) 3

@@ -12,7 +12,7 @@ use Rattle.range.proofs.Faults.{or-none, or-left, or-right, first-all, none-fir
 use Rattle.lines.specs.Digits.{lineFault}
 use Rattle.lines.proofs.Lines.{GoodLine, line-good, good-line}
 use Rattle.table.specs.Table.{Table}
-use Rattle.table.specs.Legal.{sizeFault, linkFault, needFault, tableFault}
+use Rattle.table.specs.Legal.{sizeFault, linkFault, tableFault}
 use Rattle.table.proofs.Faults.{size-good, good-size}
 use Rattle.table.specs.Text.{ofText, needStart, linkStart, begins, closingLine, closingFault, needLineFault, linkLineFault, headFault, textFault, textEnd}
 
@@ -47,46 +47,36 @@ module _ (pmax lmax : ℕ) (more : Bool) (s : List ℕ) where
   abbrev link : ℕ → ℕ
   link = linkFault (t .probes) (t .low) (t .high)
 
-  -- 6, then 7
-  abbrev behind : ℕ
-  behind = orElse (closingFault more s closingAt) (first (needFault t) (t .probes))
-
   pub text-good : textFault pmax lmax more s ≡ 0 → Accepted pmax lmax more s
   unfolding textFault
   text-good e =
-      let rows = orElse (first (linkLineFault s) (t .links)) behind in
+      let rows = orElse (first (linkLineFault s) (t .links)) (closingFault more s closingAt) in
       let a = or-both (headFault pmax lmax s) (orElse (first (needLineFault s) (t .probes)) rows) e in
       let b = or-both (first (needLineFault s) (t .probes)) rows (a .1) in
-      let c = or-both (first (linkLineFault s) (t .links)) behind (b .1) in
-      let d = or-both (closingFault more s closingAt) (first (needFault t) (t .probes)) (c .1) in
+      let c = or-both (first (linkLineFault s) (t .links)) (closingFault more s closingAt) (b .1) in
       let head = or-both (lineFault s 0 12) size (a .0) in
       let each : (i : ℕ) → i < t .links → (line i ≡ 0) × (link i ≡ 0) = λ i l. or-both (line i) (link i) (first-all (linkLineFault s) (t .links) i (c .0) l) in
       let begun = begins (drop closingAt s) closingLine in
       let last = more || eqb (length s) (closingAt + 5) in
-      let end = and-both begun last (unless-none (begun && last) 5 (d .0)) in
+      let end = and-both begun last (unless-none (begun && last) 5 (c .1)) in
       record {
         head = line-good s 0 12 (head .0);
         need = λ v l. line-good s (needStart v) 4 (first-all (needLineFault s) (t .probes) v (b .0) l);
         link = λ i l. line-good s (linkStart (t .probes) i) 12 (each i l .0);
         closing = end .0;
         end = end .1;
-        legal =
-            or-none size (orElse (first link (t .links)) (first (needFault t) (t .probes))) (head .1)
-            ∙ or-none (first link (t .links)) (first (needFault t) (t .probes)) (none-first link (t .links) (λ i l. each i l .1))
-            ∙ d .1;
+        legal = or-none size (first link (t .links)) (head .1) ∙ none-first link (t .links) (λ i l. each i l .1);
       }
 
   pub good-text : Accepted pmax lmax more s → textFault pmax lmax more s ≡ 0
   unfolding textFault
   good-text g =
-      let above = first (needFault t) (t .probes) in
-      let a = or-both size (orElse (first link (t .links)) above) (g .legal) in
-      let b = or-both (first link (t .links)) above (a .1) in
+      let a = or-both size (first link (t .links)) (g .legal) in
       let head = none (good-line s 0 12 (g .head)) (a .0) in
       let needs = none-first (needLineFault s) (t .probes) (λ v l. good-line s (needStart v) 4 (g .need v l)) in
-      let row : (i : ℕ) → i < t .links → linkLineFault s i ≡ 0 = λ i l. none (good-line s (linkStart (t .probes) i) 12 (g .link i l)) (first-all link (t .links) i (b .0) l) in
+      let row : (i : ℕ) → i < t .links → linkLineFault s i ≡ 0 = λ i l. none (good-line s (linkStart (t .probes) i) 12 (g .link i l)) (first-all link (t .links) i (a .1) l) in
       let end : closingFault more s closingAt ≡ 0 = rw (g .closing, g .end) in
-      none head (none needs (none (none-first (linkLineFault s) (t .links) row) (none end (b .1))))
+      none head (none needs (none (none-first (linkLineFault s) (t .links) row) end))
     where
       none : {a b : ℕ} → a ≡ 0 → b ≡ 0 → orElse a b ≡ 0
       none e f = rw e f
@@ -97,7 +87,7 @@ module _ (pmax lmax : ℕ) (more : Bool) (s : List ℕ) where
 -- a table that is legal within some limits is legal within wider ones
 pub table-wider : (pmax lmax pmax′ lmax′ : ℕ) (t : Table) → pmax ≤ pmax′ → lmax ≤ lmax′ → tableFault pmax lmax t ≡ 0 → tableFault pmax′ lmax′ t ≡ 0
 table-wider pmax lmax pmax′ lmax′ t p l e =
-    let rest = orElse (first (linkFault (t .probes) (t .low) (t .high)) (t .links)) (first (needFault t) (t .probes)) in
+    let rest = first (linkFault (t .probes) (t .low) (t .high)) (t .links) in
     let size = size-good pmax lmax (t .probes) (t .links) (or-left (sizeFault pmax lmax (t .probes) (t .links)) rest e) in
     or-none (sizeFault pmax′ lmax′ (t .probes) (t .links)) rest
     (good-size pmax′ lmax′ (t .probes) (t .links)

@@ -10,8 +10,8 @@ use borrow.Author.Tests.{ltb-true, ltb-false, eqb-true, ne-eqb}
 use Rattle.range.specs.First.{orElse, first}
 use Rattle.range.proofs.Bools.{and-left, and-right, or-cases, unless-none, when-none}
 use Rattle.range.proofs.Faults.{or-left, or-right, first-all}
-use Rattle.table.specs.Table.{Table, degree}
-use Rattle.table.specs.Legal.{sizeFault, endsFault, orderFault, linkFault, needFault, tableFault, After, LegalTable}
+use Rattle.table.specs.Table.{Table}
+use Rattle.table.specs.Legal.{sizeFault, endsFault, orderFault, linkFault, tableFault, After, LegalTable}
 use Rattle.table.proofs.Faults.{size-good, links-ends}
 
 next-rises : (t : Table) (i : ℕ) → linkFault (t .probes) (t .low) (t .high) (suc i) ≡ 0 → After t i (suc i)
@@ -43,34 +43,25 @@ module _ (pmax lmax : ℕ) (t : Table) (good : tableFault pmax lmax t ≡ 0) whe
   abbrev linksFault : ℕ
   linksFault = first (linkFault (t .probes) (t .low) (t .high)) (t .links)
 
-  abbrev needsFault : ℕ
-  needsFault = first (needFault t) (t .probes)
-
-  none : orElse linksFault needsFault ≡ 0
-  none = or-right (sizeFault pmax lmax (t .probes) (t .links)) (orElse linksFault needsFault) good
+  none : linksFault ≡ 0
+  none = or-right (sizeFault pmax lmax (t .probes) (t .links)) linksFault good
 
   rise : (i j : ℕ) → i < j → j < t .links → After t i j
   rise i zero k l = absurd (omega arith)
   rise i (suc j) k l = go (rise i j) (ℕ-discrete i j)
     where
       next : After t j (suc j)
-      next = next-rises t j (first-all (linkFault (t .probes) (t .low) (t .high)) (t .links) (suc j) (or-left linksFault needsFault none) l)
+      next = next-rises t j (first-all (linkFault (t .probes) (t .low) (t .high)) (t .links) (suc j) none l)
 
       go : (i < j → j < t .links → After t i j) → Dec (i ≡ j) → After t i (suc j)
       go old (yes e) = rw e next
       go old (no n) = after-after t i j (suc j) (old (omega arith) (omega arith)) next
 
-  enough : (v : ℕ) → v < t .probes → t .need v ≤ degree t v
-  enough v l =
-      ltb-false (degree t v) (t .need v)
-      (when-none (ltb (degree t v) (t .need v)) 6 (first-all (needFault t) (t .probes) v (or-right linksFault needsFault none) l))
-
   pub legal-table : LegalTable pmax lmax t
   legal-table =
       record {
-        size = size-good pmax lmax (t .probes) (t .links) (or-left (sizeFault pmax lmax (t .probes) (t .links)) (orElse linksFault needsFault) good);
-        links-pass = or-left linksFault needsFault none;
-        ends = links-ends (t .probes) (t .links) (t .low) (t .high) (or-left linksFault needsFault none);
+        size = size-good pmax lmax (t .probes) (t .links) (or-left (sizeFault pmax lmax (t .probes) (t .links)) linksFault good);
+        links-pass = none;
+        ends = links-ends (t .probes) (t .links) (t .low) (t .high) none;
         order = record { rising = rise };
-        enough = enough;
       }

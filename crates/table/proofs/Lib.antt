@@ -1,5 +1,6 @@
 pub mod Faults
 pub mod DegreeLaws
+pub mod Needs
 pub mod Same
 pub mod Accepted
 pub mod Lengths

@@ -11,7 +11,7 @@ use Rattle.range.specs.Sum.{count}
 use Rattle.range.proofs.Faults.{first-same, or-same}
 use Rattle.range.proofs.Sums.{sum-same}
 use Rattle.table.specs.Table.{Table}
-use Rattle.table.specs.Legal.{sizeFault, linkFault, aboveFault, needFault, tableFault}
+use Rattle.table.specs.Legal.{sizeFault, linkFault, tableFault}
 use Rattle.table.specs.Same.{Same}
 
 module _ (links : ℕ) (low low′ high high′ : ℕ → ℕ) (lows : (i : ℕ) → i < links → low i ≡ low′ i) (highs : (i : ℕ) → i < links → high i ≡ high′ i) where
@@ -31,17 +31,9 @@ module _ (links : ℕ) (low low′ high high′ : ℕ → ℕ) (lows : (i : ℕ)
       sum-same links (λ i. cond (eqb v (low i) || eqb v (high i)) 1 0) (λ i. cond (eqb v (low′ i) || eqb v (high′ i)) 1 0)
       (λ i l. rw (lows i l, highs i l))
 
-  pub needs-same : (probes : ℕ) (need need′ : ℕ → ℕ) → ((v : ℕ) → v < probes → need v ≡ need′ v)
-      → first (λ v. aboveFault (count links (λ i. eqb v (low i) || eqb v (high i))) (need v)) probes
-      ≡ first (λ v. aboveFault (count links (λ i. eqb v (low′ i) || eqb v (high′ i))) (need′ v)) probes
-  needs-same probes need need′ needs = first-same _ _ probes (λ v l. rw (degree-same v, needs v l))
-
 module _ (t u : Table) (e : Same t u) where
-  pub same-needs : first (needFault t) (t .probes) ≡ first (needFault u) (u .probes)
-  same-needs = rw (← e .probes, ← e .links) (needs-same (t .links) (t .low) (u .low) (t .high) (u .high) (e .low) (e .high) (t .probes) (t .need) (u .need) (e .need))
-
   pub same-fault : (pmax lmax : ℕ) → tableFault pmax lmax t ≡ tableFault pmax lmax u
-  same-fault pmax lmax = or-same size (or-same links same-needs)
+  same-fault pmax lmax = or-same size links
     where
       size : sizeFault pmax lmax (t .probes) (t .links) ≡ sizeFault pmax lmax (u .probes) (u .links)
       size = rw (e .probes, e .links)

@@ -1,11 +1,11 @@
--- Refusals of a table: document 01, "Turned down for the input", 3, 4, 5, 7 and 8. A fault is a refusal's number, or 0 for none.
+-- Refusals of a table: document 01, "Turned down for the input", 3, 4, 5 and 8. 02, No. 1: "Refusal 7 is withdrawn." A fault is a refusal's number, or 0 for none.
 use Prim.Native.Nat.{ℕ, _-_, _≤_, _<_}
 use mathlib.Core.Path.{_≡_}
 use mathlib.Core.Logic.{_⊎_}
 use mathlib.Core.Bool.{cond, _&&_, _||_, not}
 use lib.Dec.{ltb, eqb}
 use Rattle.range.specs.First.{orElse, first}
-use Rattle.table.specs.Table.{Table, degree}
+use Rattle.table.specs.Table.{Table}
 
 -- "Probes 0 or over 256, or links over 2,048": the limits are parameters
 abbrev pub sizeFault : ℕ → ℕ → ℕ → ℕ → ℕ
@@ -24,20 +24,11 @@ unfoldable pub linkFault : ℕ → (ℕ → ℕ) → (ℕ → ℕ) → ℕ → �
 linkFault probes low high i =
     orElse (endsFault probes (low i) (high i)) (cond (eqb i 0) 0 (orderFault (low (i - 1)) (high (i - 1)) (low i) (high i)))
 
--- "A need above the probe's links."
-abbrev pub aboveFault : ℕ → ℕ → ℕ
-aboveFault degree need = cond (ltb degree need) 7 0
-
-abbrev pub needFault : Table → ℕ → ℕ
-needFault t v = aboveFault (degree t v) (t .need v)
-
--- "3, then 4 and 5 link by link, 7"
+-- "3, then 4 and 5 link by link": by the table's sizes and its links' ends; no other part of a table is ever refused
 abbrev pub tableFault : ℕ → ℕ → Table → ℕ
-tableFault pmax lmax t =
-    orElse (sizeFault pmax lmax (t .probes) (t .links))
-    (orElse (first (linkFault (t .probes) (t .low) (t .high)) (t .links)) (first (needFault t) (t .probes)))
+tableFault pmax lmax t = orElse (sizeFault pmax lmax (t .probes) (t .links)) (first (linkFault (t .probes) (t .low) (t .high)) (t .links))
 
--- "Legal: a table that none of 3, 4, 5 and 7 turns down."
+-- "Legal: a table that none of 3, 4, 5 and 7 turns down", without 7
 abbrev pub Legal : Table → Type 0
 Legal t = tableFault 256 2048 t ≡ 0
 
@@ -67,8 +58,6 @@ pub record LegalTable (pmax lmax : ℕ) (t : Table) : Type 0 where
   pub links-pass : first (linkFault (t .probes) (t .low) (t .high)) (t .links) ≡ 0
   pub ends : (i : ℕ) → i < t .links → Ends (t .probes) (t .low i) (t .high i)
   pub order : RisingLinks t
-  -- no need is above the probe's links
-  pub enough : (v : ℕ) → v < t .probes → t .need v ≤ degree t v
 
 -- 8 for a lent slice shorter than it must be
 abbrev pub lentFault : ℕ → ℕ → ℕ

@@ -29,7 +29,7 @@ tableOf x = ofSlices (x .number) (x .probes) (x .links) (x .needs) (x .lows) (x 
 abbrev pub slicesRoomFault : Slices → ℕ
 slicesRoomFault x = roomFault (x .probes) (x .links) (length (x .needs)) (length (x .lows)) (length (x .highs)) (length (x .costs))
 
--- "Slices of numbers: 8, 3, then 4 and 5 link by link, 7."
+-- "Slices of numbers: 8, 3, then 4 and 5 link by link, 7", without 7
 abbrev pub sliceFault : ℕ → ℕ → Slices → ℕ
 sliceFault pmax lmax x = orElse (slicesRoomFault x) (tableFault pmax lmax (tableOf x))
 

@@ -1,5 +1,5 @@
 -- A site and the order of its links. The sentences are those of document 01, "Table and order".
-use Prim.Native.Nat.{ℕ, _-_}
+use Prim.Native.Nat.{ℕ, _-_, min}
 use mathlib.Core.Path.{_≡_}
 use mathlib.Core.Bool.{Bool, cond, _&&_, _||_}
 use mathlib.Core.List.{List}
@@ -48,9 +48,20 @@ degree t v = count (t .links) (touches t v)
 abbrev pub Degrees : Table → List ℕ → Type 0
 Degrees t degrees = (v : ℕ) → item degrees v ≡ degree t v
 
+-- 02, No. 1: "Everywhere the need now counts as the smaller of the need and the number of links"
+abbrev pub countedNeed : Table → ℕ → ℕ
+countedNeed t v = min (t .need v) (degree t v)
+
 -- "Its spare is its number of links less its need."
 abbrev pub spare : Table → ℕ → ℕ
-spare t v = degree t v - t .need v
+spare t v = degree t v - countedNeed t v
+
+-- 02, No. 1: "a need of three meets two links .. Such a probe .. is called short", and its "missing count"
+abbrev pub isShort : Table → ℕ → Bool
+isShort t v = ltb (degree t v) (t .need v)
+
+abbrev pub missing : Table → ℕ → ℕ
+missing t v = t .need v - degree t v
 
 -- "A link is dearer than another if its cost is larger; at equal cost, if its low end is larger; then if its high end is larger."
 unfoldable pub dearer : Table → ℕ → ℕ → Bool

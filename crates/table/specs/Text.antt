@@ -9,7 +9,7 @@ use Rattle.range.specs.Lists.{joined}
 use Rattle.hex.specs.Digits.{numberAt, digits}
 use Rattle.lines.specs.Digits.{lineFault}
 use Rattle.table.specs.Table.{Table}
-use Rattle.table.specs.Legal.{sizeFault, linkFault, needFault, roomFault}
+use Rattle.table.specs.Legal.{sizeFault, linkFault, roomFault}
 
 -- "lines of lower-case hexadecimal, each closed by one line feed"
 
@@ -75,13 +75,12 @@ linkLineFault s i = orElse (lineFault s (linkStart (ofText s .probes) i) 12) (li
 abbrev pub headFault : ℕ → ℕ → List ℕ → ℕ
 headFault pmax lmax s = orElse (lineFault s 0 12) (sizeFault pmax lmax (ofText s .probes) (ofText s .links))
 
--- "Text goes line by line: 1, 2, then 3, or 4 and 5. Then come 6, 7 and 8."
+-- "Text goes line by line: 1, 2, then 3, or 4 and 5. Then come 6, 7 and 8", without 7
 abbrev pub bodyFault : Bool → List ℕ → ℕ
 bodyFault more s =
     let t = ofText s in
     orElse (first (needLineFault s) (t .probes))
-    (orElse (first (linkLineFault s) (t .links))
-    (orElse (closingFault more s (linkStart (t .probes) (t .links))) (first (needFault t) (t .probes))))
+    (orElse (first (linkLineFault s) (t .links)) (closingFault more s (linkStart (t .probes) (t .links))))
 
 unfoldable pub textFault : ℕ → ℕ → Bool → List ℕ → ℕ
 textFault pmax lmax more s = orElse (headFault pmax lmax s) (bodyFault more s)

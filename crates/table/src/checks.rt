@@ -1,5 +1,4 @@
 // The checks of a table. The table's text, the plan, the ends and the fleet call these.
-use super::degrees::count_degrees;
 use super::numbers::wide;
 ghost use mathlib.Core.Path.{_≡_};
 ghost use mathlib.Core.List.{[]};
@@ -7,7 +6,7 @@ ghost use Prim.Native.Nat.{_-_, _<_, _≤_};
 ghost use lib.ListN.{length};
 ghost use Rattle.range.specs.First.{first};
 ghost use Rattle.table.specs.Table.{item, ofSlices};
-ghost use Rattle.table.specs.Legal.{sizeFault, endsFault, orderFault, linkFault, aboveFault, needFault, tableFault, roomFault};
+ghost use Rattle.table.specs.Legal.{sizeFault, endsFault, orderFault, linkFault, tableFault, roomFault};
 ghost use Rattle.table.specs.Slices.{sliceFault, slicesOf};
 
 // 3
@@ -88,54 +87,23 @@ fn links_fault(probes: usize, links: usize, lows: &[u16], highs: &[u16]) -> u8
     0
 }
 
-// 7, against the probes' counted links.
-fn above_fault(probes: usize, needs: &[u16], counts: &[u16]) -> u8
-    requires { ⌜ (probes ≤ length (now needs)) × (probes ≤ length (now counts)) ⌝ }
-    ensures { λ r. ⌜ r ≡ first (λ v. aboveFault (item (now (counts .entry)) v) (item (now (needs .entry)) v)) probes ⌝ }
-{
-    let mut v = 0;
-    while v < probes {
-        if counts[v] < needs[v] {
-            return 7;
-        }
-        v += 1;
-    }
-    0
-}
-
-// 7.
-pub fn needs_fault(probes: usize, links: usize, needs: &[u16], lows: &[u16], highs: &[u16]) -> u8
-    requires { ⌜ (probes ≤ 256) × (probes ≤ length (now needs)) × (links ≤ 65535) × (links ≤ length (now lows)) × (links ≤ length (now highs))
-        × (first (linkFault probes (item (now lows)) (item (now highs))) links ≡ 0) ⌝ }
-    ensures { λ r. ⌜ r ≡ first (needFault (ofSlices 0 probes links (now (needs .entry)) (now (lows .entry)) (now (highs .entry)) [])) probes ⌝ }
-{
-    let mut counts = [0u16; 256];
-    count_degrees(&mut counts, links, lows, highs);
-    above_fault(probes, needs, &counts)
-}
-
-// 3, then 4 and 5 link by link, 7.
+// 3, then 4 and 5 link by link.
 fn table_fault(
     pmax: usize,
     lmax: usize,
     probes: usize,
     links: usize,
-    needs: &[u16],
     lows: &[u16],
     highs: &[u16],
 ) -> u8
-    requires { ⌜ (pmax ≤ 256) × (lmax ≤ 65535) × (probes ≤ length (now needs)) × (links ≤ length (now lows)) × (links ≤ length (now highs)) ⌝ }
-    ensures { λ r. ⌜ r ≡ tableFault pmax lmax (ofSlices 0 probes links (now (needs .entry)) (now (lows .entry)) (now (highs .entry)) []) ⌝ }
+    requires { ⌜ (links ≤ length (now lows)) × (links ≤ length (now highs)) ⌝ }
+    ensures { λ r. ⌜ r ≡ tableFault pmax lmax (ofSlices 0 probes links [] (now (lows .entry)) (now (highs .entry)) []) ⌝ }
 {
     let size = size_fault(pmax, lmax, probes, links);
     if size != 0 {
         return size;
     }
-    let fault = links_fault(probes, links, lows, highs);
-    if fault != 0 {
-        return fault;
-    }
-    needs_fault(probes, links, needs, lows, highs)
+    links_fault(probes, links, lows, highs)
 }
 
 // 8, by the lengths of the table's slices.
@@ -164,7 +132,7 @@ pub fn room_fault(
     0
 }
 
-// 8, 3, then 4 and 5 link by link, 7.
+// 8, 3, then 4 and 5 link by link.
 pub fn slice_fault(
     pmax: usize,
     lmax: usize,
@@ -175,7 +143,6 @@ pub fn slice_fault(
     highs: &[u16],
     costs: &[u16],
 ) -> u8
-    requires { ⌜ (pmax ≤ 256) × (lmax ≤ 65535) ⌝ }
     ensures { λ r. let x = slicesOf 0 probes links (now (needs .entry)) (now (lows .entry)) (now (highs .entry)) (now (costs .entry)) in
         ⌜ r ≡ sliceFault pmax lmax x ⌝ }
 {
@@ -190,5 +157,5 @@ pub fn slice_fault(
     if room != 0 {
         return room;
     }
-    table_fault(pmax, lmax, probes, links, needs, lows, highs)
+    table_fault(pmax, lmax, probes, links, lows, highs)
 }

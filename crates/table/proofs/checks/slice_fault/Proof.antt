@@ -18,7 +18,7 @@ table-fault-requires : tie.Need-table-fault-requires
 table-fault-requires c κs =
     let a = c .before .before .before .before .before .before .args in
     let s = room-good (a .probes) (a .links) (length (a .needs .now)) (length (a .lows .now)) (length (a .highs .now)) (length (a .costs .now)) (sym (c .before .room-fault .ensures) ∙ c .if1 .left) in
-    (omega arith, omega arith, omega arith, omega arith, omega arith)
+    (omega arith, omega arith)
 
 returns-2 : tie.Need-returns-2
 returns-2 c = or-next _ _ _ _ (c .before .before .room-fault .ensures) (c .before .if1 .left) (c .table-fault .ensures)
