@@ -7,12 +7,13 @@ use table::NEED_BYTES;
 use table::starts::link_start;
 use table::starts::need_start;
 use table::starts::text_end;
-use table_text::text_checks::fill;
 ghost use mathlib.Core.Path.{_≡_};
 ghost use mathlib.Core.Bool.{true};
-ghost use Prim.Native.Nat.{_≤_};
+ghost use Prim.Native.Nat.{ℕ, _+_, _*_, _<_, _≤_};
 ghost use lib.ListN.{length};
+ghost use Rattle.range.specs.Lists.{stored};
 ghost use Rattle.range.specs.Reply.{values};
+ghost use Rattle.hex.specs.Digits.{numberAt};
 ghost use Rattle.table.specs.Legal.{roomFault};
 ghost use Rattle.table.specs.Text.{ofText, textFault, readFault};
 ghost use Rattle.table_read.specs.Reading.{lentOf, readingReply, readValues, Filled, ReadsTable};
@@ -61,6 +62,18 @@ fn answer(text: &[u8]) -> Reading
     }
 }
 
+// Stores the numbers of four digits that stand at equal distances.
+fn store_numbers(text: &[u8], at: usize, step: usize, n: usize, out: &mut [u16])
+    requires { ⌜ (n ≤ length (now out)) × ((i : ℕ) → i < n → (at + step * i + 4 ≤ length (now text)) × (numberAt (now text) (at + step * i) 4 < 65536)) ⌝ }
+    ensures { λ _. ⌜ now (out .exit) ≡ stored (λ i. numberAt (now (text .entry)) (at + step * i) 4) n (now (out .entry)) ⌝ }
+{
+    let mut i = 0;
+    while i < n {
+        out[i] = hex::fields::number(text, at + step * i, 4) as u16;
+        i += 1;
+    }
+}
+
 // Stores the table of a text that has no fault.
 fn fill_table(
     text: &[u8],
@@ -79,10 +92,10 @@ fn fill_table(
     let probes = hex::fields::number(text, 4, 4);
     let links = hex::fields::number(text, 8, 4);
     let start = link_start(probes, 0);
-    fill(text, need_start(0), NEED_BYTES, probes, needs);
-    fill(text, start, LINK_BYTES, links, lows);
-    fill(text, start + HIGH_AT, LINK_BYTES, links, highs);
-    fill(text, start + COST_AT, LINK_BYTES, links, costs);
+    store_numbers(text, need_start(0), NEED_BYTES, probes, needs);
+    store_numbers(text, start, LINK_BYTES, links, lows);
+    store_numbers(text, start + HIGH_AT, LINK_BYTES, links, highs);
+    store_numbers(text, start + COST_AT, LINK_BYTES, links, costs);
 }
 
 // Reads a text within the limits pmax and lmax; `more`: whether it may go on behind its closing line.

@@ -1,4 +1,3 @@
 pub mod Begins
 pub mod Closing
 pub mod Good
-pub mod Local

@@ -34,8 +34,8 @@ link-start-requires c κs =
 need-start-requires : tie.Need-need-start-requires
 need-start-requires c κs = search needs
 
-fill-requires : tie.Need-fill-requires
-fill-requires c κs =
+store-numbers-requires : tie.Need-store-numbers-requires
+store-numbers-requires c κs =
     let at-need-start = c .before in
     let at-link-start = at-need-start .before in
     let at-number2 = at-link-start .before in
@@ -51,8 +51,8 @@ fill-requires c κs =
     let e = at-need-start .need-start .ensures in
     (omega arith, fields s (at-need-start .need-start .result) 5 (at-number .number .result) 4 0 needStart (λ v l. g .need v (omega arith)) (omega arith) (λ i. omega arith))
 
-fill-requires-2 : tie.Need-fill-requires-2
-fill-requires-2 c κs =
+store-numbers-requires-2 : tie.Need-store-numbers-requires-2
+store-numbers-requires-2 c κs =
     let at-link-start = c .before .before .before .before .before .before in
     let at-number2 = at-link-start .before in
     let at-number = at-number2 .before in
@@ -67,8 +67,8 @@ fill-requires-2 c κs =
     let e = at-link-start .link-start .ensures in
     (omega arith, fields s (at-link-start .link-start .result) 13 (at-number2 .number2 .result) 12 0 (linkStart (ofText s .probes)) (λ i l. g .link i (omega arith)) (omega arith) (λ i. omega arith))
 
-add-fill : tie.Need-add-fill
-add-fill c =
+add-store-numbers : tie.Need-add-store-numbers
+add-store-numbers c =
     let at-link-start = c .before .before .before .before .before .before .before .before .before in
     let at-number = at-link-start .before .before in
     let at-start = at-number .before .before .before .before .before .before in
@@ -77,8 +77,8 @@ add-fill c =
     let z = text-head 256 2048 true (at-start .args .text .now) (at-start .pre .0) .size in
     omega arith
 
-fill-requires-3 : tie.Need-fill-requires-3
-fill-requires-3 c κs =
+store-numbers-requires-3 : tie.Need-store-numbers-requires-3
+store-numbers-requires-3 c κs =
     let at-link-start = c .before .before .before .before .before .before .before .before .before .before in
     let at-number2 = at-link-start .before in
     let at-number = at-number2 .before in
@@ -93,8 +93,8 @@ fill-requires-3 c κs =
     let e = at-link-start .link-start .ensures in
     (omega arith, fields s (at-link-start .link-start .result + 4) 13 (at-number2 .number2 .result) 12 4 (linkStart (ofText s .probes)) (λ i l. g .link i (omega arith)) (omega arith) (λ i. omega arith))
 
-add-fill-2 : tie.Need-add-fill-2
-add-fill-2 c =
+add-store-numbers-2 : tie.Need-add-store-numbers-2
+add-store-numbers-2 c =
     let at-link-start = c .before .before .before .before .before .before .before .before .before .before .before .before .before in
     let at-number = at-link-start .before .before in
     let at-start = at-number .before .before .before .before .before .before in
@@ -103,8 +103,8 @@ add-fill-2 c =
     let z = text-head 256 2048 true (at-start .args .text .now) (at-start .pre .0) .size in
     omega arith
 
-fill-requires-4 : tie.Need-fill-requires-4
-fill-requires-4 c κs =
+store-numbers-requires-4 : tie.Need-store-numbers-requires-4
+store-numbers-requires-4 c κs =
     let at-link-start = c .before .before .before .before .before .before .before .before .before .before .before .before .before .before in
     let at-number2 = at-link-start .before in
     let at-number = at-number2 .before in
@@ -133,11 +133,11 @@ same-length-4 c = search needs
 
 returns : tie.Need-returns
 returns c =
-    let at-fill4 = c .before .before in
-    let at-fill3 = at-fill4 .before .before .before .before in
-    let at-fill2 = at-fill3 .before .before .before .before in
-    let at-fill = at-fill2 .before .before .before .before in
-    let at-need-start = at-fill .before .before in
+    let at-store-numbers4 = c .before .before in
+    let at-store-numbers3 = at-store-numbers4 .before .before .before .before in
+    let at-store-numbers2 = at-store-numbers3 .before .before .before .before in
+    let at-store-numbers = at-store-numbers2 .before .before .before .before in
+    let at-need-start = at-store-numbers .before .before in
     let at-link-start = at-need-start .before in
     let at-number2 = at-link-start .before in
     let at-number = at-number2 .before in
@@ -150,10 +150,10 @@ returns c =
     let en = at-need-start .need-start .ensures in
     let el = at-link-start .link-start .ensures in
     record {
-      need = fields-stored s first-need 5 _ (ofText s .probes) needStart (a .needs .now) _ (at-fill .fill .ensures) p (λ i. omega arith);
-      low = fields-stored s first-link 13 _ (ofText s .links) (linkStart (ofText s .probes)) (a .lows .now) _ (at-fill2 .fill2 .ensures) m (λ i. omega arith);
-      high = fields-stored s (first-link + 4) 13 _ (ofText s .links) (λ i. linkStart (ofText s .probes) i + 4) (a .highs .now) _ (at-fill3 .fill3 .ensures) m (λ i. omega arith);
-      cost = fields-stored s (first-link + 8) 13 _ (ofText s .links) (λ i. linkStart (ofText s .probes) i + 8) (a .costs .now) _ (at-fill4 .fill4 .ensures) m (λ i. omega arith);
+      need = fields-stored s first-need 5 _ (ofText s .probes) needStart (a .needs .now) _ (at-store-numbers .store-numbers .ensures) p (λ i. omega arith);
+      low = fields-stored s first-link 13 _ (ofText s .links) (linkStart (ofText s .probes)) (a .lows .now) _ (at-store-numbers2 .store-numbers2 .ensures) m (λ i. omega arith);
+      high = fields-stored s (first-link + 4) 13 _ (ofText s .links) (λ i. linkStart (ofText s .probes) i + 4) (a .highs .now) _ (at-store-numbers3 .store-numbers3 .ensures) m (λ i. omega arith);
+      cost = fields-stored s (first-link + 8) 13 _ (ofText s .links) (λ i. linkStart (ofText s .probes) i + 8) (a .costs .now) _ (at-store-numbers4 .store-numbers4 .ensures) m (λ i. omega arith);
     }
 
 pub fill-table-spec : {M : Type 1} → statement M
@@ -164,12 +164,12 @@ fill-table-spec =
     number-requires-2
     link-start-requires
     need-start-requires
-    fill-requires
-    fill-requires-2
-    add-fill
-    fill-requires-3
-    add-fill-2
-    fill-requires-4
+    store-numbers-requires
+    store-numbers-requires-2
+    add-store-numbers
+    store-numbers-requires-3
+    add-store-numbers-2
+    store-numbers-requires-4
     same-length
     same-length-2
     same-length-3

@@ -8,7 +8,6 @@ use Rattle.range.specs.First.{first}
 use Rattle.range.proofs.Faults.{or-here, or-next}
 use Rattle.lines.specs.declared.Found.{Found}
 use Rattle.lines.proofs.Lines.{line-good, good-next}
-use Rattle.table.specs.Legal.{needFault}
 use Rattle.table.specs.Text.{ofText, needLineFault, linkLineFault, closingFault, linkStart}
 use Rattle.table_text.proofs.Good.{lines-within}
 
@@ -59,8 +58,7 @@ closing-fault-requires c κs =
 
 returns-3 : tie.Need-returns-3
 returns-3 c =
-    let at-closing-fault = c .before in
-    let at-if2 = at-closing-fault .before in
+    let at-if2 = c .before in
     let at-link-lines = at-if2 .before .before in
     let at-if1 = at-link-lines .before in
     let at-need-lines = at-if1 .before .before in
@@ -72,34 +70,7 @@ returns-3 c =
     let n = at-link-lines .link-lines .ensures .1 (at-if2 .if2 .left) in
     let k : linkStart (a .probes) (a .links) ≡ linkStart (ofText s .probes) (ofText s .links) = omega (arith, at-start .pre .0, at-start .pre .1) in
     or-next _ _ _ _ (at-need-lines .need-lines .ensures .0 ∙ p) (at-if1 .if1 .left) (or-next _ _ _ _ (at-link-lines .link-lines .ensures .0 ∙ m) (at-if2 .if2 .left)
-    (or-here _ _ _ (at-closing-fault .closing-fault .ensures ∙ ap (closingFault (a .more) s) (n ∙ k)) (c .if3 .taken)))
-
-needs-fault-requires : tie.Need-needs-fault-requires
-needs-fault-requires c κs =
-    let at-if2 = c .before .before in
-    let at-link-lines = at-if2 .before .before in
-    let at-if1 = at-link-lines .before in
-    let at-need-lines = at-if1 .before .before in
-    let at-start = at-need-lines .before .before .before in
-    (at-start .pre .0, at-start .pre .1, search needs, search needs, sym (at-need-lines .need-lines .ensures .0) ∙ at-if1 .if1 .left, sym (at-link-lines .link-lines .ensures .0) ∙ at-if2 .if2 .left)
-
-returns-4 : tie.Need-returns-4
-returns-4 c =
-    let at-if3 = c .before in
-    let at-closing-fault = at-if3 .before in
-    let at-if2 = at-closing-fault .before in
-    let at-link-lines = at-if2 .before .before in
-    let at-if1 = at-link-lines .before in
-    let at-need-lines = at-if1 .before .before in
-    let at-start = at-need-lines .before .before .before in
-    let a = at-start .args in
-    let s = a .text .now in
-    let p = ap (first (needLineFault s)) (at-start .pre .0) in
-    let m = ap (first (linkLineFault s)) (at-start .pre .1) in
-    let n = at-link-lines .link-lines .ensures .1 (at-if2 .if2 .left) in
-    let k : linkStart (a .probes) (a .links) ≡ linkStart (ofText s .probes) (ofText s .links) = omega (arith, at-start .pre .0, at-start .pre .1) in
-    or-next _ _ _ _ (at-need-lines .need-lines .ensures .0 ∙ p) (at-if1 .if1 .left) (or-next _ _ _ _ (at-link-lines .link-lines .ensures .0 ∙ m) (at-if2 .if2 .left)
-    (or-next _ _ _ _ (at-closing-fault .closing-fault .ensures ∙ ap (closingFault (a .more) s) (n ∙ k)) (at-if3 .if3 .left) (c .needs-fault .ensures ∙ ap (first (needFault (ofText s))) (at-start .pre .0))))
+    (c .closing-fault .ensures ∙ ap (closingFault (a .more) s) (n ∙ k)))
 
 pub body-fault-spec : {M : Type 1} → statement M
 body-fault-spec =
@@ -111,6 +82,4 @@ body-fault-spec =
     link-lines-requires
     returns-2
     closing-fault-requires
-    returns-3
-    needs-fault-requires
-    returns-4)
+    returns-3)

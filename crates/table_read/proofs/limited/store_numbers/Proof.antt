@@ -1,8 +1,8 @@
--- `table_text::text_checks::fill` meets its contract.
+-- `table_read::limited::store_numbers` meets its contract.
 -- Invariant: the entries before i are read. Measure: the entries that are left.
 use borrow.Author.Needs.{needs}
-use Rattle.table_text.proofs.text_checks.fill.Statement.{statement}
-use Rattle.table_text.proofs.text_checks.fill.Tie as tie
+use Rattle.table_read.proofs.limited.store_numbers.Statement.{statement}
+use Rattle.table_read.proofs.limited.store_numbers.Tie as tie
 use Prim.Native.Nat.{_+_, _-_, _*_, _≤_}
 use mathlib.Core.Path.{_≡_, refl, sym}
 use native.Mathlib.Omega.{arith}
@@ -73,8 +73,8 @@ returns c =
     let e : c .before .loop .i ≡ at-start .args .n = omega arith in
     rw (← e) (c .before .loop .inv .1)
 
-pub fill-spec : {M : Type 1} → statement M
-fill-spec =
+pub store-numbers-spec : {M : Type 1} → statement M
+store-numbers-spec =
     tie.close
     (tie.spec
     Inv-loop
