@@ -7,3 +7,4 @@ pub mod Lengths
 pub mod LegalLaws
 pub mod Slices
 pub mod Answers
+pub mod Withdrawn

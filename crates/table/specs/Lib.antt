@@ -4,3 +4,4 @@ pub mod Slices
 pub mod Text
 pub mod Same
 pub mod Checking
+pub mod Withdrawn

@@ -23,7 +23,6 @@ use Rattle.table.specs.Legal.{linkFault}
 use Rattle.table.specs.Text.{ofText, needStart, linkStart, begins, closingLine, closingFault, needLineFault, linkLineFault, headFault, bodyFault, textFault, textEnd}
 use Rattle.table_text.proofs.Good.{head-good}
 use Rattle.table.specs.Same.{Same}
-use Rattle.table.proofs.Same.{same-needs}
 
 -- both texts have n bytes or more, and the first n are equal
 record Agree (s u : List ℕ) (n : ℕ) : Type 0 where
@@ -173,7 +172,7 @@ module _ (n : ℕ) (s u : List ℕ) (g : Agree s u n) (headed : 13 ≤ n) where
       body-same : bodyFault more s ≡ bodyFault more u
       body-same =
           let at-same : linkStart (ofText s .probes) (ofText s .links) ≡ linkStart (ofText u .probes) (ofText u .links) = rw (probes-same, count-same) in
-          or-same need-lines-same (or-same rows-same (or-same (closing ∙ ap (closingFault more u) at-same) (same-needs (ofText s) (ofText u) same-table)))
+          or-same need-lines-same (or-same rows-same (closing ∙ ap (closingFault more u) at-same))
 
   -- where the header is refused, its line alone is judged
   text-same : (more : Bool)

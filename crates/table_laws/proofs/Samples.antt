@@ -62,6 +62,7 @@ refusals-are =
       behind = refl;
       script = refl;
       above = refl;
+      largest = refl;
       twice = refl;
       itself = refl;
       outside = refl;

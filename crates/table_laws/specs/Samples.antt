@@ -1,4 +1,4 @@
--- Sample texts and what is claimed of them: M2 of document 01, and texts of M5 with one fault each.
+-- Sample texts and what is claimed of them: M2 of document 01, texts of M5 with one fault each, and texts with a short probe.
 use Prim.Native.Nat.{ℕ, _≤_}
 use Prim.Native.Char.{code}
 use Prim.Native.String.{String, [] as done, _∷_ as _before_}
@@ -71,8 +71,9 @@ pub record TextRefusals : Type 0 where
   -- a byte behind the closing line; the same where the text may go on
   pub behind : refusal false "000100020001\n0001\n0000\n000000010007\nffff\n0" ≡ 6
   pub script : refusal true "000100020001\n0001\n0000\n000000010007\nffff\n0" ≡ 0
-  -- need 2 of 1 link
-  pub above : refusal false "000100020001\n0002\n0000\n000000010007\nffff\n" ≡ 7
+  -- 02, No. 1: need 2 of 1 link; need 65,535 of none
+  pub above : refusal false "000100020001\n0002\n0000\n000000010007\nffff\n" ≡ 0
+  pub largest : refusal false "000100010000\nffff\nffff\n" ≡ 0
   -- equal links
   pub twice : refusal false "000100020002\n0001\n0000\n000000010007\n000000010007\nffff\n" ≡ 5
   -- low equal to high; high equal to the probe count
