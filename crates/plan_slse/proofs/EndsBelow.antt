@@ -1,4 +1,4 @@
--- One test of two ends, read as "an end is short" and as "both ends are over".
+-- One test of two ends, read as "an end is below" and as "both ends are over".
 use Prim.Native.Nat.{ℕ, _+_}
 use mathlib.Core.Path.{_≡_, refl}
 use mathlib.Core.Bool.{Bool, true, false, cond, _&&_, _||_}
@@ -6,7 +6,7 @@ use mathlib.Core.List.{List}
 use native.Mathlib.Omega.{arith}
 use lib.Dec.{ltb}
 use Rattle.table.specs.Table.{item}
-use Rattle.plan_slse.specs.Steps.{endsBelow, eitherShort, bothOver}
+use Rattle.plan_slse.specs.Steps.{endsBelow, eitherBelow, bothOver}
 
 none-of : (x y : Bool) → cond x 1 0 + cond y 1 0 ≡ 0 → (x || y) ≡ false
 none-of true true e = absurd (omega arith)
@@ -31,11 +31,11 @@ not-two-of true false n = refl
 not-two-of false y n = refl
 
 module _ (counts needs : List ℕ) (low high r : ℕ) where
-  pub none-short : r ≡ endsBelow counts needs low high → r ≡ 0 → eitherShort counts needs low high ≡ false
-  none-short e z = none-of (ltb (item counts low) (item needs low)) (ltb (item counts high) (item needs high)) (omega arith)
+  pub none-below : r ≡ endsBelow counts needs low high → r ≡ 0 → eitherBelow counts needs low high ≡ false
+  none-below e z = none-of (ltb (item counts low) (item needs low)) (ltb (item counts high) (item needs high)) (omega arith)
 
-  pub some-short : r ≡ endsBelow counts needs low high → (r ≡ 0 → ⊥) → eitherShort counts needs low high ≡ true
-  some-short e n = some-of (ltb (item counts low) (item needs low)) (ltb (item counts high) (item needs high)) (λ z. n (omega arith))
+  pub some-below : r ≡ endsBelow counts needs low high → (r ≡ 0 → ⊥) → eitherBelow counts needs low high ≡ true
+  some-below e n = some-of (ltb (item counts low) (item needs low)) (ltb (item counts high) (item needs high)) (λ z. n (omega arith))
 
   pub two-over : r ≡ endsBelow needs counts low high → r ≡ 2 → bothOver counts needs low high ≡ true
   two-over e z = two-of (ltb (item needs low) (item counts low)) (ltb (item needs high) (item counts high)) (omega arith)

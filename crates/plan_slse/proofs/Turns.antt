@@ -6,26 +6,27 @@ use mathlib.Core.Bool.{Bool, true, false, cond, _&&_, _||_, not, true≢false}
 use mathlib.Core.List.{List}
 use native.Mathlib.Omega.{arith}
 use native.Mathlib.Decide.{ℕ-discrete}
-use lib.Dec.{eqb}
+use lib.Dec.{ltb, eqb}
 use lib.ListN.{length, getD, set}
 use borrow.Author.Tests.{eq-eqb, ne-eqb}
 use Rattle.range.specs.Lists.{stored}
-use Rattle.range.proofs.Bools.{decided}
-use Rattle.range.proofs.Sums.{weigh-more, weigh-same, none-count}
+use Rattle.range.proofs.Bools.{and-left, decided}
+use Rattle.range.proofs.Sums.{weigh-more, weigh-same, count-less, none-count}
 use Rattle.range.proofs.Lists.{stored-update, stored-same, stored-self, stored-again, stored-at, length-stored}
 use Rattle.table.specs.Table.{Table, item, ofSlices, touches, dearer, cheaper}
 use Rattle.table.specs.Legal.{tableFault, Ends, Size, RisingLinks, LegalTable}
 use Rattle.table.proofs.DegreeLaws.{ends-changed}
 use Rattle.plan_theory.specs.Pass.{place, passAfter}
-use Rattle.plan_theory.specs.Plan.{linksAt, isShort, added, hasMoreAdded, removed, slse, kept, planByte}
+use Rattle.plan_theory.specs.Plan.{linksAt, hasFewer, added, hasMoreAdded, removed, slse, kept, planByte}
 use Rattle.plan_theory.proofs.Places.{Order, reversed, place-opposite}
 use Rattle.plan_theory.proofs.Order.{dearer-order}
 use Rattle.table.proofs.LegalLaws.{legal-table}
-use Rattle.plan_theory.proofs.Plan.{at-same}
+use Rattle.table.proofs.Needs.{over-given, under-given}
+use Rattle.plan_theory.proofs.Plan.{at-same, at-split, touches-low, touches-high}
 use Rattle.plan_theory.proofs.Slse.{slse-is-plan}
 use Rattle.plan_theory.proofs.Pass.{early, pass-step}
 use Rattle.plan_slse.specs.FromDearest.{InOrder, OrderFits}
-use Rattle.plan_slse.specs.Steps.{eitherShort, bothOver, oneMore, oneLess}
+use Rattle.plan_slse.specs.Steps.{eitherBelow, bothOver, oneMore, oneLess}
 
 and-false : (b : Bool) → (b && false) ≡ false
 and-false true = refl
@@ -98,7 +99,7 @@ module _ (probes links : ℕ) (needs lows highs costs : List ℕ) where
 
   -- the links added after k turns, and those removed
   abbrev pub up : ℕ → ℕ → Bool
-  up k = passAfter links (cheaper t) (λ s g. isShort t s (t .low g) || isShort t s (t .high g)) k
+  up k = passAfter links (cheaper t) (λ s g. hasFewer t s (t .low g) || hasFewer t s (t .high g)) k
 
   abbrev pub down : ℕ → ℕ → Bool
   down k = passAfter links (dearer t) (λ r g. added t g && (hasMoreAdded t r (t .low g) && hasMoreAdded t r (t .high g))) k
@@ -132,20 +133,27 @@ module _ (probes links : ℕ) (needs lows highs costs : List ℕ) where
         go false f = omega arith
 
     pub up-step : (plan′ counts′ : List ℕ) → Up k plan₀ plan counts → place links (cheaper t) i ≡ k
-        → plan′ ≡ cond (eitherShort counts needs (item lows i) (item highs i)) (set plan i 1) plan
-        → counts′ ≡ cond (eitherShort counts needs (item lows i) (item highs i)) (oneMore counts (item lows i) (item highs i)) counts
+        → plan′ ≡ cond (eitherBelow counts needs (item lows i) (item highs i)) (set plan i 1) plan
+        → counts′ ≡ cond (eitherBelow counts needs (item lows i) (item highs i)) (oneMore counts (item lows i) (item highs i)) counts
         → Up (k + 1) plan₀ plan′ counts′
-    up-step plan′ counts′ was at p c = go (decided (eitherShort counts needs (item lows i) (item highs i)))
+    up-step plan′ counts′ was at p c = go (decided (eitherBelow counts needs (item lows i) (item highs i)))
       where
         order : Order links (cheaper t)
         order = reversed (dearer-order t rises)
 
-        tested : eitherShort counts needs (item lows i) (item highs i) ≡ (isShort t (up k) (item lows i) || isShort t (up k) (item highs i))
-        tested = rw (was .counted (item lows i) (omega arith), was .counted (item highs i) (ends .below))
+        -- an end of the link that is not yet added has fewer added links than links
+        given : (v : ℕ) → v < probes → touches t v i ≡ true → ltb (item counts v) (item needs v) ≡ hasFewer t (up k) v
+        given v n is =
+            let e = early links (cheaper t) order (λ s g. hasFewer t s (t .low g) || hasFewer t s (t .high g)) k i (omega arith) in
+            let less = count-less links (λ j. touches t v j && up k j) (touches t v) i (λ j m. and-left (touches t v j) (up k j)) l (rw e (and-false (touches t v i))) is in
+            rw (was .counted v n) (sym (under-given t v (linksAt t (up k) v) less))
 
-        go : (eitherShort counts needs (item lows i) (item highs i) ≡ true) ⊎ (eitherShort counts needs (item lows i) (item highs i) ≡ false) → Up (k + 1) plan₀ plan′ counts′
+        tested : eitherBelow counts needs (item lows i) (item highs i) ≡ (hasFewer t (up k) (item lows i) || hasFewer t (up k) (item highs i))
+        tested = rw (given (item lows i) (omega arith) (touches-low t i), given (item highs i) (ends .below) (touches-high t i))
+
+        go : (eitherBelow counts needs (item lows i) (item highs i) ≡ true) ⊎ (eitherBelow counts needs (item lows i) (item highs i) ≡ false) → Up (k + 1) plan₀ plan′ counts′
         go (inl y) =
-            let m = step-more t (cheaper t) order (λ s g. isShort t s (t .low g) || isShort t s (t .high g)) k i l at (sym tested ∙ y) in
+            let m = step-more t (cheaper t) order (λ s g. hasFewer t s (t .low g) || hasFewer t s (t .high g)) k i l at (sym tested ∙ y) in
             record {
               plans =
                   p
@@ -154,7 +162,7 @@ module _ (probes links : ℕ) (needs lows highs costs : List ℕ) where
               counted = λ v n. rw (c, y) (more-at (up k) (up (k + 1)) v m (was .counted v n));
             }
         go (inr n) =
-            let s = step-same t (cheaper t) order (λ s g. isShort t s (t .low g) || isShort t s (t .high g)) k i l at (sym tested ∙ n) in
+            let s = step-same t (cheaper t) order (λ s g. hasFewer t s (t .low g) || hasFewer t s (t .high g)) k i l at (sym tested ∙ n) in
             record {
               plans = p ∙ rw (n, was .plans) (stored-same (λ j. planByte (up k j)) (λ j. planByte (up (k + 1) j)) links plan₀ (λ j m. ap planByte (sym (s j m))));
               counted = λ v m. rw (c, n) (was .counted v m ∙ at-same t (up k) (up (k + 1)) (λ g h. sym (s g h)) v);
@@ -180,9 +188,14 @@ module _ (probes links : ℕ) (needs lows highs costs : List ℕ) where
         order : Order links (dearer t)
         order = dearer-order t rises
 
+        given : (v : ℕ) → v < probes → ltb (item needs v) (item counts v) ≡ hasMoreAdded t (down k) v
+        given v n =
+            let all = at-split t (added t) v in
+            rw (was .counted v n) (sym (over-given t v (linksAt t (added t) v - linksAt t (down k) v) (omega arith)))
+
         tested : (eqb (item plan i) 1 && bothOver counts needs (item lows i) (item highs i))
             ≡ (added t i && (hasMoreAdded t (down k) (item lows i) && hasMoreAdded t (down k) (item highs i)))
-        tested = rw (added-byte was at, was .counted (item lows i) (omega arith), was .counted (item highs i) (ends .below))
+        tested = rw (added-byte was at, given (item lows i) (omega arith), given (item highs i) (ends .below))
 
         go : ((eqb (item plan i) 1 && bothOver counts needs (item lows i) (item highs i)) ≡ true) ⊎ ((eqb (item plan i) 1 && bothOver counts needs (item lows i) (item highs i)) ≡ false)
             → Down (k + 1) plan₀ plan′ counts′

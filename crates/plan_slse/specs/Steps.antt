@@ -11,8 +11,8 @@ abbrev pub endsBelow : List ℕ → List ℕ → ℕ → ℕ → ℕ
 endsBelow a b low high = cond (ltb (item a low) (item b low)) 1 0 + cond (ltb (item a high) (item b high)) 1 0
 
 -- an end has fewer links than it needs
-abbrev pub eitherShort : List ℕ → List ℕ → ℕ → ℕ → Bool
-eitherShort counts needs low high = ltb (item counts low) (item needs low) || ltb (item counts high) (item needs high)
+abbrev pub eitherBelow : List ℕ → List ℕ → ℕ → ℕ → Bool
+eitherBelow counts needs low high = ltb (item counts low) (item needs low) || ltb (item counts high) (item needs high)
 
 -- both ends have more links than they need
 abbrev pub bothOver : List ℕ → List ℕ → ℕ → ℕ → Bool

@@ -4,7 +4,7 @@ ghost use mathlib.Core.Bool.{cond, _&&_};
 ghost use Prim.Native.Nat.{_<_};
 ghost use lib.ListN.{length, getD, set};
 ghost use Rattle.plan_theory.specs.Plan.{isKept};
-ghost use Rattle.plan_slse.specs.Steps.{endsBelow, eitherShort, bothOver, oneMore, oneLess};
+ghost use Rattle.plan_slse.specs.Steps.{endsBelow, eitherBelow, bothOver, oneMore, oneLess};
 
 // At how many of two ends the entry of `a` is below that of `b`.
 fn ends_below(a: &[u16], b: &[u16], low: usize, high: usize) -> u8
@@ -23,7 +23,7 @@ fn ends_below(a: &[u16], b: &[u16], low: usize, high: usize) -> u8
     0
 }
 
-// Adds a link that has an end short of its need.
+// Adds a link that has an end with fewer links than it needs.
 pub fn add_link(
     plan: &mut [u8],
     counts: &mut [u16],
@@ -34,7 +34,7 @@ pub fn add_link(
 )
     requires { ⌜ (i < length (now plan)) × (low < high) × (high < length (now counts)) × (high < length (now needs))
         × (getD (now counts) low 0 < 65535) × (getD (now counts) high 0 < 65535) ⌝ }
-    ensures { λ _. let adds = eitherShort (now (counts .entry)) (now (needs .entry)) low high in
+    ensures { λ _. let adds = eitherBelow (now (counts .entry)) (now (needs .entry)) low high in
         ⌜ (now (plan .exit) ≡ cond adds (set (now (plan .entry)) i 1) (now (plan .entry)))
         × (now (counts .exit) ≡ cond adds (oneMore (now (counts .entry)) low high) (now (counts .entry))) ⌝ }
 {

@@ -1,24 +1,25 @@
--- The cost bound: the plan against any choice that meets the needs. With it what demand 3 says of the plan.
+-- The cost bound: the plan against any choice that meets the needs. With it what demand 3 says of the plan, and what it keeps of a short probe.
 use Prim.Native.Nat.{ℕ, _+_, _*_, _≤_, _<_}
 use mathlib.Core.Path.{_≡_, refl, sym, _∙_}
-use mathlib.Core.Logic.{inl, inr}
+use mathlib.Core.Logic.{_⊎_, inl, inr}
 use mathlib.Core.Bool.{Bool, true, false, cond, _&&_, _||_, not, and-comm, true≢false}
 use native.Mathlib.Omega.{arith}
 use native.Mathlib.Decide.{decLt}
 use lib.Dec.{leb, eqb}
 use borrow.Author.Tests.{leb-true, le-leb, not-true}
 use Rattle.range.specs.Sum.{sum, weigh, count}
-use Rattle.range.proofs.Bools.{and-left, and-right, and-intro, and-skip}
+use Rattle.range.proofs.Bools.{and-left, and-right, and-intro, and-skip, decided}
 use Rattle.range.proofs.Sums.{sum-le, sum-add, sum-swap, sum-one, sum-at, weigh-le, weigh-same, weigh-split, weigh-dominated, count-none}
-use Rattle.table.specs.Table.{Table, touches, spare, dearer}
+use Rattle.table.specs.Table.{Table, touches, spare, isShort, dearer}
 use Rattle.plan_theory.specs.Plan.{linksAt, rested, kept, costOf, without, Meets}
 use Rattle.plan_theory.proofs.Places.{Order, reversed, Last, last, all-before}
 use Rattle.plan_theory.proofs.Order.{dearer-order, Dear, dear, on-dear}
 use Rattle.table.specs.Legal.{Legal, LegalTable}
 use Rattle.table.proofs.LegalLaws.{legal-table}
-use Rattle.plan_theory.proofs.Plan.{at-split, at-both, touches-low, touches-high, plan-criterion, rested-fits, plan-meets}
+use Rattle.table.proofs.Needs.{short-spare}
+use Rattle.plan_theory.proofs.Plan.{at-split, at-both, touches-low, touches-high, plan-criterion, rested-at, rested-fits, plan-meets}
 use Rattle.plan_theory.specs.Criterion.{dearerAt, UnderSpare}
-use Rattle.plan_theory.specs.Bounds.{PlanBounds}
+use Rattle.plan_theory.specs.Bounds.{ShortKeeps, PlanBounds}
 
 -- outside the choice, no probe has more links than its spare
 abbrev pub WithinSpare : Table → (ℕ → Bool) → Type 0
@@ -195,3 +196,14 @@ module _ (t : Table) (s : LegalTable 256 2048 t) (choice : ℕ → Bool) (meets 
 
 pub plan-bounds : (t : Table) → Legal t → PlanBounds t
 plan-bounds t legal = record { needs-met = plan-meets t legal; cost-twice = bound t (legal-table 256 2048 t legal) }
+
+-- no link at a probe with spare 0 has fewer rested dearer ones than the spare
+pub short-keeps : (t : Table) → Legal t → ShortKeeps t
+short-keeps t legal = record { no-spare = short-spare t; keeps-all = λ v i e l at. go v i e l at (decided (rested t i)) }
+  where
+    go : (v i : ℕ) → isShort t v ≡ true → i < t .links → touches t v i ≡ true → (rested t i ≡ true) ⊎ (rested t i ≡ false) → kept t i ≡ true
+    go v i e l at (inl r) =
+        let under = rested-at t (legal-table 256 2048 t legal .order) i v l r at in
+        let none = short-spare t v e in
+        absurd (omega arith)
+    go v i e l at (inr r) = rw r

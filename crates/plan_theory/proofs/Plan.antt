@@ -3,13 +3,14 @@ use Prim.Native.Nat.{ℕ, _+_, _-_, _≤_, _<_}
 use mathlib.Core.Path.{_≡_, refl, sym, _∙_}
 use mathlib.Core.Logic.{_↔_, _⊎_, inl, inr}
 use mathlib.Core.Bool.{Bool, true, _&&_, not}
+use native.Mathlib.Nat.{min-le-right}
 use native.Mathlib.Omega.{arith}
 use lib.Dec.{eqb}
 use borrow.Author.Tests.{ltb-true, lt-ltb, eqb-true, eq-eqb}
 use Rattle.range.specs.Sum.{count}
 use Rattle.range.proofs.Bools.{and-left, and-right, and-intro, and-swap, or-intro-left, or-intro-right, or-cases, same-bool}
 use Rattle.range.proofs.Sums.{weigh-same, weigh-split}
-use Rattle.table.specs.Table.{Table, touches, degree, spare, dearer}
+use Rattle.table.specs.Table.{Table, touches, degree, countedNeed, spare, dearer}
 use Rattle.table.specs.Legal.{Legal, RisingLinks}
 use Rattle.plan_theory.specs.Plan.{linksAt, hasMore, rested, kept, Meets}
 use Rattle.plan_theory.proofs.Places.{bounded}
@@ -48,10 +49,10 @@ module _ (t : Table) where
   touches-high i = or-intro-right (eqb (t .high i) (t .low i)) (eqb (t .high i) (t .high i)) (eq-eqb (t .high i) (t .high i) refl)
 
   more-under : (s : ℕ → Bool) (v : ℕ) → hasMore t s v ≡ true → linksAt t s v < spare t v
-  more-under s v e = let a = ltb-true (t .need v) (degree t v - linksAt t s v) e in omega arith
+  more-under s v e = let a = ltb-true (countedNeed t v) (degree t v - linksAt t s v) e in omega arith
 
   under-more : (s : ℕ → Bool) (v : ℕ) → linksAt t s v < spare t v → hasMore t s v ≡ true
-  under-more s v f = lt-ltb (t .need v) (degree t v - linksAt t s v) (omega arith)
+  under-more s v f = lt-ltb (countedNeed t v) (degree t v - linksAt t s v) (omega arith)
 
   -- both ends of i have more links than they need, with s rested
   abbrev pub bothMore : (ℕ → Bool) → ℕ → Bool
@@ -113,5 +114,5 @@ pub plan-meets : (t : Table) → Legal t → Meets t (kept t)
 plan-meets t legal v l =
     let a = at-split t (rested t) v in
     let b = rested-fits t (legal-table 256 2048 t legal .order) v in
-    let c = legal-table 256 2048 t legal .enough v l in
+    let c = min-le-right (t .need v) (degree t v) in
     omega arith

@@ -9,8 +9,8 @@ use lib.Dec.{ltb}
 use borrow.Author.Tests.{ltb-false, lt-ltb, eqb-true, not-true}
 use Rattle.range.proofs.Bools.{and-left, and-right, and-intro, or-false-left, or-false-right, decided}
 use Rattle.range.proofs.Sums.{sum-same, sum-add, weigh-le, member}
-use Rattle.table.specs.Table.{Table, touches, degree, dearer, cheaper}
-use Rattle.plan_theory.specs.Plan.{linksAt, hasMore, isShort, added, hasMoreAdded, removed, slse, kept}
+use Rattle.table.specs.Table.{Table, touches, degree, countedNeed, dearer, cheaper}
+use Rattle.plan_theory.specs.Plan.{linksAt, hasMore, hasFewer, added, hasMoreAdded, removed, slse, kept}
 use Rattle.plan_theory.proofs.Places.{Order, reversed, Side, here, earlier, later, side, three}
 use Rattle.plan_theory.proofs.Pass.{Solves, criterion}
 use Rattle.plan_theory.proofs.Order.{dearer-order}
@@ -38,10 +38,10 @@ module _ (t : Table) (rises : RisingLinks t) where
   abbrev order : Order (t .links) (dearer t)
   order = dearer-order t rises
 
-  added-by : Solves (t .links) (cheaper t) (λ s g. isShort t s (t .low g) || isShort t s (t .high g)) (added t)
+  added-by : Solves (t .links) (cheaper t) (λ s g. hasFewer t s (t .low g) || hasFewer t s (t .high g)) (added t)
   unfolding added
   added-by =
-      criterion (t .links) (cheaper t) (reversed order) (λ s g. isShort t s (t .low g) || isShort t s (t .high g))
+      criterion (t .links) (cheaper t) (reversed order) (λ s g. hasFewer t s (t .low g) || hasFewer t s (t .high g))
       (λ r s h i. rw (at-same t r s h (t .low i), at-same t r s h (t .high i)))
 
   removed-by : Solves (t .links) (dearer t) (λ r g. added t g && (hasMoreAdded t r (t .low g) && hasMoreAdded t r (t .high g))) (removed t)
@@ -59,14 +59,14 @@ module _ (t : Table) (rises : RisingLinks t) where
   dropped : ℕ → Bool
   dropped g = not (slse t g)
 
-  -- a link that is not added has ends that are not short
-  unadded : (f v : ℕ) → f < t .links → added t f ≡ false → touches t v f ≡ true → t .need v ≤ linksAt t (λ g. dearer t f g && added t g) v
+  -- both ends of a link that is not added have as many added links as they need
+  unadded : (f v : ℕ) → f < t .links → added t f ≡ false → touches t v f ≡ true → countedNeed t v ≤ linksAt t (λ g. dearer t f g && added t g) v
   unadded f v l e at =
-      let low = isShort t (λ g. dearer t f g && added t g) (t .low f) in
-      let high = isShort t (λ g. dearer t f g && added t g) (t .high f) in
+      let low = hasFewer t (λ g. dearer t f g && added t g) (t .low f) in
+      let high = hasFewer t (λ g. dearer t f g && added t g) (t .high f) in
       let none = sym (added-by f l) ∙ e in
-      ltb-false (linksAt t (λ g. dearer t f g && added t g) v) (t .need v)
-      (at-end t (λ x. isShort t (λ g. dearer t f g && added t g) x ≡ false) v f at (or-false-left low high none) (or-false-right low high none))
+      ltb-false (linksAt t (λ g. dearer t f g && added t g) v) (countedNeed t v)
+      (at-end t (λ x. hasFewer t (λ g. dearer t f g && added t g) x ≡ false) v f at (or-false-left low high none) (or-false-right low high none))
 
   -- The counts at v, an end of e.
   module _ (e v : ℕ) (l : e < t .links) (at : touches t v e ≡ true) where
@@ -151,12 +151,12 @@ module _ (t : Table) (rises : RisingLinks t) where
             (λ g k. under (touches t v g) (dearer t f g) (dearer t e g) (added t g) (λ h. order .transitive e f g l (m .1) k below h)) in
             let whole = counted a in
             let room = around-added a in
-            lt-ltb (t .need v) (linksAt t (added t) v - dearRemoved) (omega arith)
-            ∙ sym (lt-ltb (t .need v) (degree t v - dearDropped) (omega arith))
+            lt-ltb (countedNeed t v) (linksAt t (added t) v - dearRemoved) (omega arith)
+            ∙ sym (lt-ltb (countedNeed t v) (degree t v - dearDropped) (omega arith))
         go (no none) =
             let whole = counted a in
             let same : linksAt t (added t) v - dearRemoved ≡ degree t v - dearDropped = omega arith in
-            ap (ltb (t .need v)) same
+            ap (ltb (countedNeed t v)) same
 
   dropped-by : Solves (t .links) (dearer t) (bothMore t) dropped
   unfolding dropped
@@ -166,7 +166,7 @@ module _ (t : Table) (rises : RisingLinks t) where
       free v a at =
           let many = unadded e v l a at in
           let room = around e v l at in
-          lt-ltb (t .need v) (degree t v - linksAt t (λ g. dearer t g e && dropped g) v) (omega arith)
+          lt-ltb (countedNeed t v) (degree t v - linksAt t (λ g. dearer t g e && dropped g) v) (omega arith)
 
       go : (added t e ≡ true) ⊎ (added t e ≡ false) → dropped e ≡ bothMore t (λ g. dearer t g e && dropped g) e
       go (inl a) =

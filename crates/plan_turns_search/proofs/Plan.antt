@@ -21,6 +21,7 @@ use Rattle.range.specs.First.{first}
 use Rattle.plan_theory.specs.Plan.{linksAt, rested, kept}
 use Rattle.plan_theory.proofs.Order.{dear, on-dear, Dear}
 use Rattle.table.proofs.LegalLaws.{legal-table}
+use Rattle.table.proofs.Needs.{spare-given}
 use Rattle.plan_theory.specs.Criterion.{dearerAt, Across, up, down, Settled}
 use Rattle.plan_theory.proofs.Settled.{settled-is-plan}
 use Rattle.plan_turns_search.specs.Record.{atSource, atTarget, endOf, keyOf, siteOf, SiteOfTable, keptByte, SiteInSlices, Over}
@@ -246,7 +247,7 @@ module _ (probes links : ℕ) (needs lows highs costs : List ℕ) (legal : Legal
 pub spares-right : (probes links : ℕ) (needs lows highs counts spares : List ℕ) → ((i : ℕ) → i < links → Ends probes (item lows i) (item highs i))
     → ((v : ℕ) → item counts v ≡ degree (ofSlices 0 probes links [] lows highs []) v) → probes ≤ length counts
     → spares ≡ stored (λ v. item counts v - item needs v) probes counts → (v : ℕ) → item spares v ≡ spare (ofSlices 0 probes links needs lows highs []) v
-spares-right probes links needs lows highs counts spares ends right room e v = rw e (go (decLt v probes))
+spares-right probes links needs lows highs counts spares ends right room e v = rw e (go (decLt v probes)) ∙ sym (spare-given (ofSlices 0 probes links needs lows highs []) v)
   where
     none : probes ≤ v → item counts v ≡ 0
     none m = right v ∙ none-count links (touches (ofSlices 0 probes links [] lows highs []) v) (λ i l h. end i l (or-cases (eqb v (item lows i)) (eqb v (item highs i)) h))
@@ -255,7 +256,7 @@ spares-right probes links needs lows highs counts spares ends right room e v = r
         end i l (inl h) = let a = eqb-true v (item lows i) h in let b = ends i l .rises in let k = ends i l .below in omega arith
         end i l (inr h) = let a = eqb-true v (item highs i) h in let k = ends i l .below in omega arith
 
-    go : Dec (v < probes) → item (stored (λ k. item counts k - item needs k) probes counts) v ≡ spare (ofSlices 0 probes links needs lows highs []) v
+    go : Dec (v < probes) → item (stored (λ k. item counts k - item needs k) probes counts) v ≡ degree (ofSlices 0 probes links needs lows highs []) v - item needs v
     go (yes l) = stored-at (λ k. item counts k - item needs k) probes counts v room l ∙ ap (λ (x : ℕ). x - item needs v) (right v)
     go (no n) =
         let a = stored-beyond (λ k. item counts k - item needs k) probes counts v (omega arith) in

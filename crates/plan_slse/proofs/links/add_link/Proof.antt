@@ -8,7 +8,7 @@ use native.Mathlib.Omega.{arith}
 use lib.ListN.{length, getD, length-set}
 use lib.Seq.{getD-set-other}
 use Rattle.range.specs.Lists.{changedAt}
-use Rattle.plan_slse.proofs.EndsBelow.{none-short, some-short}
+use Rattle.plan_slse.proofs.EndsBelow.{none-below, some-below}
 
 ends-below-requires : tie.Need-ends-below-requires
 ends-below-requires c κs = search needs
@@ -19,7 +19,7 @@ same-length c = search needs
 returns : tie.Need-returns
 returns c =
     let a = c .before .before .before .before .before .before .args in
-    let e = none-short (a .counts .now) (a .needs .now) (a .low) (a .high) _ (c .before .ends-below .ensures) (c .if1 .taken) in
+    let e = none-below (a .counts .now) (a .needs .now) (a .low) (a .high) _ (c .before .ends-below .ensures) (c .if1 .taken) in
     (rw e, rw e)
 
 slice-write-plan : tie.Need-slice-write-plan
@@ -48,7 +48,7 @@ returns-2 c =
     let at-add-one = c .before .before .before .before .before .before in
     let a = c .before .before .before .before .before .before .before .before .before .before .before .before .before .before .args in
     let at-test = c .before .before .before .before .before .before .before .before in
-    let e = some-short (a .counts .now) (a .needs .now) (a .low) (a .high) _ (at-test .before .ends-below .ensures) (at-test .if1 .left) in
+    let e = some-below (a .counts .now) (a .needs .now) (a .low) (a .high) _ (at-test .before .ends-below .ensures) (at-test .if1 .left) in
     let q = c .before .before .add-one2 .ensures ∙ ap (λ x. changedAt (λ n. n + 1) x (a .high)) (at-add-one .add-one .ensures) in
     (rw e, rw e q)
 

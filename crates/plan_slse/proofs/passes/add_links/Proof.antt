@@ -12,7 +12,7 @@ use Rattle.table.specs.Table.{item, ofSlices, dearer}
 use Rattle.table.specs.Legal.{Ends}
 use Rattle.plan_theory.specs.Pass.{place}
 use Rattle.plan_slse.specs.FromDearest.{InOrder}
-use Rattle.plan_slse.specs.Steps.{eitherShort}
+use Rattle.plan_slse.specs.Steps.{eitherBelow}
 use Rattle.plan_slse.proofs.Turns.{Up, up-start, up-step, up-end, up-place, one-more-most, whole}
 
 abbrev Inv-loop : tie.InvT-loop
@@ -144,7 +144,7 @@ loop-again c =
           rw (← n) (up-step probes (a .links) (a .needs .now) (a .lows .now) (a .highs .now) costs (w .order) (a .links - l .loop .k) link (a .plan .now) (l .loop .plan) (l .loop .counts) i (w .ends link i) long (at-start .pre .1) _ _ (l .loop .inv .1 probes costs is) at plan-after counts-after),
       at-call .add-link .kept .0 ∙ l .loop .inv .2,
       at-call .add-link .kept .1 .0 ∙ l .loop .inv .3,
-      λ v. rw (← n) (one-more-most (eitherShort (l .loop .counts) (a .needs .now) (item (a .lows .now) link) (item (a .highs .now) link)) (l .loop .counts) _ (item (a .lows .now) link) (item (a .highs .now) link) v (a .links - l .loop .k) ends counts-after (l .loop .inv .4 v)),
+      λ v. rw (← n) (one-more-most (eitherBelow (l .loop .counts) (a .needs .now) (item (a .lows .now) link) (item (a .highs .now) link)) (l .loop .counts) _ (item (a .lows .now) link) (item (a .highs .now) link) v (a .links - l .loop .k) ends counts-after (l .loop .inv .4 v)),
     )
 
 same-length : tie.Need-same-length Inv-loop μ-loop
