@@ -194,6 +194,7 @@ module _ (x : Slices) (fine : slicesFault x ≡ 0) (digits : x .number < 65536) 
         rests-plan = λ e. rw (same .bytes) (claimed .rests-plan (rw (same .bytes) at e));
         ends-agree = λ e. rw (same .bytes) (claimed .ends-agree (rw (same .bytes) at e));
         same-plan = plans-same cs k;
+        short-keeps = rw (same .bytes) (claimed .short-keeps);
         needs-met = λ e. rw (same .bytes) (claimed .needs-met (rw (same .bytes) at e));
         cost-twice = λ e. rw (same .bytes) (claimed .cost-twice (rw (same .bytes) at e));
       }

@@ -2,10 +2,10 @@
 use Prim.Native.Nat.{ℕ, _+_, _*_, _/_, _≤_, _<_}
 use mathlib.Core.Path.{_≡_}
 use mathlib.Core.Logic.{_↔_, _⊎_}
-use mathlib.Core.Bool.{Bool, true, not}
+use mathlib.Core.Bool.{Bool, true, false, not}
 use mathlib.Core.List.{List, [], _∷_, _++_}
 use lib.ListN.{length, take}
-use Rattle.table.specs.Table.{Table, item, touches, countedNeed}
+use Rattle.table.specs.Table.{Table, item, touches, countedNeed, isShort}
 use Rattle.table.specs.Slices.{Slices, tableOf}
 use Rattle.plan_theory.specs.Plan.{rested, kept, linksAt, costOf, Meets}
 use Rattle.probe_frame.specs.Frame.{frameOf}
@@ -102,6 +102,8 @@ module _ (x : Slices) (log : List Entry) (cs : List LoggedCall) where
     pub same-plan : finished t bytes ≡ true → (y : Slices) → SameTable y x → (log′ : List Entry) (cs′ : List LoggedCall) → LoggedCalls y (freshLogged y log′) cs′
         → (let bytes′ = leftAfterLogged (freshLogged y log′) cs′ .bytes in
         finished (tableOf y) bytes′ ≡ true → (i p : ℕ) → i < x .links → touches t p i ≡ true → endRests t bytes p i ≡ endRests (tableOf y) bytes′ p i)
+    -- 02, No. 1: a short probe "keeps all its links": it rests none of them, finished or not
+    pub short-keeps : (v i : ℕ) → isShort t v ≡ true → i < x .links → touches t v i ≡ true → endRests t bytes v i ≡ false
     -- "Every need is then met, and the plan costs at most twice as much as any choice of links that meets the needs": the counted needs (02, No. 1)
     pub needs-met : finished t bytes ≡ true → (v : ℕ) → v < x .probes → countedNeed t v ≤ linksAt t (λ i. not (endRests t bytes v i)) v
     pub cost-twice : finished t bytes ≡ true → (choice : ℕ → Bool) → Meets t choice

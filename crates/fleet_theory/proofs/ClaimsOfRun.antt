@@ -12,7 +12,7 @@ use Rattle.fleet_theory.proofs.Events.{truly-sent-passes}
 use Rattle.fleet_theory.proofs.Run.{HoldsAfter, start-holds, fleet-passes, run-holds}
 use Rattle.fleet_theory.proofs.Changes.{changes-four}
 use Rattle.fleet_theory.proofs.Sent.{refused-is-kept, two-is-refused, by-27, unsent-turned-down, logged-usable}
-use Rattle.fleet_theory.proofs.Finish.{run-sent, finished-unaltered, unaltered-finished, ends-plan, needs-kept, cost-kept, leads}
+use Rattle.fleet_theory.proofs.Finish.{run-sent, finished-unaltered, unaltered-finished, short-rests-none, ends-plan, needs-kept, cost-kept, leads}
 
 pub claims-of-run : (x : Slices) → slicesFault x ≡ 0 → x .number < 65536 → (room : ℕ) (ls : List (List ℕ)) → ClaimsOfRun x room ls
 claims-of-run x fine digits room ls =
@@ -32,6 +32,7 @@ claims-of-run x fine digits room ls =
       ends-agree = λ e i l. ends-plan x fine after holds e i (t .low i) l (touches-low t i) ∙ sym (ends-plan x fine after holds e i (t .high i) l (touches-high t i));
       same-plan = λ e room′ ls′ e′ i p l at.
           ends-plan x fine after holds e i p l at ∙ sym (ends-plan x fine (run x room′ (start x) ls′) (run-holds x fine room′ (start x) (start-holds x fine) ls′) e′ i p l at);
+      short-keeps = short-rests-none x fine after holds;
       needs-met = needs-kept x fine after holds;
       cost-twice = cost-kept x fine after holds;
     }

@@ -2,19 +2,19 @@
 use Prim.Native.Nat.{ℕ, zero, suc, _+_, _*_, _≤_, _<_}
 use mathlib.Core.Path.{_≡_, refl, sym, _∙_, ap}
 use mathlib.Core.Logic.{_⊎_, inl, inr}
-use mathlib.Core.Bool.{Bool, true, false, _&&_, not}
+use mathlib.Core.Bool.{Bool, true, false, _&&_, not, true≢false}
 use mathlib.Core.List.{List, [], _∷_, _++_}
 use native.Mathlib.Omega.{arith}
 use lib.Dec.{eqb}
 use lib.ListN.{length, length-append}
-use borrow.Author.Tests.{eqb-true, eq-eqb}
+use borrow.Author.Tests.{eqb-true, eq-eqb, not-true}
 use Rattle.range.proofs.Bools.{and-left, and-right, and-intro, decided, same-bool}
 use Rattle.range.proofs.Sums.{weigh-same}
-use Rattle.table.specs.Table.{Table, touches}
+use Rattle.table.specs.Table.{Table, touches, countedNeed, isShort}
 use Rattle.table.specs.Legal.{Legal}
 use Rattle.plan_theory.specs.Plan.{rested, kept, linksAt, costOf, Meets}
 use Rattle.plan_theory.proofs.Plan.{touches-low, plan-meets}
-use Rattle.plan_theory.proofs.Bound.{bound}
+use Rattle.plan_theory.proofs.Bound.{bound, short-keeps}
 use Rattle.probe_frame.specs.Frame.{Frame, frameOf}
 use Rattle.probe_rules.specs.Rules.{entryOf}
 use Rattle.fleet_theory.proofs.EndState.{SameBytes, Sent, Denied, Quiet, Live, total}
@@ -78,27 +78,35 @@ module _ (x : Slices) (fine : slicesFault x ≡ 0) where
             let e = sym (ap (λ s′. s′ .bytes) (next-accepted x fine s h room l (usable-passed room l (a .line) (a .usable) free))) ∙ unaltered l (a .line) (a .usable) room free in
             absurd (a .alters (λ p i. ap (λ y. outOf t y p i) e) (λ p i. ap (λ y. inOf t y p i) e))
 
+    abbrev o : ℕ → ℕ → ℕ
+    o = outOf t r
+
+    abbrev n : ℕ → ℕ → ℕ
+    n = inOf t r
+
+    -- finished or not, an end rests only what the plan rests
+    rests : (i p : ℕ) → i < x .links → touches t p i ≡ true → endRests t r p i ≡ true → rested t i ≡ true
+    rests i p l at a =
+        rested-in t legal (Sent o) (Denied t n) o n (h .good) p i l at (eqb-true (o p i) 1 (and-left (eqb (o p i) 1) (eqb (n p i) 1) a))
+        (eqb-true (n p i) 1 (and-right (eqb (o p i) 1) (eqb (n p i) 1) a))
+
+    pub short-rests-none : (p i : ℕ) → isShort t p ≡ true → i < x .links → touches t p i ≡ true → endRests t r p i ≡ false
+    short-rests-none p i short l at = go (decided (endRests t r p i))
+      where
+        go : (endRests t r p i ≡ true) ⊎ (endRests t r p i ≡ false) → endRests t r p i ≡ false
+        go (inl a) = absurd (true≢false (sym (rests i p l at a) ∙ not-true (rested t i) (short-keeps t legal .keeps-all p i short l at)))
+        go (inr a) = a
+
     module _ (e : finished t r ≡ true) where
       pub ends-plan : (i p : ℕ) → i < x .links → touches t p i ≡ true → endRests t r p i ≡ rested t i
-      ends-plan i p l at = same-bool (endRests t r p i) (rested t i) rests planned
+      ends-plan i p l at = same-bool (endRests t r p i) (rested t i) (rests i p l at) planned
         where
-          o : ℕ → ℕ → ℕ
-          o = outOf t r
-
-          n : ℕ → ℕ → ℕ
-          n = inOf t r
-
-          rests : endRests t r p i ≡ true → rested t i ≡ true
-          rests a =
-              rested-in t legal (Sent o) (Denied t n) o n (h .good) p i l at (eqb-true (o p i) 1 (and-left (eqb (o p i) 1) (eqb (n p i) 1) a))
-              (eqb-true (n p i) 1 (and-right (eqb (o p i) 1) (eqb (n p i) 1) a))
-
           planned : rested t i ≡ true → endRests t r p i ≡ true
           planned a =
               let b = finished-plan t legal (Sent o) (Denied t n) o n (h .good) (finished-quiet t legal r e) p i l at a in
               and-intro (eq-eqb (o p i) 1 (b .0)) (eq-eqb (n p i) 1 (b .1))
 
-      pub needs-kept : (v : ℕ) → v < x .probes → t .need v ≤ linksAt t (λ i. not (endRests t r v i)) v
+      pub needs-kept : (v : ℕ) → v < x .probes → countedNeed t v ≤ linksAt t (λ i. not (endRests t r v i)) v
       needs-kept v l =
           let a = plan-meets t legal v l in
           let b = weigh-same (x .links) (λ i. touches t v i && not (endRests t r v i)) (λ i. touches t v i && kept t i) (λ i. 1) (λ i k. go i k (decided (touches t v i))) in

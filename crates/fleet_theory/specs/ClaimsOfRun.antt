@@ -2,10 +2,10 @@
 use Prim.Native.Nat.{ℕ, _+_, _*_, _/_, _≤_, _<_}
 use mathlib.Core.Path.{_≡_}
 use mathlib.Core.Logic.{_↔_, _⊎_}
-use mathlib.Core.Bool.{Bool, true, not}
+use mathlib.Core.Bool.{Bool, true, false, not}
 use mathlib.Core.List.{List, [], _∷_, _++_}
 use lib.ListN.{length}
-use Rattle.table.specs.Table.{Table, item, touches, countedNeed}
+use Rattle.table.specs.Table.{Table, item, touches, countedNeed, isShort}
 use Rattle.table.specs.Slices.{Slices, tableOf}
 use Rattle.plan_theory.specs.Plan.{rested, kept, linksAt, costOf, Meets}
 use Rattle.probe_frame.specs.Frame.{frameOf}
@@ -69,6 +69,8 @@ module _ (x : Slices) (room : ℕ) (ls : List (List ℕ)) where
     -- "no two such lists with the same table finish with different plans"
     pub same-plan : finished t (after .bytes) ≡ true → (room′ : ℕ) (ls′ : List (List ℕ)) → finished t (run x room′ (start x) ls′ .bytes) ≡ true
         → (i p : ℕ) → i < x .links → touches t p i ≡ true → endRests t (after .bytes) p i ≡ endRests t (run x room′ (start x) ls′ .bytes) p i
+    -- 02, No. 1: a short probe "keeps all its links": it rests none of them, finished or not
+    pub short-keeps : (v i : ℕ) → isShort t v ≡ true → i < x .links → touches t v i ≡ true → endRests t (after .bytes) v i ≡ false
     -- "Every need is then met, and the plan costs at most twice as much as any choice of links that meets the needs": the counted needs (02, No. 1)
     pub needs-met : finished t (after .bytes) ≡ true → (v : ℕ) → v < x .probes → countedNeed t v ≤ linksAt t (λ i. not (endRests t (after .bytes) v i)) v
     pub cost-twice : finished t (after .bytes) ≡ true → (choice : ℕ → Bool) → Meets t choice
