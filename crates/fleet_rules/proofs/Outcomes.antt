@@ -5,6 +5,7 @@ use mathlib.Core.Bool.{true, false}
 use mathlib.Core.List.{List}
 use borrow.Author.Tests.{lt-ltb, le-ltb}
 use Rattle.table.specs.Table.{Table, degree, spare, dearer, cheaper}
+use Rattle.table.proofs.Needs.{spare-given}
 use Rattle.probe_record.specs.Record.{outbound, inbound, standing, held, dearestUntried, cheapestHeld}
 use Rattle.probe_rules.specs.declared.Outcome.the-variants.{Opened, NothingToOpen, Taken, TakenDisplacing, Refused}
 use Rattle.probe_rules.specs.Rules.{opening, offer}
@@ -13,7 +14,7 @@ use Rattle.fleet_rules.specs.declared.Survey.{Survey}
 
 -- the spare, by the probe's number of links
 pub spare-counted : (t : Table) (p d n : ℕ) → d ≡ degree t p → n ≡ d - t .need p → spare t p ≡ n
-spare-counted t p d n e k = ap (λ (x : ℕ). x - t .need p) (sym e) ∙ sym k
+spare-counted t p d n e k = spare-given t p ∙ ap (λ (x : ℕ). x - t .need p) (sym e) ∙ sym k
 
 module _ (t : Table) (p : ℕ) (e : List ℕ) (s : Survey) (n : ℕ) (spare-is : spare t p ≡ n) where
   module _ (g : Surveyed t p (outbound e) (dearer t) 0 (t .links) s) where

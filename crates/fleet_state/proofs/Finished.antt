@@ -16,6 +16,7 @@ use Rattle.range.proofs.Sums.{weigh-same, count-none}
 use Rattle.table.specs.Table.{Table, item, degree, dearer}
 use Rattle.table.specs.Legal.{Legal}
 use Rattle.table.proofs.LegalLaws.{legal-table}
+use Rattle.table.proofs.Needs.{spare-given}
 use Rattle.probe_record.specs.Record.{outbound, ownWith}
 use Rattle.fleet_theory.specs.Fleet.{own, wouldOpen, alters, finished, mayAlter}
 use Rattle.fleet_theory.proofs.Bytes.{first-byte, second-byte, third-byte, fourth-byte}
@@ -68,7 +69,7 @@ module _ (t : Table) (r : List ℕ) where
   pub open-counted : (v d s u : ℕ) → d ≡ degree t v → s ≡ countedAt (t .low) (t .high) r 0 2 1 (t .links) v → u ≡ countedAt (t .low) (t .high) r 0 2 0 (t .links) v
       → mayOpen s (d - t .need v) u ≡ wouldOpen t r v
   open-counted v d s u ed es eu =
-      rw (ed, es ∙ outs-counted t r v 1, eu ∙ outs-counted t r v 0, best-some (dearer t) (ownWith t v (outbound (own t v r)) 0) (t .links) (t .links) (omega arith))
+      rw (ed, spare-given t v, es ∙ outs-counted t r v 1, eu ∙ outs-counted t r v 0, best-some (dearer t) (ownWith t v (outbound (own t v r)) 0) (t .links) (t .links) (omega arith))
 
   alters-at : Legal t → (i : ℕ) → i < t .links → altersOf r i ≡ (alters t r (t .low i) (t .high i) i || alters t r (t .high i) (t .low i) i)
   alters-at legal i l =
