@@ -22,6 +22,7 @@ use Rattle.table_laws.proofs.Functions.{read-then-write, write-then-read}
 use Rattle.plan_theory.specs.Plan.{kept, keptCount, costOf, planByte}
 use Rattle.plan_theory.proofs.Plan.{plan-rule, only-by-rule, plan-criterion, plan-unique}
 use Rattle.plan_theory.proofs.Settled.{settled-is-plan}
+use Rattle.plan_theory.proofs.Bound.{short-keeps}
 use Rattle.plan_theory.proofs.Slse.{slse-is-plan}
 use Rattle.plan_methods.specs.Planning.{planFault, turnsFault, Plans}
 use Rattle.plan_methods.specs.declared.Planning.{Planning}
@@ -72,12 +73,14 @@ module _ (x : Slices) (fine : slicesFault x ≡ 0) where
 pub demand-2 : (x : Slices) → slicesFault x ≡ 0 → FourDigits (tableOf x) → Demand2 x
 demand-2 x fine fits =
     let t = tableOf x in
-    let order = legal-table 256 2048 t (legal-slices 256 2048 x fine .legal) .order in
+    let legal = legal-slices 256 2048 x fine .legal in
+    let order = legal-table 256 2048 t legal .order in
     record {
       by-rule = plan-rule t order;
       only-by-rule = only-by-rule t order;
       by-spares = plan-criterion t order;
       only-by-spares = plan-unique t order;
+      short-keeps = short-keeps t legal;
       by-offers = settled-is-plan t order;
       by-slse = slse-is-plan t order;
       turns-call = λ r before after work work′ p room bytes.

@@ -17,6 +17,7 @@ use Rattle.table_write.specs.declared.Writing.the-variants.{Length}
 use Rattle.table_laws.specs.Functions.{lentSlices, HoldsTable, ReadTable, WriteTable, ReadThenWrite}
 use Rattle.plan_theory.specs.Plan.{rested, kept, keptCount, costOf, planByte, slse}
 use Rattle.plan_theory.specs.Criterion.{PlanRule, Criterion, Settled}
+use Rattle.plan_theory.specs.Bounds.{ShortKeeps}
 use Rattle.plan_methods.specs.Planning.{PlansBySlse, PlansByTurns}
 use Rattle.plan_methods.specs.declared.Planning.{Planning}
 use Rattle.plan_methods.specs.declared.Planning.the-variants.{Plan, Refused}
@@ -41,6 +42,8 @@ module _ (x : Slices) where
     -- the same counted against the spares, and by no other set
     pub by-spares : Criterion t (rested t)
     pub only-by-spares : (r : ℕ → Bool) → Criterion t r → (i : ℕ) → i < x .links → r i ≡ rested t i
+    -- 02, No. 1: a short probe "has spare 0, keeps all its links": with what both calls leave, below
+    pub short-keeps : ShortKeeps t
     -- "Offers by turn, and the published S-LSE method, both give this plan for every legal table."
     pub by-offers : (stand held : ℕ → ℕ → Bool) → Settled t stand held
         → (i : ℕ) → i < x .links → (stand (t .low i) i ≡ rested t i) × (stand (t .high i) i ≡ rested t i)
