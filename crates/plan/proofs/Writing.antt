@@ -27,7 +27,7 @@ pub plan-writes : (input : List ℕ) → PlanWrites input
 plan-writes input = record { writes = λ written w. wrote-is (outputOf (take 27923 input)) written w ∙ same-output input }
 
 -- the program's slice holds every output, so the text is printed and no refusal occurs
-module _ (s : List ℕ) (r : Output) (out out′ : List ℕ) (long : 26646 ≤ length out) (p : Prints (shortFault (length out) (outputOf s)) (outputOf s) r out out′) where
+module _ (s : List ℕ) (r : Output) (out out′ : List ℕ) (long : 28950 ≤ length out) (p : Prints (shortFault (length out) (outputOf s)) (outputOf s) r out out′) where
   pub print-done : (n : ℕ) → r ≡ Length n → Prints 0 (outputOf s) (Length n) out out′
   print-done n e =
       let k = most s in

@@ -36,7 +36,7 @@ fn skip_rest() -> bool {
 
 // Prints what a text prints, in a slice that holds any output (law `always-printed`).
 fn print(text: &[u8], out: &mut [u8]) -> usize
-    requires { ⌜ 26646 ≤ length (now out) ⌝ }
+    requires { ⌜ 28950 ≤ length (now out) ⌝ }
     ensures { λ r. ⌜ Prints 0 (outputOf (now (text .entry))) (Length r) (now (out .entry)) (now (out .exit)) ⌝ }
 {
     let printed = plan_output::plan_text(text, out);
@@ -49,7 +49,7 @@ fn print(text: &[u8], out: &mut [u8]) -> usize
 // Only the first 27,923 bytes of the input matter (law `long-output`). Nothing is printed before the input has ended.
 fn main() {
     let mut text = [0u8; 27923];
-    let mut out = [0u8; 26646];
+    let mut out = [0u8; 28950];
     let filled = standard_io::fill(&mut text, 0);
     match filled {
         Filling::Until(n) => {

@@ -1,4 +1,4 @@
--- M2's input gives M2's output: document 01, "Programs".
+-- Inputs and their outputs: that of M2, document 01, "Programs"; short probes, 02, No. 1; a refusal.
 use mathlib.Core.Path.{_≡_, refl}
 use Rattle.range.specs.First.{first}
 use Rattle.range.specs.Sum.{sum}
@@ -8,7 +8,7 @@ use Rattle.lines.specs.Line.{untilFeed, lineAt}
 use Rattle.lines.specs.Digits.{lineFault}
 use Rattle.table.specs.Table.{dearer}
 use Rattle.table.specs.Legal.{linkFault}
-use Rattle.table.specs.Text.{begins, textFault}
+use Rattle.table.specs.Text.{begins, ofText, textFault}
 use Rattle.table_laws.specs.Samples.{bytes, m2Text}
 use Rattle.plan_theory.specs.Pass.{passAfter}
 use Rattle.plan_theory.specs.Plan.{rested}
@@ -18,7 +18,19 @@ pub m2-output : outputOf m2Text ≡ bytes "000100020000000a\n000000010005\n00020
 unfolding planText textFault lineFault lineAt untilFeed first numberAt valueOf linkFault begins sum joined digits digitOf dearer passAfter rested
 m2-output = refl
 
+-- 02, No. 1: "a need of three meets two links": the probe is listed with the 1 that is missing, and keeps both its links
+pub short-output : planText (ofText (bytes "000100030003\n0003\n0000\n0000\n000000010001\n000000020002\n000100020003\nffff\n"))
+    ≡ bytes "0001000200000003\n000000010001\n000000020002\n00000001\nffff\n"
+unfolding planText numberAt valueOf sum joined digits digitOf dearer passAfter rested
+short-output = refl
+
+-- a probe whose need is the number of its links is not listed
+pub met-output : outputOf (bytes "000100030003\n0002\n0000\n0000\n000000010001\n000000020002\n000100020003\nffff\n")
+    ≡ bytes "0001000200000003\n000000010001\n000000020002\nffff\n"
+unfolding planText textFault lineFault lineAt untilFeed first numberAt valueOf linkFault begins sum joined digits digitOf dearer passAfter rested
+met-output = refl
+
 -- a refused text prints only its refusal
-pub refusal-output : outputOf (bytes "000100020001\n0002\n0000\n000000010007\nffff\n") ≡ bytes "e007\n"
+pub refusal-output : outputOf (bytes "000100020001\n0001\n0000\n000000000007\nffff\n") ≡ bytes "e004\n"
 unfolding textFault lineFault lineAt untilFeed first numberAt valueOf linkFault begins sum
 refusal-output = refl

@@ -5,7 +5,7 @@ use mathlib.Core.List.{List, [], _∷_, _++_}
 use lib.Dec.{eqb}
 use Rattle.range.specs.Lists.{joined}
 use Rattle.hex.specs.Digits.{digits}
-use Rattle.table.specs.Table.{Table}
+use Rattle.table.specs.Table.{Table, isShort, missing}
 use Rattle.table.specs.Text.{closingLine, tripleLine, ofText, textFault}
 use Rattle.plan_theory.specs.Plan.{kept, keptCount, costOf}
 use Rattle.output.specs.Output.{refusalLine}
@@ -26,9 +26,21 @@ keptLine kept low high cost = cond kept (tripleLine low high cost) []
 abbrev pub keptLines : Table → List ℕ
 keptLines t = joined (λ i. keptLine (kept t i) (t .low i) (t .high i) (t .cost i)) (t .links)
 
--- "It prints table number, kept count (four digits each) and cost (eight), then kept link lines, then `ffff`."
+-- where the line of the short probe number k starts, behind those of the kept links and of the short probes before it
+abbrev pub shortStart : ℕ → ℕ → ℕ
+shortStart kept k = keptStart kept + 9 * k
+
+-- 02, No. 1: "probe and missing count, four digits each": the line of a probe that is short, none of one that is not
+abbrev pub shortLine : Bool → ℕ → ℕ → List ℕ
+shortLine short probe missing = cond short (digits 4 probe ++ (digits 4 missing ++ (10 ∷ []))) []
+
+-- 02, No. 1: "The plan program lists each short probe before the closing line, in number order"
+abbrev pub shortLines : Table → List ℕ
+shortLines t = joined (λ v. shortLine (isShort t v) v (missing t v)) (t .probes)
+
+-- "It prints table number, kept count (four digits each) and cost (eight), then kept link lines, then `ffff`", with the short probes' lines before the closing one
 unfoldable pub planText : Table → List ℕ
-planText t = headLine (t .number) (keptCount t) (costOf t (kept t)) ++ (keptLines t ++ closingLine)
+planText t = headLine (t .number) (keptCount t) (costOf t (kept t)) ++ (keptLines t ++ (shortLines t ++ closingLine))
 
 -- "The plan program reads a table"; "a refused table prints only that"
 abbrev pub outputOf : List ℕ → List ℕ

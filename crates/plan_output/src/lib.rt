@@ -5,6 +5,7 @@ ghost use Rattle.output.specs.Output.{shortFault, Prints};
 ghost use Rattle.plan_output.specs.Output.{outputOf};
 
 pub mod plan_lines;
+pub mod short_lines;
 pub mod starts;
 pub mod text;
 
@@ -21,10 +22,19 @@ pub fn plan_text(text: &[u8], out: &mut [u8]) -> Output
     match read {
         table_read::Reading::Table {
             number,
-            probes: _,
+            probes,
             links,
             rest: _,
-        } => text::print_plan(out, number, links as usize, &needs, &lows, &highs, &costs),
+        } => text::print_plan(
+            out,
+            number,
+            probes as usize,
+            links as usize,
+            &needs,
+            &lows,
+            &highs,
+            &costs,
+        ),
         table_read::Reading::Refused(fault) => output::refusals::print_refusal(out, fault),
     }
 }

@@ -2,10 +2,8 @@
 use borrow.Author.Needs.{needs}
 use Rattle.plan_output.proofs.plan_text.Statement.{statement}
 use Rattle.plan_output.proofs.plan_text.Tie as tie
-use mathlib.Core.Bool.{false}
 use Rattle.table_read.specs.Reading.{Lent}
-use Rattle.table_laws.proofs.Reading.{blank, read-legal, read-held}
-use Rattle.plan_output.proofs.Reading.{refusal-printed, plan-printed}
+use Rattle.plan_output.proofs.Reading.{refusal-printed, read-fine, plan-printed}
 
 slice-aggregate-read-table : tie.Need-slice-aggregate-read-table
 slice-aggregate-read-table c = search needs
@@ -28,6 +26,9 @@ enum-known-read c = search needs
 cast-print-plan : tie.Need-cast-print-plan
 cast-print-plan c = search needs
 
+cast-print-plan-2 : tie.Need-cast-print-plan-2
+cast-print-plan-2 c = search needs
+
 slice-aggregate-print-plan : tie.Need-slice-aggregate-print-plan
 slice-aggregate-print-plan c = search needs
 
@@ -48,7 +49,7 @@ print-plan-requires c κs =
     let k = at-read-table .read-table in
     let b : Lent = record { needs = k .last .1 .0; lows = k .last .1 .1 .0; highs = k .last .1 .1 .1 .0; costs = k .last .1 .1 .1 .1 .0 } in
     let e = at-read .read .given .1 in
-    (at-read .read .given .0 .1 .0, read-legal false (a .text .now) _ blank b (k .ensures) _ _ _ _ e, read-held false (a .text .now) _ blank b (k .ensures) _ _ _ _ e)
+    read-fine (a .text .now) _ b (k .ensures) _ _ _ _ e
 
 enum-known-read-2 : tie.Need-enum-known-read-2
 enum-known-read-2 c = search needs
@@ -67,7 +68,7 @@ returns c =
     let k = at-read-table .read-table in
     let b : Lent = record { needs = k .last .1 .0; lows = k .last .1 .1 .0; highs = k .last .1 .1 .1 .0; costs = k .last .1 .1 .1 .1 .0 } in
     let e = at-read .read .given .1 in
-    plan-printed (a .text .now) _ b (k .ensures) _ _ _ _ e _ (a .out .now) _ (c .before .before .print-plan .ensures (at-read .read .given .0 .1 .0) (read-legal false (a .text .now) _ blank b (k .ensures) _ _ _ _ e))
+    plan-printed (a .text .now) _ b (k .ensures) _ _ _ _ e _ (a .out .now) _ (c .before .before .print-plan .ensures)
 
 same-length-2 : tie.Need-same-length-2
 same-length-2 c = search needs
@@ -92,6 +93,7 @@ plan-text-spec =
     read-table-requires
     enum-known-read
     cast-print-plan
+    cast-print-plan-2
     slice-aggregate-print-plan
     slice-aggregate-print-plan-2
     slice-aggregate-print-plan-3

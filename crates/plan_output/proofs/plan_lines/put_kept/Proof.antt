@@ -76,7 +76,7 @@ loop-again c =
     let e = c .before .before .put-link .ensures in
     let n = weigh-next (l .i) (isKept (a .plan .now)) (λ (j : ℕ). 1) in
     let k = length-kept-line (isKept (a .plan .now) (l .i)) (item (a .lows .now) (l .i)) (item (a .highs .now) (l .i)) (item (a .costs .now) (l .i)) in
-    (search needs, omega (arith, e .1, l .inv .1), lines-then (isKept (a .plan .now)) (item (a .lows .now)) (item (a .highs .now)) (item (a .costs .now)) (l .i) (l .at) (a .out .now) (l .out) _ (l .inv .2) (l .inv .1) (e .0), c .before .before .put-link .kept .0 ∙ l .inv .3)
+    (search needs, omega (arith, e .1, l .inv .1), lines-then (isKept (a .plan .now)) (keptLineAt (isKept (a .plan .now)) (item (a .lows .now)) (item (a .highs .now)) (item (a .costs .now))) 13 (λ j. length-kept-line (isKept (a .plan .now) j) (item (a .lows .now) j) (item (a .highs .now) j) (item (a .costs .now) j)) (l .i) (keptStart 0) (l .at) (a .out .now) (l .out) _ (l .inv .2) (omega (arith, l .inv .1)) (e .0), c .before .before .put-link .kept .0 ∙ l .inv .3)
 
 same-length : tie.Need-same-length Inv-loop μ-loop
 same-length c = c .before .loop .inv .3
