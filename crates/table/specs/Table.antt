@@ -63,13 +63,6 @@ isShort t v = ltb (degree t v) (t .need v)
 abbrev pub missing : Table → ℕ → ℕ
 missing t v = t .need v - degree t v
 
--- 02, No. 1: "a need of three meets two links .. Such a probe .. is called short", and its "missing count"
-abbrev pub isShort : Table → ℕ → Bool
-isShort t v = ltb (degree t v) (t .need v)
-
-abbrev pub missing : Table → ℕ → ℕ
-missing t v = t .need v - degree t v
-
 -- "A link is dearer than another if its cost is larger; at equal cost, if its low end is larger; then if its high end is larger."
 unfoldable pub dearer : Table → ℕ → ℕ → Bool
 dearer t i j =
