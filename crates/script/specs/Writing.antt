@@ -13,7 +13,7 @@ use Rattle.output.specs.declared.Output.the-variants.{Length}
 use Rattle.script_theory.specs.Script.{endText, scriptOutput}
 use Rattle.script_output.specs.Handling.{endCallFault}
 use Rattle.script_calls.specs.Calls.{PieceCall, PieceLeft, freshPiece, PieceCalls, leftAfterPieces, textOfPieces, printedByPieces}
-use Rattle.script.specs.Reading.{tableText}
+use Rattle.script_table.specs.Reading.{tableText}
 use Rattle.script.specs.declared.Stop.{Stop}
 use Rattle.script.specs.declared.Stop.the-variants as stop
 use Rattle.script.specs.declared.Ending.{Ending}

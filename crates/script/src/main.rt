@@ -4,8 +4,6 @@ use script_output::Handling;
 use script_steps::Progress;
 use standard_io::Filling;
 use standard_io::Got;
-use table::HEADER_BYTES;
-use table::starts::text_end;
 ghost use mathlib.Core.Path.{_≡_};
 ghost use Prim.Native.Nat.{_+_, _*_, _≤_};
 ghost use lib.ListN.{length};
@@ -16,7 +14,6 @@ ghost use Rattle.output.specs.declared.Output.the-variants.{Length};
 ghost use Rattle.script_theory.specs.Script.{endText};
 ghost use Rattle.script_output.specs.Handling.{HandlesPiece, endCallFault};
 ghost use Rattle.script_output.specs.declared.Handling.the-variants.{Printed};
-ghost use Rattle.script.specs.Reading.{tableEnd, ReadsTableText};
 ghost use Rattle.script.specs.Writing.{HandlesReads, AnswersScript};
 
 const UNREAD: [u8; 36] = *b"script: the input could not be read\n";
@@ -39,33 +36,6 @@ enum Stop {
 enum Ending {
     Printed(usize),
     Failed,
-}
-
-// Where the table's text ends, by the header's line.
-fn table_end(head: &[u8]) -> usize
-    ensures { λ r. ⌜ r ≡ tableEnd (now (head .entry)) ⌝ }
-{
-    if table_text::line_checks::head_fault(head, 256, 2048) != 0 {
-        return head.len();
-    }
-    let probes = hex::fields::number(head, 4, 4);
-    let links = hex::fields::number(head, 8, 4);
-    text_end(probes, links)
-}
-
-// Reads the table's bytes and no more: the header's line, then the rest that it tells of.
-fn read_table_text(text: &mut [u8]) -> Filling
-    requires { ⌜ 27922 ≤ length (now text) ⌝ }
-    ensures { λ r. ⌜ ReadsTableText r (now (text .exit)) ⌝ }
-{
-    let head = standard_io::fill(&mut text[..HEADER_BYTES], 0);
-    match head {
-        Filling::Until(n) => {
-            let end = table_end(&text[..n]);
-            standard_io::fill(&mut text[..end], n)
-        }
-        Filling::Failed => Filling::Failed,
-    }
 }
 
 // Handles a piece in a slice that holds any answers to it.
@@ -336,7 +306,7 @@ fn answer_text(text: &mut [u8], n: usize)
 
 fn main() {
     let mut text = [0u8; 27922];
-    let filled = read_table_text(&mut text);
+    let filled = script_table::input::read_table_text(&mut text);
     match filled {
         Filling::Until(n) => answer_text(&mut text, n),
         Filling::Failed => {
