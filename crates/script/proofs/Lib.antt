@@ -1,4 +1,4 @@
 pub mod Table
-pub mod Chain
+pub mod Answered
 pub mod Calls
 pub mod Writing
