@@ -1,4 +1,4 @@
--- Neither the end nor a refusal is refused: the slices hold what they print.
+-- The calls that print the end and a refusal are not refused: the slices hold what they print.
 use Prim.Native.Nat.{ℕ, _≤_, _<_}
 use mathlib.Core.Path.{_≡_, sym, _∙_, ap}
 use mathlib.Core.List.{List}
@@ -17,7 +17,6 @@ use Rattle.output.proofs.Printing.{long-enough, prints-answer}
 use Rattle.script_theory.specs.Script.{endText}
 use Rattle.script_steps.proofs.Ends.{length-end, end-most}
 use Rattle.script_output.specs.Handling.{siteFault, endCallFault}
-use Rattle.script_output.specs.declared.Handling.the-variants.{Refused}
 
 module _ (x : Slices) (fine : slicesFault x ≡ 0) (rec : List ℕ) (good : fleetFault (tableOf x) rec ≡ 0) where
   pub end-passes : (held changed : ℕ) (out : List ℕ) → 16 ≤ length out → endCallFault x rec (endText x rec held changed) out ≡ 0

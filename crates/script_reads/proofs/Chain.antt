@@ -2,26 +2,16 @@
 use Prim.Native.Nat.{ℕ, _≤_}
 use mathlib.Core.Path.{_≡_, sym, _∙_, ap, subst}
 use mathlib.Core.List.{List, [], _∷_, _++_}
-use native.Mathlib.Omega.{arith}
-use lib.ListN.{length, take, drop, length-append, take-append-drop}
+use lib.ListN.{length}
 use Rattle.fleet_theory.specs.Fleet.{fleetFault, start}
 use Rattle.table.specs.Slices.{Slices, tableOf, slicesFault}
 use Rattle.script_steps.specs.declared.Progress.{Progress}
-use Rattle.script_steps.proofs.PieceLaws.{short-take}
-use Rattle.script_output.specs.Handling.{before, HandlesPiece}
+use Rattle.script_output.specs.Handling.{HandlesPiece}
 use Rattle.script_output.specs.declared.Handling.the-variants.{Printed}
 use Rattle.script_calls.specs.Calls.{PieceCall, PieceLeft, freshPiece, leftByPiece, KeptPiece}
 use Rattle.fleet_calls.proofs.Promises.{same-self}
 use Rattle.script_calls.proofs.Calls.{calls-more, left-more, passes-after}
 use Rattle.script_reads.specs.Handled.{HandledBy}
-
--- of an unfinished line at most 16 bytes are held
-pub before-few : (p : Progress) (rec line : List ℕ) → length (before p rec line .held) ≤ 16
-before-few p rec line =
-    let k = short-take line in
-    let a = length-append (take (p .held) (take 16 line)) (drop (p .held) (take 16 line)) in
-    let e = ap length (take-append-drop (p .held) (take 16 line)) in
-    omega (arith, k .1)
 
 -- what a turn goes on from
 abbrev pub leftOf : Progress → List ℕ → List ℕ → PieceLeft
