@@ -1,12 +1,12 @@
--- No call of the program is refused: its slices hold what is printed.
-use Prim.Native.Nat.{ℕ, _+_, _*_, _≤_, _<_}
+-- The calls that print the end and a refusal are not refused: the slices hold what they print.
+use Prim.Native.Nat.{ℕ, _≤_, _<_}
 use mathlib.Core.Path.{_≡_, sym, _∙_, ap}
 use mathlib.Core.List.{List}
 use native.Mathlib.Omega.{arith}
 use native.Mathlib.Decide.{decLe}
 use lib.Dec.{eqb}
 use lib.ListN.{length}
-use borrow.Author.Tests.{le-ltb, lt-ltb}
+use borrow.Author.Tests.{lt-ltb}
 use Rattle.range.proofs.Faults.{or-none}
 use Rattle.fleet_theory.specs.Fleet.{fleetFault}
 use Rattle.table.specs.Slices.{Slices, tableOf, slicesFault}
@@ -14,40 +14,17 @@ use Rattle.output.specs.Output.{outputReply, shortFault, Prints}
 use Rattle.output.specs.declared.Output.{Output}
 use Rattle.output.specs.declared.Output.the-variants as output
 use Rattle.output.proofs.Printing.{long-enough, prints-answer}
-use Rattle.script_theory.specs.Script.{Script, endText, afterPiece}
-use Rattle.script_steps.specs.declared.Progress.{Progress}
-use Rattle.script_steps.proofs.PieceLaws.{piece-short}
+use Rattle.script_theory.specs.Script.{endText}
 use Rattle.script_steps.proofs.Ends.{length-end, end-most}
-use Rattle.script_output.specs.Handling.{before, siteFault, handlingReply, Handles, pieceCallFault, endCallFault}
-use Rattle.script_output.specs.declared.Handling.{Handling}
-use Rattle.script_output.specs.declared.Handling.the-variants.{Printed, Refused}
-use Rattle.script_output.proofs.Answers.{handles-answer}
-use Rattle.script.proofs.Chain.{before-few}
+use Rattle.script_output.specs.Handling.{siteFault, endCallFault}
 
 module _ (x : Slices) (fine : slicesFault x ≡ 0) (rec : List ℕ) (good : fleetFault (tableOf x) rec ≡ 0) where
-  pub piece-passes : (p : Progress) (line piece out : List ℕ) → 16 ≤ length line → 5 * (16 + length piece) ≤ length out → pieceCallFault x p piece rec line out ≡ 0
-  piece-passes p line piece out long room =
-      let few = before-few p rec line in
-      let s = piece-short x 1024 (before p rec line) piece in
-      rw (le-ltb (length line) 16 long, fine, good) (long-enough (length out) (afterPiece x 1024 (before p rec line) piece .out) (omega arith))
-
   pub end-passes : (held changed : ℕ) (out : List ℕ) → 16 ≤ length out → endCallFault x rec (endText x rec held changed) out ≡ 0
   end-passes held changed out room =
       let n = length-end x rec held changed in
       let m = end-most (eqb held 0) in
       let room-none = long-enough (length out) (endText x rec held changed) (omega arith) in
       or-none (shortFault (length out) (endText x rec held changed)) (siteFault x rec) room-none ∙ rw (fine, good)
-
--- handled, and not refused
-module _ (fault : ℕ) (q : Script) (r : Handling) (rec rec′ line line′ out out′ : List ℕ) (h : Handles fault q r rec rec′ line line′ out out′) where
-  pub handled-as : (n : ℕ) (p : Progress) → r ≡ Printed n p → Handles fault q (Printed n p) rec rec′ line line′ out out′
-  handled-as n p e = record { answer = ap handlingReply (sym e) ∙ h .answer; record-after = h .record-after; line-after = h .line-after; out-after = h .out-after }
-
-  pub never-unhandled : fault ≡ 0 → (n : ℕ) → r ≡ Refused n → ⊥
-  never-unhandled none n e =
-      let k = rw none at (handles-answer h) in
-      let z : _≡_ {A = ℕ} 0 1 = cc in
-      omega arith
 
 -- printed, and not refused
 module _ (fault : ℕ) (printed : List ℕ) (r : Output) (out out′ : List ℕ) (h : Prints fault printed r out out′) where

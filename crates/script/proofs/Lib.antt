@@ -1,5 +1,4 @@
 pub mod Table
-pub mod Reading
-pub mod Chain
+pub mod Answered
 pub mod Calls
 pub mod Writing

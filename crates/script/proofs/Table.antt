@@ -1,23 +1,17 @@
--- The table that the program reads is that of the input, and the rest of the input is its script.
+-- The program prints by the table that it reads, and the rest of the input is its script.
 use Prim.Native.Nat.{ℕ, _≤_}
 use mathlib.Core.Path.{_≡_, sym, _∙_, ap}
 use mathlib.Core.Bool.{true}
 use mathlib.Core.List.{List}
-use native.Mathlib.Omega.{arith}
-use native.Mathlib.Decide.{ℕ-discrete, decLe}
-use lib.ListN.{length, take, drop, replicate}
-use lib.Seq.{take-all, length-take-le}
+use lib.ListN.{take, drop, replicate}
 use borrow.Author.Tests.{eq-eqb, ne-eqb}
 use Rattle.range.proofs.Lists.{stored-same}
-use Rattle.range.proofs.Faults.{or-left}
 use Rattle.table.specs.Table.{Table}
-use Rattle.table.specs.Text.{ofText, headFault, bodyFault, textEnd, textFault}
+use Rattle.table.specs.Text.{ofText, headFault, textEnd, textFault}
 use Rattle.table.specs.Same.{Same}
-use Rattle.table_laws.proofs.Long.{own-text, own-table, own-head, own-end}
-use Rattle.table_laws.proofs.Round.{text-within}
 use Rattle.output.specs.Output.{refusalLine}
 use Rattle.script_theory.specs.Script.{inSlices, scriptText, scriptOutput}
-use Rattle.script.specs.Reading.{tableText}
+use Rattle.script_table.proofs.Table.{head-none, same-fault, same-table}
 
 -- tables with the same entries stand in the same slices
 same-slices : (t u : Table) → Same t u → inSlices t ≡ inSlices u
@@ -32,61 +26,17 @@ same-slices t u e =
       stored-same (t .cost) (u .cost) (t .links) (replicate 2048 0) (e .cost),
     )
 
-head-none : (s : List ℕ) → textFault 256 2048 true s ≡ 0 → headFault 256 2048 s ≡ 0
-unfolding textFault
-head-none s z = or-left (headFault 256 2048 s) (bodyFault true s) z
-
 -- of so many bytes that the table is among them
 module _ (s : List ℕ) (n : ℕ) (headed : 13 ≤ n) (own : headFault 256 2048 s ≡ 0 → textEnd (ofText s) ≡ n) where
-  within : headFault 256 2048 s ≡ 0 → textEnd (ofText s) ≤ n
-  within h = let e = own h in omega arith
-
-  pub same-fault : textFault 256 2048 true s ≡ textFault 256 2048 true (take n s)
-  same-fault = own-text s n headed within
-
   pub own-script : textFault 256 2048 true (take n s) ≡ 0 → scriptOutput s ≡ scriptText (inSlices (ofText (take n s))) 1024 (drop n s)
   own-script e =
-      let z = same-fault ∙ e in
+      let z = same-fault s n headed own ∙ e in
       let h = head-none s z in
       rw (eq-eqb (textFault 256 2048 true s) 0 z)
-      (ap (λ x. scriptText x 1024 (drop (textEnd (ofText s)) s)) (same-slices (ofText s) (ofText (take n s)) (own-table s n headed within h))
+      (ap (λ x. scriptText x 1024 (drop (textEnd (ofText s)) s)) (same-slices (ofText s) (ofText (take n s)) (same-table s n headed own h))
       ∙ ap (λ (k : ℕ). scriptText (inSlices (ofText (take n s))) 1024 (drop k s)) (own h))
-
-  pub own-length : textFault 256 2048 true (take n s) ≡ 0 → length (take n s) ≡ n
-  own-length e =
-      let z = same-fault ∙ e in
-      let w = text-within 256 2048 true s z in
-      let o = own (head-none s z) in
-      length-take-le n s (omega arith)
 
   pub own-refusal : (m : ℕ) → m ≡ textFault 256 2048 true (take n s) → (m ≡ 0 → ⊥) → refusalLine m ≡ scriptOutput s
   own-refusal m e some =
-      let f : textFault 256 2048 true s ≡ m = same-fault ∙ sym e in
+      let f : textFault 256 2048 true s ≡ m = same-fault s n headed own ∙ sym e in
       rw (f, ne-eqb m 0 some)
-
--- and the program reads so many
-pub record Part (s : List ℕ) : Type 0 where
-  pub bytes : ℕ
-  pub headed : 13 ≤ bytes
-  pub own : headFault 256 2048 s ≡ 0 → textEnd (ofText s) ≡ bytes
-  pub is : tableText s ≡ take bytes s
-
-again : (s : List ℕ) (n : ℕ) → take (length (take n s)) s ≡ take n s
-again s n = go (decLe n (length s))
-  where
-    go : Dec (n ≤ length s) → take (length (take n s)) s ≡ take n s
-    go (yes l) = ap (λ (k : ℕ). take k s) (length-take-le n s l)
-    go (no d) = let e = take-all n s (omega arith) in ap (λ (k : List ℕ). take (length k) s) e ∙ take-all (length s) s (omega arith) ∙ sym e
-
-pub part-of : (s : List ℕ) → Part s
-part-of s = go (ℕ-discrete (headFault 256 2048 (take 13 s)) 0)
-  where
-    go : Dec (headFault 256 2048 (take 13 s) ≡ 0) → Part s
-    go (yes e) = record { bytes = textEnd (ofText (take 13 s)); headed = omega arith; own = λ h. own-end s h; is = rw (eq-eqb (headFault 256 2048 (take 13 s)) 0 e) }
-    go (no d) =
-        record {
-          bytes = 13;
-          headed = omega arith;
-          own = λ h. absurd (d (sym (own-head s) ∙ h));
-          is = rw (ne-eqb (headFault 256 2048 (take 13 s)) 0 d) (again s 13);
-        }

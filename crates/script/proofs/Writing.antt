@@ -17,10 +17,11 @@ use Rattle.script_theory.specs.Script.{inSlices, endText, scriptText, scriptOut
 use Rattle.script_calls.specs.Calls.{freshPiece, leftAfterPieces, textOfPieces}
 use Rattle.fleet_calls.proofs.Promises.{same-self}
 use Rattle.script_calls.proofs.Calls.{script-of-calls}
-use Rattle.script.specs.Reading.{tableText}
+use Rattle.script_table.specs.Reading.{tableText}
+use Rattle.script_table.proofs.Table.{own-length, part-of}
 use Rattle.script_output.proofs.Reading.{slices-are, read-fine}
 use Rattle.script.specs.Writing.{zeroSlices, ScriptWrites}
-use Rattle.script.proofs.Table.{own-script, own-length, own-refusal, part-of}
+use Rattle.script.proofs.Table.{own-script, own-refusal}
 use Rattle.script.proofs.Calls.{end-holds}
 
 module _ (input : List ℕ) where

@@ -12,23 +12,10 @@ use Rattle.output.specs.Output.{refusalLine, Prints}
 use Rattle.output.specs.declared.Output.the-variants.{Length}
 use Rattle.script_theory.specs.Script.{endText, scriptOutput}
 use Rattle.script_output.specs.Handling.{endCallFault}
-use Rattle.script_calls.specs.Calls.{PieceCall, PieceLeft, freshPiece, PieceCalls, leftAfterPieces, textOfPieces, printedByPieces}
-use Rattle.script.specs.Reading.{tableText}
-use Rattle.script.specs.declared.Stop.{Stop}
-use Rattle.script.specs.declared.Stop.the-variants as stop
+use Rattle.script_calls.specs.Calls.{PieceCall, freshPiece, PieceCalls, leftAfterPieces, textOfPieces, printedByPieces}
+use Rattle.script_table.specs.Reading.{tableText}
 use Rattle.script.specs.declared.Ending.{Ending}
 use Rattle.script.specs.declared.Ending.the-variants as ending
-
--- pieces were handled by calls of `script_piece`, one after the other from a fresh fleet on, and these left b
-pub record HandledBy (x : Slices) (line : List ℕ) (b : PieceLeft) : Type 0 where
-  pub calls : List PieceCall
-  pub kept : PieceCalls x (freshPiece x line) calls
-  pub left : leftAfterPieces (freshPiece x line) calls ≡ b
-
--- at the input's end, record, line and progress are as the calls left them
-abbrev pub HandlesReads : Slices → Stop → List ℕ → List ℕ → List ℕ → Type 0
-HandlesReads x (stop.AtEnd p) line rec′ line′ = HandledBy x line (record { progress = p; bytes = rec′; line = line′ })
-HandlesReads x stop.Failed line rec′ line′ = Unit {0}
 
 -- calls of `script_piece`, then the promise of `script_end` on what they left: it has printed n bytes into `out′`
 pub record Answered (x : Slices) (n : ℕ) (out′ : List ℕ) : Type 0 where

@@ -10,7 +10,8 @@ use lib.ListN.{replicate}
 use lib.Seq.{length-take-le}
 use Rattle.table.specs.Slices.{slicesOf}
 use Rattle.script_steps.proofs.Ends.{links-within, zeros-are}
-use Rattle.script.proofs.Chain.{handled-usable, answered-by}
+use Rattle.script_reads.proofs.Chain.{handled-usable}
+use Rattle.script.proofs.Answered.{answered-by}
 
 mul-bytes : tie.Need-mul-bytes
 mul-bytes c = search needs

@@ -7,7 +7,7 @@ use native.Mathlib.Omega.{arith}
 use lib.Seq.{length-take-le}
 use Rattle.output.proofs.Printing.{printed-within}
 use Rattle.script_output.proofs.Reading.{read-fine}
-use Rattle.script.proofs.Chain.{answered-within}
+use Rattle.script.proofs.Answered.{answered-within}
 
 slice-reshare-prefix-read-table-prefix : tie.Need-slice-reshare-prefix-read-table-prefix
 slice-reshare-prefix-read-table-prefix c = search needs

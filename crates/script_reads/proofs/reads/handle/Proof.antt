@@ -1,9 +1,9 @@
--- `script::handle` meets its contract.
+-- `script_reads::reads::handle` meets its contract.
 use borrow.Author.Needs.{needs}
-use Rattle.script.proofs.handle.Statement.{statement}
-use Rattle.script.proofs.handle.Tie as tie
+use Rattle.script_reads.proofs.reads.handle.Statement.{statement}
+use Rattle.script_reads.proofs.reads.handle.Tie as tie
 use Rattle.table.specs.Slices.{slicesOf}
-use Rattle.script.proofs.Calls.{piece-passes, handled-as, never-unhandled}
+use Rattle.script_reads.proofs.Calls.{piece-passes, handled-as, never-unhandled}
 
 script-piece-requires : tie.Need-script-piece-requires
 script-piece-requires c κs = search needs

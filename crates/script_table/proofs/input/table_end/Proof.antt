@@ -1,7 +1,7 @@
--- `script::table_end` meets its contract.
+-- `script_table::input::table_end` meets its contract.
 use borrow.Author.Needs.{needs}
-use Rattle.script.proofs.table_end.Statement.{statement}
-use Rattle.script.proofs.table_end.Tie as tie
+use Rattle.script_table.proofs.input.table_end.Statement.{statement}
+use Rattle.script_table.proofs.input.table_end.Tie as tie
 use mathlib.Core.Path.{sym, _∙_}
 use native.Mathlib.Omega.{arith}
 use borrow.Author.Tests.{eq-eqb, ne-eqb}

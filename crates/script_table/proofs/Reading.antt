@@ -12,7 +12,7 @@ use Rattle.table_text.proofs.Good.{head-good}
 use Rattle.standard_io.specs.Reading.{Fills}
 use Rattle.standard_io.specs.declared.Filling.{Filling}
 use Rattle.standard_io.specs.declared.Filling.the-variants.{Until, Failed}
-use Rattle.script.specs.Reading.{tableEnd, ReadsTableText}
+use Rattle.script_table.specs.Reading.{tableEnd, ReadsTableText}
 
 -- a buffer whose first bytes are read anew
 pub refilled : (part text : List ℕ) (n : ℕ) → length part ≡ length (take n text) → n ≤ length text → length (part ++ drop n text) ≡ length text

@@ -1,16 +1,16 @@
--- `script::handle_all` meets its contract.
+-- `script_reads::reads::handle_all` meets its contract.
 -- Invariant: record, line and progress are as calls of `script_piece`, from a fresh fleet on, left them, and the lengths stay. Measure: the turns that are left.
 use borrow.Author.Needs.{needs}
-use Rattle.script.proofs.handle_all.Statement.{statement}
-use Rattle.script.proofs.handle_all.Tie as tie
+use Rattle.script_reads.proofs.reads.handle_all.Statement.{statement}
+use Rattle.script_reads.proofs.reads.handle_all.Tie as tie
 use mathlib.Core.Path.{_≡_, refl, sym, _∙_}
 use native.Mathlib.Omega.{arith}
 use lib.ListN.{length}
 use lib.Seq.{length-take-le}
 use Rattle.table.specs.Slices.{slicesOf}
 use Rattle.script_output.proofs.Answers.{handled-within}
-use Rattle.script.specs.Writing.{HandledBy}
-use Rattle.script.proofs.Chain.{leftOf, handled-none, handled-more, handled-usable}
+use Rattle.script_reads.specs.Handled.{HandledBy}
+use Rattle.script_reads.proofs.Chain.{leftOf, handled-none, handled-more, handled-usable}
 
 abbrev Inv-loop : tie.InvT-loop
 Inv-loop number probes links needs lows highs costs rec₀ line₀ text₀ out₀ progress₀ turns₀ t18 rec line text out progress turns =

@@ -1,13 +1,13 @@
--- `script::read_table_text` meets its contract.
+-- `script_table::input::read_table_text` meets its contract.
 use borrow.Author.Needs.{needs}
-use Rattle.script.proofs.read_table_text.Statement.{statement}
-use Rattle.script.proofs.read_table_text.Tie as tie
+use Rattle.script_table.proofs.input.read_table_text.Statement.{statement}
+use Rattle.script_table.proofs.input.read_table_text.Tie as tie
 use mathlib.Core.Path.{sym}
 use mathlib.Core.List.{_++_}
 use native.Mathlib.Omega.{arith}
 use lib.ListN.{drop}
 use lib.Seq.{length-take-le}
-use Rattle.script.proofs.Reading.{refilled, end-most, reads-own}
+use Rattle.script_table.proofs.Reading.{refilled, end-most, reads-own}
 
 slice-relend-prefix-fill : tie.Need-slice-relend-prefix-fill
 slice-relend-prefix-fill c = search needs

@@ -1,0 +1,10 @@
+// The text behind the script program's table: each read's lines are handled as they come, and their answers written.
+use script_steps::Progress;
+
+pub mod reads;
+
+// Why the reading stopped: at the input's end, with the progress made, or by a read or write that failed.
+pub enum Stop {
+    AtEnd(Progress),
+    Failed,
+}

@@ -1,0 +1,3 @@
+// What the script program reads before it answers: the table's bytes, and no more.
+
+pub mod input;
