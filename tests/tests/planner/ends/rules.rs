@@ -306,7 +306,7 @@ fn hold_the_dearest(table: &Table, probe: u16) {
     let own = own_links(table, probe);
     let order = falling(&table.links).into_iter();
     let falling: Vec<usize> = order.filter(|place| own.contains(place)).collect();
-    let spare = table.spares()[usize::from(probe)] as usize;
+    let spare = table.spares()[usize::from(probe)];
     let mut end = End::fresh(table, probe);
     for &place in &falling[..spare] {
         assert_eq!(end.open(1), Ok(What::Opened(place)));
