@@ -133,7 +133,6 @@ fn too_many_or_too_few_lines() {
     refused(m2_with(&[(0, "000100040007\n")]), 1);
     // With no links the closing line is taken for the need that lacks, and a second one closes.
     refused("000100020000\n0000\nffff\n", 6);
-    refused("000100020000\n0000\nffff\nffff\n0000\n", 6);
     let taken = read(b"000100020000\n0000\nffff\nffff\n", Behind::Nothing, FIT);
     assert_eq!(taken, Ok(site(&[], &[0, 65_535])));
 }
