@@ -1,5 +1,6 @@
 /* Document 01's site M2 through planner.h: read, planned by both methods, and its script M11 run by a fleet, by ends
- * alone and as a text. Prints the plan and the log as the programs do. The status is 0 if all is as 01 has it. */
+ * alone and as a text. Prints the plan and the log as the programs do. Then M2 with a need above the links. The status
+ * is 0 if all is as 01 and 02 have it. */
 #include "planner.h"
 
 #include <stdio.h>
@@ -224,6 +225,30 @@ static void script(void) {
     expect(done == strlen(printed) && memcmp(out, printed, done) == 0, "pieces", 0);
 }
 
+/* M2 where probe 0 needs three links and has one: it opens nothing, and its line tells the two that are missing. */
+static void short_probe(void) {
+    static const char printed[] = "000100020000000a\n000000010005\n000200030005\n00000002\nffff\n";
+    char text[sizeof M2];
+    uint8_t rec[4 * LINKS] = {0}, out[sizeof M2 - 1];
+    uint64_t answer;
+
+    strcpy(text, M2);
+    text[16] = '3';
+    answer = planner_read_table(bytes(text), sizeof M2 - 1, SLICES);
+    expect(!PLANNER_REFUSED(answer) && needs[0] == 3, "need above the links", 0);
+    expect(planner_check_table(TABLE) == 0, "check of a need above the links", 0);
+    answer = planner_write_table(TABLE, out, sizeof out);
+    expect(!PLANNER_REFUSED(answer) && memcmp(out, text, sizeof out) == 0, "need written as given", 0);
+
+    answer = planner_plan_text(bytes(text), sizeof M2 - 1, out, sizeof printed - 1);
+    expect(PLANNER_LENGTH(answer) == sizeof printed - 1, "length with a short line", 0);
+    expect(memcmp(out, printed, sizeof printed - 1) == 0, "short line", 0);
+    answer = planner_plan_text(bytes(text), sizeof M2 - 1, out, sizeof printed - 2);
+    expect(answer == 8, "no room for the short line", 0);
+    answer = planner_fleet_event(TABLE, rec, sizeof rec, bytes(M11[0]), PLANNER_FRAME, 0, 1);
+    expect(PLANNER_EVENT_WHAT(answer) == 1, "short probe opens nothing", 0);
+}
+
 int main(void) {
     read_and_write();
     plan();
@@ -232,5 +257,6 @@ int main(void) {
     one_end();
     one_end_logged();
     script();
+    short_probe();
     return failures == 0 ? 0 : 1;
 }

@@ -3,7 +3,7 @@
 use crate::buffer::Buffer;
 use crate::ffi;
 use crate::random::Random;
-use crate::reference::{self, Behind, Lent, Plan, Slices, Table};
+use crate::reference::{self, Behind, Lent, Plan, Slices, Table, WITHDRAWN};
 use crate::sites::Numbers;
 
 fn lend(buffers: &mut [Buffer<u16>; 4]) -> Lent<'_> {
@@ -23,6 +23,7 @@ pub fn assert_same<T: PartialEq>(call: &str, [answer, expected]: [u64; 2], buffe
         answer == expected,
         "{call}: answer {answer:x}, not {expected:x}"
     );
+    assert!(answer != WITHDRAWN.into(), "{call}: a withdrawn refusal");
     assert!(
         buffers[0] == buffers[1],
         "{call}: buffers differ, answer {answer:x}"

@@ -1,6 +1,7 @@
-//! The second implementation of one end, from document 01 alone; a refusal is its number there.
+//! The second implementation of one end, from documents 01 and 02 alone; a refusal is its number
+//! there.
 
-use crate::reference::{dearer, table_of_slices, Link, Slices};
+use crate::reference::{counted_need, dearer, table_of_slices, Link, Slices};
 
 /// What befell a probe.
 #[derive(Clone, Copy, Debug, PartialEq)]
@@ -161,7 +162,7 @@ impl End {
         }
         own.sort_by(|one, next| dearer(next.link, one.link).cmp(&dearer(one.link, next.link)));
         let need = table.needs.get(usize::from(probe)).copied().unwrap_or(0);
-        let spare = own.len() - usize::from(need);
+        let spare = own.len() - counted_need(need, own.len());
         let end = End { spare, own };
         match end.standing().max(end.held()) > spare {
             true => Err(22),

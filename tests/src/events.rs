@@ -4,7 +4,7 @@ use crate::compare_ends::End;
 use crate::ends::{other_end, Frame, What};
 use crate::random::{each_seed, Random};
 use crate::reference::Table;
-use crate::sites::{crowded, hubs, legal, legal_of_size, set_costs, set_needs};
+use crate::sites::{all_or_more, crowded, hubs, legal, legal_of_size, set_costs, set_needs};
 
 /// A legal table; most are small and dense or have hubs, with equal costs and little spare, so that
 /// offers are often refused or displaced.
@@ -22,8 +22,9 @@ pub fn any_table(random: &mut Random) -> Table {
     table.number = random.short();
     let costs = random.pick(&[1, 2, 4, 32]);
     set_costs(&mut table, || random.below(costs) as u16);
-    set_needs(&mut table, |_, degree| {
-        degree.saturating_sub(random.below(4))
+    set_needs(&mut table, |_, degree| match random.below(4) {
+        0 => all_or_more(degree, random),
+        spare => degree.saturating_sub(spare),
     });
     table
 }
@@ -38,7 +39,7 @@ pub fn each_table(series: u64, count: u64, mut run: impl FnMut(&Table, &mut Rand
 
 /// A refusal for the table or the record, which every call makes.
 pub fn of_state(refusal: Option<u8>) -> Option<u8> {
-    refusal.filter(|number| matches!(number, 3..=8 | 20..=22))
+    refusal.filter(|number| matches!(number, 3..=5 | 8 | 20..=22))
 }
 
 /// The places of the probe's links.
@@ -162,7 +163,7 @@ pub fn damage_record(end: &mut End, table: &Table, random: &mut Random) {
         5 | 6 => set_any(record, random.pick(&[1, 2]), random),
         _ => {
             let spare = table.spares().get(usize::from(end.probe)).copied();
-            let ones = spare.unwrap_or(0) as usize + random.below(2);
+            let ones = spare.unwrap_or(0) + random.below(2);
             set_ones(record, own_links(table, end.probe), ones, random);
         }
     }

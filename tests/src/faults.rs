@@ -13,7 +13,6 @@ pub fn of_table<Call: AsMut<Numbers>>() -> Vec<Fault<Call>> {
         (|call| call.as_mut().probes = 0, 3),
         (|call| call.as_mut().set_link(1, 0, 1), 5),
         (|call| call.as_mut().set_link(2, 2, 2), 4),
-        (|call| call.as_mut().entries[0][0] = 9, 7),
     ]
 }
 

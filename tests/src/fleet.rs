@@ -1,4 +1,5 @@
-//! The second implementation of a fleet, from document 01 alone; a refusal is its number there.
+//! The second implementation of a fleet, from documents 01 and 02 alone; a refusal is its number
+//! there.
 
 use crate::ends::{Entry, Frame, What};
 use crate::reference::{dearer, table_of_slices, Link, Slices, Table};
@@ -73,9 +74,8 @@ impl Site {
     }
 
     pub fn of_legal(table: Table) -> Site {
-        let spares = table.spares().into_iter();
         Site {
-            spares: spares.map(|spare| spare as usize).collect(),
+            spares: table.spares(),
             table,
         }
     }

@@ -5,7 +5,7 @@ use crate::compare;
 use crate::compare_script;
 use crate::events::any_table;
 use crate::random::Random;
-use crate::reference::{plan_output, Table};
+use crate::reference::{plan_output, table_of_text, Behind, Table};
 use crate::sites::{banded, damage_header, damage_table, damage_text, legal};
 use std::collections::{BTreeMap, BTreeSet};
 use std::fmt;
@@ -38,6 +38,12 @@ impl Tally {
                 "{thing}: {self}"
             );
         }
+    }
+
+    /// No output has this.
+    #[track_caller]
+    pub fn assert_none(&self, thing: &str) {
+        assert!(!self.having.contains_key(thing), "{self}");
     }
 }
 
@@ -168,12 +174,21 @@ pub fn plan(random: &mut Random, tally: &mut Tally) {
         false => assert_eq!(answer.as_ref(), Ok(&output)),
     }
     let lines = lines(&output);
-    tally.count(BTreeSet::from([match lines[..] {
-        [refusal] => refusal,
-        [_, _] => "none kept",
-        _ if lines[0].as_bytes()[4..8] == text[8..12] => "all kept",
-        _ => "some kept and some rested",
-    }]));
+    let mut things = BTreeSet::from([match lines[0].get(4..8) {
+        None => lines[0],
+        Some("0000") => "none kept",
+        Some(kept) if *kept.as_bytes() == text[8..12] => "all kept",
+        Some(_) => "some kept and some rested",
+    }]);
+    if lines.len() > 1 {
+        let short = lines.iter().filter(|line| line.len() == 8).count();
+        things.insert(match short {
+            0 => "no short probe",
+            1 => "one short probe",
+            _ => "several short probes",
+        });
+    }
+    tally.count(things);
 }
 
 /// Compares the script program's function on an input.
@@ -182,10 +197,15 @@ pub fn script(random: &mut Random, tally: &mut Tally) {
     let output = compare_script::text(&input, random);
     let lines = lines(&output);
     let refused = format!("table {}", lines[0]);
-    tally.count(match lines.len() {
+    let mut things: BTreeSet<&str> = match lines.len() {
         1 if output.len() == 5 => BTreeSet::from([&refused[..]]),
         _ => lines.iter().map(|line| told(line)).collect(),
-    });
+    };
+    let table = table_of_text(&input, Behind::Anything);
+    if table.is_ok_and(|table| !table.short_probes().is_empty()) {
+        things.insert("short probes");
+    }
+    tally.count(things);
 }
 
 /// What a line of the script program tells: the refusal, the finish, or what befell.

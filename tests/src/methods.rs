@@ -1,6 +1,7 @@
-//! 01's two methods for a legal table, apart from the definition, to time the library against.
+//! 01's two methods for a legal table, over counted needs, apart from the definition, to time the
+//! library against.
 
-use crate::reference::{Link, Plan, Table};
+use crate::reference::{counted_need, Link, Plan, Table};
 use std::cmp::Reverse;
 use std::collections::BinaryHeap;
 use std::ops::Range;
@@ -24,12 +25,12 @@ fn rising(links: &[Link]) -> Vec<Key> {
 pub fn slse(table: &Table) -> Plan {
     let order = rising(&table.links);
     let mut cover = Cover::none(table);
-    cover.add_short(order.iter().map(|&key| place(key)));
+    cover.add_wanted(order.iter().map(|&key| place(key)));
     cover.remove_spare(order.iter().rev().map(|&key| place(key)));
     Plan::keeping(cover.added, table)
 }
 
-/// The added links, and for each probe how many more of them it has than it needs.
+/// The added links, and for each probe how many more of them it has than its counted need.
 pub struct Cover<'a> {
     links: &'a [Link],
     pub added: Vec<bool>,
@@ -38,15 +39,16 @@ pub struct Cover<'a> {
 
 impl Cover<'_> {
     pub fn none(table: &Table) -> Cover<'_> {
+        let counted = table.counted_needs().into_iter();
         Cover {
             links: &table.links,
             added: vec![false; table.links.len()],
-            over: table.needs.iter().map(|&need| -(need as i32)).collect(),
+            over: counted.map(|need| -(need as i32)).collect(),
         }
     }
 
-    /// Adds each link that then has an end short of its need.
-    pub fn add_short(&mut self, order: impl Iterator<Item = usize>) {
+    /// Adds each link that then has an end with fewer added links than its counted need.
+    pub fn add_wanted(&mut self, order: impl Iterator<Item = usize>) {
         for place in order {
             let [low, high] = self.links[place].ends();
             if self.over[low] < 0 || self.over[high] < 0 {
@@ -57,7 +59,7 @@ impl Cover<'_> {
         }
     }
 
-    /// Removes each added link whose two ends then have more added links than they need.
+    /// Removes each added link whose two ends then have more added links than their counted needs.
     pub fn remove_spare(&mut self, order: impl Iterator<Item = usize>) {
         for place in order {
             let [low, high] = self.links[place].ends();
@@ -111,7 +113,7 @@ impl Site<'_> {
     fn fresh(table: &Table) -> Site<'_> {
         let mut start = 0;
         let probe = |(degree, &need): (usize, &u16)| {
-            let spare = degree - need as usize;
+            let spare = degree - counted_need(need, degree);
             let untried = start..start;
             start += degree;
             Probe {

@@ -1,4 +1,4 @@
-//! The second implementation, written from document 01 alone. A refusal is its number there.
+//! The second implementation, written from documents 01 and 02 alone. A refusal is its number there.
 
 #[derive(Clone, Copy, Debug, PartialEq)]
 pub struct Link {
@@ -59,6 +59,10 @@ impl Behind {
 pub const MOST_PROBES: usize = 256;
 pub const MOST_LINKS: usize = 2048;
 pub const CLOSING: &[u8] = b"ffff\n";
+
+/// The refusal of a need above the probe's links: 02 withdraws it, and no call makes it.
+pub const WITHDRAWN: u8 = 7;
+
 const DIGITS: &[u8; 16] = b"0123456789abcdef";
 
 /// Larger cost; at equal cost, larger low end; then larger high end.
@@ -70,6 +74,11 @@ pub fn dearer(link: Link, other: Link) -> bool {
     } else {
         link.high > other.high
     }
+}
+
+/// The smaller of a probe's need and its number of links.
+pub fn counted_need(need: u16, degree: usize) -> usize {
+    degree.min(need.into())
 }
 
 impl Table {
@@ -86,18 +95,27 @@ impl Table {
         degrees
     }
 
-    /// Each probe's number of links less its need; below zero only where 7 refuses.
-    pub fn spares(&self) -> Vec<i64> {
-        let degrees = self.degrees().into_iter();
-        let spare = |(degree, &need): (usize, &u16)| degree as i64 - need as i64;
-        degrees.zip(&self.needs).map(spare).collect()
+    /// Something of each probe's need and number of links.
+    fn of_probes<T>(&self, of: impl Fn(u16, usize) -> T) -> Vec<T> {
+        let numbers = self.needs.iter().zip(self.degrees());
+        numbers.map(|(&need, degree)| of(need, degree)).collect()
     }
 
-    fn check_needs(&self) -> Result<(), u8> {
-        match self.spares().iter().all(|&spare| spare >= 0) {
-            true => Ok(()),
-            false => Err(7),
-        }
+    pub fn counted_needs(&self) -> Vec<usize> {
+        self.of_probes(counted_need)
+    }
+
+    /// Each probe's number of links less its counted need.
+    pub fn spares(&self) -> Vec<usize> {
+        self.of_probes(|need, degree| degree - counted_need(need, degree))
+    }
+
+    /// The short probes, in number order: those with a need above their number of links, and how
+    /// many links each is missing.
+    pub fn short_probes(&self) -> Vec<(usize, usize)> {
+        let missing = self.of_probes(|need, degree| usize::from(need).saturating_sub(degree));
+        let probes = missing.into_iter().enumerate();
+        probes.filter(|&(_, missing)| missing > 0).collect()
     }
 
     /// Adds a link, unless 4 or 5 refuses it.
@@ -166,7 +184,7 @@ fn take_line<const N: usize>(text: &mut &[u8]) -> Result<[u16; N], u8> {
     Ok(numbers)
 }
 
-/// The legal table a text holds: 1, 2, then 3, or 4 and 5, line by line; then 6 and 7.
+/// The legal table a text holds: 1, 2, then 3, or 4 and 5, line by line; then 6.
 pub fn table_of_text(mut text: &[u8], behind: Behind) -> Result<Table, u8> {
     let [number, probes, links] = take_line(&mut text)?;
     check_counts(probes.into(), links.into())?;
@@ -187,14 +205,13 @@ pub fn table_of_text(mut text: &[u8], behind: Behind) -> Result<Table, u8> {
         Behind::Nothing => text == CLOSING,
         Behind::Anything => text.starts_with(CLOSING),
     };
-    if !closed {
-        return Err(6);
+    match closed {
+        true => Ok(table),
+        false => Err(6),
     }
-    table.check_needs()?;
-    Ok(table)
 }
 
-/// The legal table that slices hold: 8, 3, then 4 and 5 link by link, 7.
+/// The legal table that slices hold: 8, 3, then 4 and 5 link by link.
 pub fn table_of_slices(given: Slices) -> Result<Table, u8> {
     let (probes, links) = (given.probes as usize, given.links as usize);
     let lent = [given.needs, given.lows, given.highs, given.costs].map(<[u16]>::len);
@@ -209,7 +226,6 @@ pub fn table_of_slices(given: Slices) -> Result<Table, u8> {
         let (low, high, cost) = (given.lows[place], given.highs[place], given.costs[place]);
         table.add(Link { low, high, cost })?;
     }
-    table.check_needs()?;
     Ok(table)
 }
 
@@ -277,6 +293,9 @@ impl Plan {
         for (link, _) in table.links.iter().zip(&self.kept).filter(|(_, &kept)| kept) {
             text += &link.line();
         }
+        for (probe, missing) in table.short_probes() {
+            text += &format!("{probe:04x}{missing:04x}\n");
+        }
         text += "ffff\n";
         text.into_bytes()
     }
@@ -298,7 +317,7 @@ pub fn falling(links: &[Link]) -> Vec<usize> {
 }
 
 /// Goes through the links' places in this order; a link is rested exactly when both ends still
-/// have more links than they need.
+/// have more links than their counted needs.
 pub fn rest_in_order(order: &[usize], table: &Table) -> Plan {
     let mut kept = vec![true; table.links.len()];
     let mut left = table.spares();

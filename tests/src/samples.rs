@@ -1,4 +1,5 @@
 //! 01's samples of the script program: the lines behind a marked site's table, and what is printed.
+//! Then a site with a short probe.
 
 use crate::sites::MARKED;
 
@@ -43,6 +44,61 @@ pub const M11_PRINTED: [&str; 11] = [
     "0003000002ffff",
     "0002040002ffff",
     "0003050002ffff",
+    "010000000b",
+];
+
+/// Four probes; probe 1 needs three links and has two.
+pub const VALLEY: [&str; 10] = [
+    "000100040004",
+    "0001",
+    "0003",
+    "0001",
+    "0000",
+    "000000010005",
+    "000000020006",
+    "000100020007",
+    "000200030004",
+    "ffff",
+];
+
+/// Its plan.
+pub const VALLEY_PLANNED: [&str; 5] = [
+    "000100020000000c",
+    "000000010005",
+    "000100020007",
+    "00010001",
+    "ffff",
+];
+
+/// Its script: probe 1 has nothing to open and refuses what it is offered.
+pub const VALLEY_SCRIPT: [&str; 12] = [
+    "00000100000000",
+    "01000100000002",
+    "00000100010001",
+    "00000100020002",
+    "00000100020002",
+    "01000100020001",
+    "02000100010002",
+    "00000100020002",
+    "01000100020000",
+    "01000100020003",
+    "00000100030003",
+    "01000100030002",
+];
+
+pub const VALLEY_PRINTED: [&str; 13] = [
+    "0000000001ffff",
+    "0002020001ffff",
+    "000101ffffffff",
+    "0002000002ffff",
+    "0002000001ffff",
+    "0001040002ffff",
+    "0002050002ffff",
+    "0002000003ffff",
+    "0000020001ffff",
+    "0003020003ffff",
+    "0003000003ffff",
+    "0002020003ffff",
     "010000000b",
 ];
 

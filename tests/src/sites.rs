@@ -58,11 +58,23 @@ pub fn legal_of_size(probes: usize, links: usize, random: &mut Random) -> Table 
     };
     let (first, range) = random.pick(&[(0, 1), (7, 1), (0, 3), (65_534, 2), (0, 65_536)]);
     set_costs(&mut table, || (first + random.below(range)) as u16);
+    let more = random.one_in(2);
     set_needs(&mut table, |_, degree| {
         let need = random.below(degree + 1);
-        random.pick(&[0, 1.min(degree), degree, need])
+        let all = if more {
+            all_or_more(degree, random)
+        } else {
+            degree
+        };
+        random.pick(&[0, 1.min(degree), all, need])
     });
     table
+}
+
+/// A need of all links of a probe or, mostly, of more than it has.
+pub fn all_or_more(degree: usize, random: &mut Random) -> usize {
+    let any = degree + random.below(65_536 - degree);
+    random.pick(&[degree, degree + 1, degree + 2, any, 65_535])
 }
 
 pub fn set_costs(table: &mut Table, mut cost: impl FnMut() -> u16) {
@@ -110,8 +122,10 @@ pub fn banded(random: &mut Random) -> Table {
     let mut table = site(&links, &vec![0; probes.into()]);
     set_few_costs(&mut table, random);
     set_needs(&mut table, |_, degree| {
-        let spare = random.pick(&[0, 1, 1, 1, 1, 1, 2]);
-        degree.saturating_sub(spare)
+        match random.pick(&[0, 1, 1, 1, 1, 1, 2]) {
+            0 => all_or_more(degree, random),
+            spare => degree.saturating_sub(spare),
+        }
     });
     table
 }
@@ -170,7 +184,8 @@ fn count_up(digits: &mut [u16], bases: &[u16]) -> bool {
     false
 }
 
-/// Every legal table of so many probes whose costs are below the limit.
+/// Every table of so many probes whose costs are below the limit and whose needs are at most two
+/// above the links.
 pub fn every_table(probes: usize, limit: u16, mut act: impl FnMut(&Table)) {
     let pairs = pairs(probes, probes * (probes - 1) / 2, &mut Random::new(0));
     let bases = vec![limit + 1; pairs.len()];
@@ -184,7 +199,7 @@ pub fn every_table(probes: usize, limit: u16, mut act: impl FnMut(&Table)) {
             links: chosen.map(|(&pair, &cost)| Link { cost, ..pair }).collect(),
         };
         let degrees = table.degrees().into_iter();
-        let needs: Vec<u16> = degrees.map(|degree| degree as u16 + 1).collect();
+        let needs: Vec<u16> = degrees.map(|degree| degree as u16 + 3).collect();
         act(&table);
         while count_up(&mut table.needs, &needs) {
             act(&table);
@@ -195,12 +210,12 @@ pub fn every_table(probes: usize, limit: u16, mut act: impl FnMut(&Table)) {
     }
 }
 
-/// Damages the table in a way that 4, 5 or 7 may refuse.
+/// Damages a link in a way that 4 or 5 may refuse, or changes a need, which nothing refuses.
 pub fn damage_table(table: &mut Table, random: &mut Random) {
     let probe = random.below(table.needs.len());
     let links = table.links.len();
-    if links == 0 || random.one_in(4) {
-        table.needs[probe] = (table.degrees()[probe] + 1 + random.below(2)) as u16;
+    if links == 0 || random.one_in(8) {
+        table.needs[probe] = all_or_more(table.degrees()[probe], random) as u16;
         return;
     }
     let place = random.below(links);

@@ -1,6 +1,7 @@
 //! How often each refusal and each thing that can befall a probe came.
 
 use crate::ends::What;
+use crate::reference::WITHDRAWN;
 
 #[derive(Debug, Default)]
 pub struct Tally {
@@ -18,9 +19,10 @@ impl Tally {
         }
     }
 
-    /// Each of these refusals came often.
+    /// Each of these refusals came often, and a withdrawn one never.
     #[track_caller]
     pub fn assert_often(&self, refusals: &[usize]) {
+        assert_eq!(self.refused[usize::from(WITHDRAWN)], 0);
         let often = |&refusal: &usize| self.refused[refusal] > 300;
         assert!(refusals.iter().all(often), "{self:?}");
     }

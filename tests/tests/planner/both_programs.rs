@@ -17,8 +17,11 @@ fn fuzz_plans() {
     let tally = reached(71, 1_550_000, fuzz::plan);
     tally.assert_share(&["some kept and some rested"], 1_500);
     tally.assert_share(&["none kept", "all kept"], 150);
-    let refusals = ["e001", "e002", "e003", "e004", "e005", "e006", "e007"];
+    let short = ["no short probe", "one short probe", "several short probes"];
+    tally.assert_share(&short, 500);
+    let refusals = ["e001", "e002", "e003", "e004", "e005", "e006"];
     tally.assert_share(&refusals, 100);
+    tally.assert_none("e007");
 }
 
 #[test]
@@ -30,7 +33,10 @@ fn fuzz_scripts() {
     let refusals = ["e001", "e002", "e009", "e023", "e024", "e027"];
     tally.assert_share(&refusals, 300);
     tally.assert_share(&["e026"], 80);
-    let refusals = ["e001", "e002", "e003", "e004", "e005", "e006", "e007"];
+    tally.assert_share(&["short probes"], 2_500);
+    let refusals = ["e001", "e002", "e003", "e004", "e005", "e006"];
     let of_tables = refusals.map(|refusal| format!("table {refusal}"));
     tally.assert_share(&of_tables.each_ref().map(|refused| &refused[..]), 25);
+    tally.assert_none("table e007");
+    tally.assert_none("e007");
 }

@@ -1,8 +1,8 @@
-//! The second implementation's own definitions, against 01's words.
+//! The second implementation's own definitions, against the words of 01 and 02.
 
 use planner_tests::random::Random;
-use planner_tests::reference::{dearer, falling, plan, Link};
-use planner_tests::sites::{crowded, legal, marked};
+use planner_tests::reference::{dearer, falling, plan, Link, Table};
+use planner_tests::sites::{banded, crowded, every_table, legal, marked, site};
 
 #[test]
 fn dearer_by_cost_then_low_then_high() {
@@ -37,7 +37,7 @@ fn of_two_links_exactly_one_is_dearer() {
 
 #[test]
 fn degrees_and_spares_of_marked_sites() {
-    let expected: [Vec<i64>; 8] = [
+    let expected: [Vec<usize>; 8] = [
         vec![1, 1, 1, 1],
         vec![1, 1, 1, 1],
         vec![0],
@@ -59,8 +59,127 @@ fn degrees_count_each_link_twice() {
     for _ in 0..500 {
         let table = legal(&mut random);
         assert_eq!(table.degrees().iter().sum::<usize>(), 2 * table.links.len());
-        assert!(table.spares().iter().all(|&spare| spare >= 0));
     }
+}
+
+#[test]
+fn counted_needs_spares_and_short_probes_of_a_row() {
+    let row = site(&[[0, 1, 5], [1, 2, 6], [2, 3, 5]], &[0, 3, 2, 65_535]);
+    assert_eq!(row.counted_needs(), [0, 2, 2, 1]);
+    assert_eq!(row.spares(), [1, 0, 0, 0]);
+    assert_eq!(row.short_probes(), [(1, 1), (3, 65_534)]);
+    let alone = site(&[], &[2]);
+    assert_eq!((alone.counted_needs(), alone.spares()), (vec![0], vec![0]));
+    assert_eq!(alone.short_probes(), [(0, 2)]);
+}
+
+/// Which links a choice has.
+fn has(choice: u32, place: usize) -> bool {
+    choice >> place & 1 == 1
+}
+
+/// Whether each probe is an end of at least its counted need of the links.
+fn meets(table: &Table, counted: &[usize], chosen: impl Fn(usize) -> bool) -> bool {
+    let mut ends = vec![0; counted.len()];
+    for (place, link) in table.links.iter().enumerate() {
+        let [low, high] = link.ends();
+        ends[low] += usize::from(chosen(place));
+        ends[high] += usize::from(chosen(place));
+    }
+    ends.iter().zip(counted).all(|(ends, need)| ends >= need)
+}
+
+/// By 02, for every probe: what its need counts as, its spare, whether it is short and what it is
+/// missing. Answers how many are short.
+#[track_caller]
+fn assert_counted(table: &Table) -> usize {
+    let (degrees, counted, spares) = (table.degrees(), table.counted_needs(), table.spares());
+    let mut short = table.short_probes().into_iter().peekable();
+    let count = short.len();
+    for (probe, &need) in table.needs.iter().enumerate() {
+        let (need, degree) = (usize::from(need), degrees[probe]);
+        assert_eq!(counted[probe], if need < degree { need } else { degree });
+        assert_eq!(spares[probe] + counted[probe], degree);
+        let listed = short.next_if(|&(short, _)| short == probe);
+        assert_eq!(
+            listed.map(|(_, missing)| missing + degree),
+            (need > degree).then_some(need)
+        );
+        assert!(listed.is_none() || spares[probe] == 0);
+    }
+    assert_eq!(short.next(), None);
+    count
+}
+
+/// The plan meets the counted needs, and a short probe keeps all its links.
+#[track_caller]
+fn assert_planned(table: &Table) {
+    let kept = plan(table).kept;
+    assert!(meets(table, &table.counted_needs(), |place| kept[place]));
+    let short = table.short_probes();
+    for (link, kept) in table.links.iter().zip(kept) {
+        let keeps = |end: &usize| short.iter().any(|(probe, _)| probe == end);
+        assert!(kept || !link.ends().iter().any(keeps));
+    }
+}
+
+#[test]
+fn counted_needs_are_met() {
+    let (mut random, mut short) = (Random::new(36), 0);
+    for _ in 0..1_000 {
+        for table in [
+            legal(&mut random),
+            crowded(&mut random),
+            banded(&mut random),
+        ] {
+            short += assert_counted(&table);
+            assert_planned(&table);
+        }
+    }
+    assert!(short > 10_000, "{short}");
+    let mut short = 0;
+    for probes in 1..=4 {
+        every_table(probes, 2, |table| {
+            short += assert_counted(table);
+            assert_planned(table);
+        });
+    }
+    assert!(short > 500_000, "{short}");
+}
+
+/// What the cheapest choice that meets the counted needs costs.
+fn least_cost(table: &Table) -> u64 {
+    let counted = table.counted_needs();
+    let choices = 0..1_u32 << table.links.len();
+    let meeting = choices.filter(|&choice| meets(table, &counted, |place| has(choice, place)));
+    let cost = |choice: u32| {
+        let links = table.links.iter().enumerate();
+        let chosen = links.filter(|&(place, _)| has(choice, place));
+        chosen.map(|(_, link)| u64::from(link.cost)).sum()
+    };
+    meeting.map(cost).min().expect("all links meet them")
+}
+
+/// The plan costs at most twice as much as any choice that meets the counted needs; on some sites
+/// it costs just that, also with a short probe.
+#[test]
+fn plan_costs_at_most_twice_any_choice() {
+    let (mut dearer, mut twice, mut short) = (0, 0, 0);
+    for probes in 1..=4 {
+        every_table(probes, 2, |table| {
+            let (cost, least) = (plan(table).cost, least_cost(table));
+            assert!(cost <= 2 * least, "{table:?}");
+            dearer += usize::from(cost > least);
+            if cost > least && cost == 2 * least {
+                twice += 1;
+                short += usize::from(!table.short_probes().is_empty());
+            }
+        });
+    }
+    assert!(
+        dearer > 1_000 && twice > 100 && short > 0,
+        "{dearer} {twice} {short}"
+    );
 }
 
 #[test]
@@ -88,7 +207,7 @@ fn each_link_is_rested_by_the_rule() {
                     dearer(*dear, link) && !kept[other] && dear.ends().contains(&end)
                 };
                 let links = table.links.iter().enumerate();
-                spares[end] > links.filter(rested_before).count() as i64
+                spares[end] > links.filter(rested_before).count()
             };
             assert_eq!(!kept[place], link.ends().iter().all(has_spare_left));
         }

@@ -6,6 +6,7 @@ use planner_tests::events::each_table;
 use planner_tests::fleet::{changes, own_record, Site, BYTES};
 use planner_tests::reference::Table;
 use planner_tests::samples::{self, input, M11, M11_PRINTED, M4, M4_PRINTED};
+use planner_tests::samples::{VALLEY, VALLEY_PRINTED, VALLEY_SCRIPT};
 use planner_tests::script::{output, Script};
 use planner_tests::sites::Numbers;
 
@@ -17,6 +18,14 @@ fn m4() {
 #[test]
 fn m11() {
     assert_eq!(output(&input(1, &M11)), samples::text(&M11_PRINTED));
+}
+
+#[test]
+fn valley() {
+    let input = [VALLEY.as_slice(), &VALLEY_SCRIPT]
+        .map(samples::text)
+        .concat();
+    assert_eq!(output(&input), samples::text(&VALLEY_PRINTED));
 }
 
 /// What the end that opens or hears does alone, and its record after.

@@ -21,6 +21,7 @@ mod programs;
 mod random_slices;
 mod random_texts;
 mod script;
+mod short_probes;
 mod sizes;
 mod stack;
 mod wake_log;

@@ -33,7 +33,7 @@ fn random_tables() {
 fn added_and_removed(table: &Table) -> [Vec<bool>; 2] {
     let order = falling(&table.links);
     let mut cover = Cover::none(table);
-    cover.add_short(order.iter().rev().copied());
+    cover.add_wanted(order.iter().rev().copied());
     let added = cover.added.clone();
     cover.remove_spare(order.into_iter());
     let both = added.iter().zip(&cover.added);

@@ -165,9 +165,15 @@ fn links_equal_or_falling() {
 #[test]
 fn need_equal_to_the_links_and_one_above() {
     for (probe, links) in [1, 2, 2, 1].into_iter().enumerate() {
-        accepted(m2_with(|m2| m2.entries[0][probe] = links));
-        refused(m2_with(|m2| m2.entries[0][probe] = links + 1), 7);
-        refused(m2_with(|m2| m2.entries[0][probe] = 65_535), 7);
+        for need in [links, links + 1, 256, 65_535] {
+            let changed = m2_with(|m2| m2.entries[0][probe] = need);
+            let text = written(&changed, right_length(&changed)).expect("a legal table");
+            assert_eq!(
+                text[13 + 5 * probe..][..5],
+                *format!("{need:04x}\n").as_bytes()
+            );
+            accepted(changed);
+        }
     }
 }
 
@@ -179,15 +185,21 @@ fn entries_beyond_the_table_count_for_nothing() {
         m2.entries[0][3] = 9;
         (m2.probes, m2.links) = (3, 2);
     });
+    let text = written(&fewer, right_length(&fewer)).expect("a legal table");
+    assert!(text.starts_with(b"000100030002\n0000\n0001\n0001\n000000010005\n"));
     accepted(fewer);
 }
 
+/// Also where a need is above the links, which is no fault.
 #[test]
-fn order_8_3_4_5_7() {
-    each_choice(&of_table(), m2, |damaged, refusals| match refusals {
-        [] => accepted(damaged),
-        [first, ..] => refused(damaged, *first),
-    });
+fn order_8_3_4_5() {
+    let short: fn() -> Numbers = || m2_with(|m2| m2.entries[0][0] = 9);
+    for fresh in [m2, short] {
+        each_choice(&of_table(), fresh, |damaged, refusals| match refusals {
+            [] => accepted(damaged),
+            [first, ..] => refused(damaged, *first),
+        });
+    }
 }
 
 #[test]

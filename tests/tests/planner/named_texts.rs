@@ -3,7 +3,7 @@
 use planner_tests::compare;
 use planner_tests::random::Random;
 use planner_tests::reference::{Behind, Table};
-use planner_tests::sites::M2;
+use planner_tests::sites::{site, M2};
 
 const FIT: [usize; 4] = [4, 3, 3, 3];
 
@@ -131,9 +131,10 @@ fn too_many_or_too_few_lines() {
     refused(m2_with(&[(8, "000200040005\nffff\n")]), 6);
     // More links than there are pairs is no fault of the header.
     refused(m2_with(&[(0, "000100040007\n")]), 1);
-    // With no links the closing line is taken for the need that lacks.
+    // With no links the closing line is taken for the need that lacks, and a second one closes.
     refused("000100020000\n0000\nffff\n", 6);
-    refused("000100020000\n0000\nffff\nffff\n", 7);
+    let taken = read(b"000100020000\n0000\nffff\nffff\n", Behind::Nothing, FIT);
+    assert_eq!(taken, Ok(site(&[], &[0, 65_535])));
 }
 
 #[test]
@@ -209,21 +210,22 @@ fn long_texts() {
     }
 }
 
+/// The need is read as given, up to the most that four digits hold.
 #[test]
-fn need_one_above_the_links() {
-    for (line, equal, above) in [
-        (1, "0001\n", "0002\n"),
-        (2, "0002\n", "0003\n"),
-        (3, "0002\n", "0003\n"),
-        (4, "0001\n", "0002\n"),
-    ] {
-        let text = m2_with(&[(line, equal)]);
-        assert!(read(text.as_bytes(), Behind::Nothing, FIT).is_ok());
-        refused(m2_with(&[(line, above)]), 7);
-        refused(m2_with(&[(line, "ffff\n")]), 7);
-        refused(m2_with(&[(line, "0100\n")]), 7);
+fn need_at_and_above_the_links() {
+    for probe in 0..4 {
+        for need in [1, 2, 3, 4, 255, 256, 32_768, 65_534, 65_535] {
+            let mut expected = m2();
+            expected.needs[probe] = need;
+            let text = expected.text();
+            for behind in Behind::BOTH {
+                for enough in [FIT, [300, 2100, 2100, 2100]] {
+                    let read = read(&text, behind, enough);
+                    assert_eq!(read.as_ref(), Ok(&expected));
+                }
+            }
+        }
     }
-    refused("000100010000\n0001\nffff\n", 7);
 }
 
 #[test]
@@ -292,9 +294,9 @@ fn order_of_the_lines() {
 }
 
 #[test]
-fn order_of_6_7_and_8() {
+fn order_of_6_and_8() {
     // `refused` lends short slices too, so each of these also holds against 8.
-    refused(m2_with(&[NEED_ABOVE]), 7);
+    refused(m2_with(&[(8, "fffe\n")]), 6);
     refused(m2_with(&[NEED_ABOVE, (8, "fffe\n")]), 6);
     refused(m2_with(&[NEED_ABOVE, (8, "")]), 6);
     refused(m2_with(&[NEED_ABOVE, (7, "000200020005\n")]), 4);
@@ -302,8 +304,15 @@ fn order_of_6_7_and_8() {
     refused(m2_with(&[NEED_ABOVE, (7, "00020003000\n")]), 1);
     refused(m2_with(&[(7, "000100020005\n"), (8, "fffe\n")]), 5);
     let followed = m2_with(&[NEED_ABOVE]) + "\n";
-    assert_eq!(read(followed.as_bytes(), Behind::Nothing, FIT), Err(6));
-    assert_eq!(read(followed.as_bytes(), Behind::Anything, FIT), Err(7));
+    for (lengths, behind) in [
+        (FIT, Ok(())),
+        ([3, 3, 3, 3], Err(8)),
+        ([4, 3, 3, 4], Err(8)),
+    ] {
+        let read = |behind| read(followed.as_bytes(), behind, lengths).map(drop);
+        assert_eq!(read(Behind::Nothing), Err(6));
+        assert_eq!(read(Behind::Anything), behind);
+    }
 }
 
 #[test]

@@ -6,11 +6,13 @@ use planner_tests::reference::{rest_in_order, Table};
 use planner_tests::sites::{banded, crowded, lower_first};
 use std::cmp::Reverse;
 
-/// Plans so many tables, more than half of which would show another order of equal costs.
+/// Plans so many tables, more than half of which would show another order of equal costs, and more
+/// than a quarter have a short probe.
 #[track_caller]
 fn plan_each(seed: u64, tables: usize, table: fn(&mut Random) -> Table) {
     let mut random = Random::new(seed);
     let (mut kept, mut rested, mut shown) = (0, 0, 0);
+    let (mut short_lines, mut with_short) = (0, 0);
     for _ in 0..tables {
         let table = table(&mut random);
         let plan = compare::plan_table(&table, &mut random);
@@ -18,8 +20,13 @@ fn plan_each(seed: u64, tables: usize, table: fn(&mut Random) -> Table) {
         rested += table.links.len() - plan.count;
         let lower_first = lower_first(&table.links, Reverse);
         shown += (rest_in_order(&lower_first, &table) != plan) as usize;
+        let short = table.short_probes().len();
+        short_lines += short;
+        with_short += usize::from(short > 0);
     }
     assert!(kept > 20 * tables && rested > 20 * tables && 2 * shown > tables);
+    let short = [short_lines, with_short];
+    assert!(short_lines > tables && 4 * with_short > tables, "{short:?}");
 }
 
 #[test]

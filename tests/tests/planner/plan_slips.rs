@@ -17,7 +17,7 @@ fn assert_shows(table: &Table, slipped: &Plan) {
 
 fn slse_with_lower_first(table: &Table) -> Plan {
     let mut cover = Cover::none(table);
-    cover.add_short(lower_first(&table.links, |cost| cost).into_iter());
+    cover.add_wanted(lower_first(&table.links, |cost| cost).into_iter());
     cover.remove_spare(lower_first(&table.links, Reverse).into_iter());
     Plan::keeping(cover.added, table)
 }
@@ -107,7 +107,7 @@ fn by_turns(table: &Table, slip: Slip) -> Plan {
     if slip == Slip::IncreasingWeight {
         order.reverse();
     }
-    let spares: Vec<usize> = table.spares().iter().map(|&spare| spare as usize).collect();
+    let spares = table.spares();
     let least = (slip == Slip::SpareZeroTakes) as usize;
     let mut turns = Turns {
         links: &table.links,

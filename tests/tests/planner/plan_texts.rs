@@ -5,10 +5,10 @@ use planner_tests::random::Random;
 use planner_tests::reference::Table;
 use planner_tests::sites::{crowded, legal_of_size, marked, set_needs};
 
-/// The longest table, with every link kept.
-fn longest(random: &mut Random) -> Table {
+/// The longest table, with every link kept: each probe needs so many more links than it has.
+fn longest(more: usize, random: &mut Random) -> Table {
     let mut table = legal_of_size(256, 2048, random);
-    set_needs(&mut table, |_, degree| degree);
+    set_needs(&mut table, |_, degree| degree + more);
     table
 }
 
@@ -22,7 +22,8 @@ fn fits(table: &Table, random: &mut Random) -> usize {
         let printed = compare::plan_text(&text, length, random);
         assert_eq!(printed.as_ref(), Ok(&output));
     }
-    for short in [0, 1, 5, 16, 17, right - 13, right - 6, right - 5, right - 1] {
+    let cut = [1, 5, 6, 9, 13, 14].map(|less| right - less);
+    for short in [0, 1, 5, 16, 17].into_iter().chain(cut) {
         let printed = compare::plan_text(&text, short.min(right - 1), random);
         assert_eq!(printed, Err(8));
     }
@@ -31,20 +32,34 @@ fn fits(table: &Table, random: &mut Random) -> usize {
 
 #[test]
 fn outputs_that_just_fit() {
-    let mut random = Random::new(25);
+    let (mut random, mut short) = (Random::new(25), 0);
     for place in 0..8 {
         fits(&marked(place), &mut random);
     }
     for _ in 0..500 {
-        fits(&crowded(&mut random), &mut random);
+        let table = crowded(&mut random);
+        let length = fits(&table, &mut random);
+        let probes = table.short_probes().len();
+        assert_eq!((length - 22 - 9 * probes) % 13, 0);
+        short += usize::from(probes > 0);
     }
-    assert_eq!(fits(&longest(&mut random), &mut random), 26_646);
+    assert!(short > 100, "{short}");
+}
+
+/// All links kept, and no probe short or all.
+#[test]
+fn longest_outputs() {
+    let mut random = Random::new(37);
+    for (more, length) in [(0, 26_646), (1, 28_950), (65_280, 28_950)] {
+        let table = longest(more, &mut random);
+        assert_eq!(fits(&table, &mut random), length);
+    }
 }
 
 #[test]
 fn texts_longer_than_the_longest_table() {
     let mut random = Random::new(26);
-    let text = longest(&mut random).text();
+    let text = longest(1, &mut random).text();
     let (need, link) = (13, 13 + 5 * 256 + 13 * 1_000);
     let faults: [(usize, &[u8], u8); 7] = [
         (0, b"0001", 6),

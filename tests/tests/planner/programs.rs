@@ -6,8 +6,9 @@ use planner_tests::random::Random;
 use planner_tests::reference::{plan_output, table_of_text, Behind, Table};
 use planner_tests::repository::{program, top};
 use planner_tests::samples::{self, input, M11, M11_PRINTED, M4, M4_PRINTED};
+use planner_tests::samples::{VALLEY, VALLEY_PLANNED, VALLEY_PRINTED, VALLEY_SCRIPT};
 use planner_tests::script;
-use planner_tests::sites::{damage_text, legal_of_size, marked, M2};
+use planner_tests::sites::{damage_text, legal_of_size, marked, set_needs, M2};
 use std::fs::{self, File, OpenOptions};
 use std::io::{stderr, BufRead, BufReader, ErrorKind, Read, Write};
 use std::os::fd::OwnedFd;
@@ -110,15 +111,21 @@ fn file(path: &str) -> Vec<u8> {
     fs::read(&path).unwrap_or_else(|error| panic!("{}: {error}", path.display()))
 }
 
-/// 01's samples, which are among the examples.
+/// 01's samples and a site with a short probe, which are among the examples.
 #[test]
 fn samples() {
     assert_eq!(file("examples/m2.table"), M2.as_bytes());
     let expected = "000100020000000a\n000000010005\n000200030005\nffff\n";
     assert_eq!(run("plan", M2.as_bytes(), &WHOLE), expected.as_bytes());
+    let valley = samples::text(&VALLEY);
+    assert_eq!(file("examples/valley.table"), valley);
+    let expected = samples::text(&VALLEY_PLANNED);
+    assert_eq!(run("plan", &valley, &WHOLE), expected);
+    let script = [valley, samples::text(&VALLEY_SCRIPT)].concat();
     let scripts = [
         ("examples/m4.script", input(3, &M4), &M4_PRINTED[..]),
-        ("examples/m11.script", input(1, &M11), &M11_PRINTED[..]),
+        ("examples/m11.script", input(1, &M11), &M11_PRINTED),
+        ("examples/valley.script", script, &VALLEY_PRINTED),
     ];
     for (path, input, printed) in scripts {
         assert_eq!(file(path), input);
@@ -146,7 +153,7 @@ fn examples() {
             compare_script(&input, sizes);
         }
     }
-    assert!(tables >= 2 && scripts >= 2, "{tables} {scripts}");
+    assert!(tables >= 3 && scripts >= 3, "{tables} {scripts}");
 }
 
 #[test]
@@ -155,6 +162,19 @@ fn largest_example() {
     let table = table_of_text(&text, Behind::Nothing).expect("it is legal");
     assert_eq!([table.needs.len(), table.links.len()], [256, 2048]);
     assert_eq!(text.len(), 27_922);
+}
+
+/// The longest output: all links kept and all probes short. The script program prints nothing of
+/// them, and on such a site nothing can be opened.
+#[test]
+fn longest_output() {
+    let mut table = legal_of_size(256, 2048, &mut Random::new(84));
+    set_needs(&mut table, |probe, degree| degree + 1 + 255 * probe);
+    assert_eq!(table.short_probes().len(), 256);
+    let output = run("plan", &table.text(), &WHOLE);
+    assert_eq!(output.len(), 28_950);
+    assert!(output == plan_output(&table.text()));
+    assert_eq!(run("script", &table.text(), &WHOLE), b"0100000000\n");
 }
 
 /// The README's blocks of lines that have only digits, each line closed.

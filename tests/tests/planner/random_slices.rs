@@ -2,7 +2,7 @@
 
 use planner_tests::compare;
 use planner_tests::random::{each_seed, Random};
-use planner_tests::reference::{text_length, Behind};
+use planner_tests::reference::{text_length, Behind, WITHDRAWN};
 use planner_tests::sites::{self, Numbers};
 
 const CASES: u64 = 12_000;
@@ -48,7 +48,7 @@ fn check_plan_and_write(numbers: &Numbers, random: &mut Random) -> (Result<(), u
 
 #[test]
 fn legal_tables() {
-    let (mut fine, mut writes) = (0, 0);
+    let (mut fine, mut writes, mut short) = (0, 0, 0);
     each_seed(4, CASES, |random| {
         let table = sites::legal(random);
         let (probes, links) = (table.needs.len(), table.links.len());
@@ -59,8 +59,13 @@ fn legal_tables() {
         assert!(checked.is_ok() || !written);
         fine += checked.is_ok() as usize;
         writes += written as usize;
+        short += usize::from(written && !table.short_probes().is_empty());
     });
-    assert!(fine > 6_000 && writes > 3_000, "{fine} {writes}");
+    let reached = [fine, writes, short];
+    assert!(
+        fine > 6_000 && writes > 3_000 && short > 1_000,
+        "{reached:?}"
+    );
 }
 
 #[test]
@@ -72,8 +77,7 @@ fn damaged_tables() {
         let (checked, _) = check_plan_and_write(&numbers, random);
         tally[checked.err().unwrap_or(0) as usize] += 1;
     });
-    assert!(
-        [0, 3, 4, 5, 7, 8].iter().all(|&answer| tally[answer] > 300),
-        "{tally:?}"
-    );
+    assert_eq!(tally[usize::from(WITHDRAWN)], 0);
+    let often = |answer: usize| tally[answer] > 300;
+    assert!([0, 3, 4, 5, 8].into_iter().all(often), "{tally:?}");
 }

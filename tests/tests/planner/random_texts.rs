@@ -2,13 +2,49 @@
 
 use planner_tests::compare;
 use planner_tests::random::{each_seed, Random};
-use planner_tests::reference::{plan_output, Behind, Table};
+use planner_tests::reference::{plan_output, Behind, Table, WITHDRAWN};
 use planner_tests::sites::{self, Numbers};
 
 const CASES: u64 = 12_000;
 
-/// How often each refusal came; 0 stands for accepted.
-type Tally = [usize; 9];
+/// How often each refusal came, and tables read with and without short probes.
+#[derive(Debug, Default)]
+struct Tally {
+    refused: [usize; 9],
+    none_short: usize,
+    some_short: usize,
+    /// The short probes of the tables read.
+    short: usize,
+}
+
+impl Tally {
+    fn count(&mut self, read: &Result<Table, u8>) {
+        let short = match read {
+            Ok(table) => table.short_probes().len(),
+            Err(refusal) => return self.refused[usize::from(*refusal)] += 1,
+        };
+        match short {
+            0 => self.none_short += 1,
+            _ => self.some_short += 1,
+        }
+        self.short += short;
+    }
+
+    /// Tables were read more often than this, as many with short probes and as many without.
+    #[track_caller]
+    fn assert_read(&self, times: usize) {
+        let read = [self.none_short, self.some_short, self.short];
+        assert!(read.iter().all(|&count| count > times), "{self:?}");
+    }
+
+    /// Each of these refusals came more often than this, and a withdrawn one never.
+    #[track_caller]
+    fn assert_refused(&self, refusals: &[usize], times: usize) {
+        assert_eq!(self.refused[usize::from(WITHDRAWN)], 0);
+        let often = |&refusal: &usize| self.refused[refusal] > times;
+        assert!(refusals.iter().all(often), "{self:?}");
+    }
+}
 
 /// Prints the plan into a slice that fits, is one too short, or is longer.
 fn print(text: &[u8], random: &mut Random) {
@@ -23,7 +59,7 @@ fn print_and_read(text: &[u8], lengths: [usize; 4], random: &mut Random, tally: 
     print(text, random);
     for behind in Behind::BOTH {
         let read = compare::read(text, behind, lengths, random);
-        tally[read.as_ref().err().copied().unwrap_or(0) as usize] += 1;
+        tally.count(&read);
         let Ok(table) = read else {
             continue;
         };
@@ -48,8 +84,9 @@ fn legal_texts() {
         let lengths = lengths(&table, random);
         print_and_read(&table.text(), lengths, random, &mut tally);
     });
-    assert_eq!(tally[1..8], [0; 7]);
-    assert!(tally[0] > 10_000 && tally[8] > 1_000, "{tally:?}");
+    assert_eq!(tally.refused[..8], [0; 8]);
+    tally.assert_refused(&[8], 1_000);
+    tally.assert_read(5_000);
 }
 
 #[test]
@@ -63,10 +100,8 @@ fn texts_of_damaged_tables() {
         let lengths = lengths(&table, random);
         print_and_read(&table.text(), lengths, random, &mut tally);
     });
-    assert!(
-        [4, 5, 7].iter().all(|&refusal| tally[refusal] > 1_000),
-        "{tally:?}"
-    );
+    tally.assert_refused(&[4, 5], 1_000);
+    tally.assert_read(300);
 }
 
 #[test]
@@ -84,7 +119,8 @@ fn damaged_texts() {
         let lengths = lengths(&table, random);
         print_and_read(&text, lengths, random, &mut tally);
     });
-    assert!(tally.iter().all(|&times| times > 100), "{tally:?}");
+    tally.assert_refused(&[1, 2, 3, 4, 5, 6, 8], 100);
+    tally.assert_read(300);
 }
 
 #[test]
@@ -99,5 +135,5 @@ fn texts_of_any_bytes() {
         }
         print_and_read(&text, [2, 1, 1, 1], random, &mut tally);
     });
-    assert!(tally[1] > 1_000, "{tally:?}");
+    tally.assert_refused(&[1], 1_000);
 }

@@ -258,7 +258,7 @@ const CALLS: [(&str, Call); 21] = [
     }),
 ];
 
-/// Random and equal costs, eight hubs, all links needed, the rising band.
+/// Random and equal costs, eight hubs, all links needed, all probes short, the rising band.
 fn largest_sites() -> Vec<Table> {
     let random = &mut Random::new(90);
     let [random_costs, equal_costs] = [65_536, 1].map(|costs| {
@@ -266,19 +266,23 @@ fn largest_sites() -> Vec<Table> {
         half_needed(table, costs, random)
     });
     let hubs = [65_536, 1].map(|costs| half_needed(largest_hubs(), costs, random));
-    let mut needed = random_costs.clone();
-    set_needs(&mut needed, |_, degree| degree);
-    let mut sites = vec![random_costs, equal_costs, needed, rising_band(256)];
+    let [needed, short] = [0, 1].map(|more| {
+        let mut table = random_costs.clone();
+        set_needs(&mut table, |_, degree| degree + more);
+        table
+    });
+    let mut sites = vec![random_costs, equal_costs, needed, short, rising_band(256)];
     sites.extend(hubs);
     sites
 }
 
-/// The largest sites, one of them once more with a need above the links, and random small ones, so
-/// that the calls take every way; each with whether it is legal, as table 0001.
+/// The largest sites, one of them once more with its last link not after the one before it, and
+/// random small ones, so that the calls take every way; each with whether it is legal, as table
+/// 0001.
 fn sites() -> Vec<(Table, bool)> {
     let mut legal = largest_sites();
     let mut refused = legal[0].clone();
-    refused.needs[255] = 256;
+    refused.links[MOST_LINKS - 1] = refused.links[MOST_LINKS - 2];
     each_table(91, 100, |table, _| legal.push(table.clone()));
     legal.retain(|table| !table.links.is_empty());
     let mut sites: Vec<(Table, bool)> = legal.into_iter().map(|table| (table, true)).collect();
@@ -428,5 +432,5 @@ fn depth_of_the_programs() {
             runs += 2;
         }
     }
-    assert_eq!((runs, figures.len()), (60, of_crates().len() + 2));
+    assert_eq!((runs, figures.len()), (70, of_crates().len() + 2));
 }

@@ -38,7 +38,7 @@ fn same_logged(
 #[test]
 fn lines_of_a_fleet() {
     let mut tally = Tally::default();
-    each_table(96, 2_000, |table, random| {
+    each_table(96, 3_000, |table, random| {
         let (mut fleet, mut log) = (Fleet::fresh(table), any_log(random));
         fleet.numbers.lend_longer(random);
         let mut channel = Channel::over(table, any_mix(random));

@@ -132,6 +132,6 @@ fn damaged_tables() {
             }
         }
     });
-    tally.assert_often(&[3, 4, 5, 7, 8, 20, 21, 24]);
+    tally.assert_often(&[3, 4, 5, 8, 20, 21, 24]);
     assert!(tally.answers() > 30_000);
 }

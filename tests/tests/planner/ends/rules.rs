@@ -286,6 +286,7 @@ fn bargain(table: &Table, random: &mut Random) -> Vec<End> {
 
 #[test]
 fn ends_finish_with_the_plan() {
+    let mut with_short = 0;
     each_seed(6, 600, |random| {
         let probes = 2 + random.below(6);
         let links = random.below(probes * (probes - 1) / 2 + 1);
@@ -297,7 +298,9 @@ fn ends_finish_with_the_plan() {
                 assert_eq!(ends[end].rests(place as u16), Ok(!kept[place]));
             }
         }
+        with_short += usize::from(!table.short_probes().is_empty());
     });
+    assert!(with_short > 100, "{with_short}");
 }
 
 /// Offered all its links, an end holds the dearest in the end.
@@ -306,7 +309,7 @@ fn hold_the_dearest(table: &Table, probe: u16) {
     let own = own_links(table, probe);
     let order = falling(&table.links).into_iter();
     let falling: Vec<usize> = order.filter(|place| own.contains(place)).collect();
-    let spare = table.spares()[usize::from(probe)] as usize;
+    let spare = table.spares()[usize::from(probe)];
     let mut end = End::fresh(table, probe);
     for &place in &falling[..spare] {
         assert_eq!(end.open(1), Ok(What::Opened(place)));

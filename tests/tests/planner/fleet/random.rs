@@ -102,7 +102,7 @@ fn any_record(table: &Table, random: &mut Random) -> Vec<u8> {
                 1 if *left == 0 => random.pick(&[0, 2]),
                 _ => byte,
             };
-            *left -= i64::from(record[BYTES * place + at] == 1);
+            *left -= usize::from(record[BYTES * place + at] == 1);
         }
     }
     record
@@ -174,6 +174,6 @@ fn damaged_tables() {
             }
         }
     });
-    tally.assert_often(&[3, 4, 5, 7, 8, 20, 21]);
+    tally.assert_often(&[3, 4, 5, 8, 20, 21]);
     assert!(tally.answers() >= 40_000);
 }

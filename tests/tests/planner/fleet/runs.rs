@@ -171,7 +171,7 @@ impl Run<'_> {
         assert_eq!(what, What::NothingToOpen);
     }
 
-    /// Both ends rest a link exactly when the plan does not keep it, and every need is met.
+    /// Both ends rest a link exactly when the plan does not keep it, and every counted need is met.
     #[track_caller]
     fn assert_planned(&self) {
         let kept = slse(self.table).kept;
@@ -184,8 +184,8 @@ impl Run<'_> {
                 ends.into_iter().for_each(|end| awake[end] += 1);
             }
         }
-        let met = |(awake, need): (&u16, &u16)| awake >= need;
-        assert!(awake.iter().zip(&self.table.needs).all(met));
+        let met = |(awake, need): (&usize, usize)| *awake >= need;
+        assert!(awake.iter().zip(self.table.counted_needs()).all(met));
         assert!(self.changes.iter().all(|&changes| changes <= 4));
     }
 }
@@ -220,14 +220,18 @@ fn marked_sites() {
 
 #[test]
 fn small_sites() {
-    let mut events = 0;
+    let (mut events, mut with_short) = (0, 0);
     each_seed(47, 600, |random| {
         let probes = 1 + random.below(9);
         let links = random.below(probes * (probes - 1) / 2 + 1);
         let table = legal_of_size(probes, links, random);
         events += run_all(&table, ORDERS, random);
+        with_short += usize::from(!table.short_probes().is_empty());
     });
-    assert!(events > 100_000, "{events}");
+    assert!(
+        events > 100_000 && with_short > 100,
+        "{events} {with_short}"
+    );
 }
 
 #[test]

@@ -101,7 +101,7 @@ fn refused_table() {
         ),
         ("000100020001\n0000\n0000\n000000010007\nffff", "e006"),
         ("000100020001\n0000\n0000\n000000010007\nFFFF\n", "e006"),
-        ("000100020001\n0002\n0000\n000000010007\nffff\n", "e007"),
+        ("000100020001\n0002\n0000\n000000010007\nfffe\n", "e006"),
     ];
     for (table, refusal) in tables {
         assert_eq!(printed(table.as_bytes()), [refusal]);
