@@ -10,7 +10,7 @@ use lib.Seq.{sets}
 use borrow.Author.Tests.{eq-eqb, ne-eqb, lt-ltb, le-ltb}
 use Rattle.range.specs.Reply.{refusal, values}
 use Rattle.range.proofs.Sets.{sets-start}
-use Rattle.output.specs.Output.{shortFault, outputReply, Prints}
+use Rattle.output.specs.Output.{outputFault, outputReply, Prints}
 use Rattle.output.specs.declared.Output.{Output}
 use Rattle.output.specs.declared.Output.the-variants.{Length, Refused}
 
@@ -22,10 +22,10 @@ prints-done fault n printed out out′ f e l w =
     let none = eq-eqb fault 0 f in
     record { answer = rw (none, e); out = rw none (w ∙ sets-start out printed (omega arith)) }
 
-pub too-short : (room : ℕ) (printed : List ℕ) → room < length printed → 8 ≡ shortFault room printed
+pub too-short : (room : ℕ) (printed : List ℕ) → room < length printed → 8 ≡ outputFault room printed
 too-short room printed l = rw (lt-ltb room (length printed) l)
 
-pub long-enough : (room : ℕ) (printed : List ℕ) → length printed ≤ room → shortFault room printed ≡ 0
+pub long-enough : (room : ℕ) (printed : List ℕ) → length printed ≤ room → outputFault room printed ≡ 0
 long-enough room printed l = rw (le-ltb room (length printed) l)
 
 -- what a lent slice is filled with stands within it

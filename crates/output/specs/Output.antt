@@ -14,8 +14,8 @@ abbrev pub refusalLine : ℕ → List ℕ
 refusalLine k = 101 ∷ (k / 100 % 10 + 48) ∷ (k / 10 % 10 + 48) ∷ (k % 10 + 48) ∷ 10 ∷ []
 
 -- "a lent .. output slice too short" for what is to be printed
-abbrev pub shortFault : ℕ → List ℕ → ℕ
-shortFault room printed = cond (ltb room (length printed)) 8 0
+abbrev pub outputFault : ℕ → List ℕ → ℕ
+outputFault room printed = cond (ltb room (length printed)) 8 0
 
 -- the answer's value: the length printed
 abbrev pub outputReply : Output → Reply

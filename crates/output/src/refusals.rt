@@ -4,7 +4,7 @@ ghost use mathlib.Core.Path.{_≡_};
 ghost use Prim.Native.Nat.{_+_, _≤_};
 ghost use lib.ListN.{length};
 ghost use lib.Seq.{sets};
-ghost use Rattle.output.specs.Output.{refusalLine, shortFault, Prints};
+ghost use Rattle.output.specs.Output.{refusalLine, outputFault, Prints};
 
 // A refusal's line at an offset.
 pub fn put_refusal(out: &mut [u8], at: usize, fault: u8)
@@ -20,7 +20,7 @@ pub fn put_refusal(out: &mut [u8], at: usize, fault: u8)
 
 // A refusal's line alone.
 pub fn print_refusal(out: &mut [u8], fault: u8) -> Output
-    ensures { λ r. ⌜ Prints (shortFault (length (now (out .entry))) (refusalLine fault)) (refusalLine fault) r (now (out .entry)) (now (out .exit)) ⌝ }
+    ensures { λ r. ⌜ Prints (outputFault (length (now (out .entry))) (refusalLine fault)) (refusalLine fault) r (now (out .entry)) (now (out .exit)) ⌝ }
 {
     if out.len() < 5 {
         return Output::Refused(8);

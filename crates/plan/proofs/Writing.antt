@@ -6,7 +6,7 @@ use native.Mathlib.Omega.{arith}
 use native.Mathlib.Decide.{decLt}
 use lib.ListN.{length, take}
 use lib.Seq.{take-all}
-use Rattle.output.specs.Output.{shortFault, outputReply, Prints}
+use Rattle.output.specs.Output.{outputFault, outputReply, Prints}
 use Rattle.output.specs.declared.Output.{Output}
 use Rattle.output.specs.declared.Output.the-variants.{Length, Refused}
 use Rattle.output.proofs.Printing.{long-enough}
@@ -27,7 +27,7 @@ pub plan-writes : (input : List ℕ) → PlanWrites input
 plan-writes input = record { writes = λ written w. wrote-is (outputOf (take 27923 input)) written w ∙ same-output input }
 
 -- the program's slice holds every output, so the text is printed and no refusal occurs
-module _ (s : List ℕ) (r : Output) (out out′ : List ℕ) (long : 28950 ≤ length out) (p : Prints (shortFault (length out) (outputOf s)) (outputOf s) r out out′) where
+module _ (s : List ℕ) (r : Output) (out out′ : List ℕ) (long : 28950 ≤ length out) (p : Prints (outputFault (length out) (outputOf s)) (outputOf s) r out out′) where
   pub print-done : (n : ℕ) → r ≡ Length n → Prints 0 (outputOf s) (Length n) out out′
   print-done n e =
       let k = most s in

@@ -4,7 +4,7 @@ ghost use lib.ListN.{length};
 ghost use Rattle.table.specs.Slices.{slicesOf};
 ghost use Rattle.plan_methods.specs.Planning.{planningReply};
 ghost use Rattle.plan_exports.specs.Packed.{SlsePacked, TurnsPacked, packedPlanning};
-ghost use Rattle.output.specs.Output.{shortFault};
+ghost use Rattle.output.specs.Output.{outputFault};
 ghost use Rattle.plan_output.specs.Output.{outputOf};
 ghost use Rattle.packed_answers.specs.Packed.{PrintsPacked};
 use packed_answers::ANSWER_BASE;
@@ -63,7 +63,7 @@ pub extern "C" fn planner_plan_turns(
 #[no_mangle]
 pub extern "C" fn planner_plan_text(text: &[u8], out: &mut [u8]) -> u64
     ensures { λ r. let printed = outputOf (now (text .entry)) in
-        ⌜ PrintsPacked (shortFault (length (now (out .entry))) printed) printed r (now (out .entry)) (now (out .exit)) ⌝ }
+        ⌜ PrintsPacked (outputFault (length (now (out .entry))) printed) printed r (now (out .entry)) (now (out .exit)) ⌝ }
 {
     packed_output(plan_output::plan_text(text, out))
 }

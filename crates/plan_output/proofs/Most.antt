@@ -13,7 +13,7 @@ use Rattle.table.specs.Text.{ofText, textFault}
 use Rattle.table_text.proofs.Good.{text-head}
 use Rattle.plan_theory.specs.Plan.{kept}
 use Rattle.plan_output.specs.Output.{outputOf}
-use Rattle.output.specs.Output.{shortFault, Prints}
+use Rattle.output.specs.Output.{outputFault, Prints}
 use Rattle.output.specs.declared.Output.{Output}
 use Rattle.output.specs.declared.Output.the-variants.{Length}
 use Rattle.output.proofs.Printing.{prints-answer, long-enough}
@@ -31,7 +31,7 @@ most s = go (ℕ-discrete (textFault 256 2048 false s) 0)
         rw (eq-eqb (textFault 256 2048 false s) 0 e) (omega arith)
     go (no n) = rw (ne-eqb (textFault 256 2048 false s) 0 n) (omega arith)
 
-pub always-printed : (s : List ℕ) (r : Output) (out out′ : List ℕ) → 28950 ≤ length out → Prints (shortFault (length out) (outputOf s)) (outputOf s) r out out′ → r ≡ Length (length (outputOf s))
+pub always-printed : (s : List ℕ) (r : Output) (out out′ : List ℕ) → 28950 ≤ length out → Prints (outputFault (length out) (outputOf s)) (outputOf s) r out out′ → r ≡ Length (length (outputOf s))
 always-printed s r out out′ l p =
     let k = most s in
     prints-answer p ∙ rw (long-enough (length out) (outputOf s) (omega arith))

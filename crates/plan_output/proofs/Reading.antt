@@ -13,14 +13,14 @@ use Rattle.table.specs.Slices.{tableOf, slicesRoomFault, slicesFault}
 use Rattle.table_read.specs.Reading.{Lent}
 use Rattle.table_laws.specs.Functions.{lentSlices, ReadTable}
 use Rattle.table_laws.proofs.Reading.{blank, blank-found, accepted, refusal-is, read-none, read-same, read-legal, read-held}
-use Rattle.output.specs.Output.{refusalLine, shortFault, Prints}
+use Rattle.output.specs.Output.{refusalLine, outputFault, Prints}
 use Rattle.output.specs.declared.Output.{Output}
 use Rattle.plan_output.specs.Output.{planText, outputOf}
 use Rattle.plan_output.proofs.Same.{same-plan}
 
 module _ (s : List ℕ) (r : Reading) (b : Lent) (read : ReadTable s r blank b) where
-  pub refusal-printed : (refusal : ℕ) (o : Output) (out out′ : List ℕ) → r ≡ Unread refusal → Prints (shortFault (length out) (refusalLine refusal)) (refusalLine refusal) o out out′
-      → Prints (shortFault (length out) (outputOf s)) (outputOf s) o out out′
+  pub refusal-printed : (refusal : ℕ) (o : Output) (out out′ : List ℕ) → r ≡ Unread refusal → Prints (outputFault (length out) (refusalLine refusal)) (refusalLine refusal) o out out′
+      → Prints (outputFault (length out) (outputOf s)) (outputOf s) o out out′
   refusal-printed refusal o out out′ e p =
       let n = refusal-is false s r blank b read refusal e in
       rw (ne-eqb (textFault 256 2048 false s) 0 (λ z. n .1 (blank-found false s ∙ z)), ← n .0 ∙ blank-found false s) p
@@ -31,8 +31,8 @@ module _ (s : List ℕ) (r : Reading) (b : Lent) (read : ReadTable s r blank b) 
       ∙ read-legal false s r blank b read number probes links rest e
 
   pub plan-printed : (number probes links rest : ℕ) → r ≡ Read number probes links rest → (o : Output) (out out′ : List ℕ)
-      → Prints (shortFault (length out) (planText (tableOf (lentSlices number probes links b)))) (planText (tableOf (lentSlices number probes links b))) o out out′
-      → Prints (shortFault (length out) (outputOf s)) (outputOf s) o out out′
+      → Prints (outputFault (length out) (planText (tableOf (lentSlices number probes links b)))) (planText (tableOf (lentSlices number probes links b))) o out out′
+      → Prints (outputFault (length out) (outputOf s)) (outputOf s) o out out′
   plan-printed number probes links rest e o out out′ p =
       let t = tableOf (lentSlices number probes links b) in
       let z = accepted false s r blank b read (read-none false s r blank b read number probes links rest e) in

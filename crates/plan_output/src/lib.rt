@@ -1,7 +1,7 @@
 // The plan of a table's text, as the plan program prints it.
 use output::Output;
 ghost use lib.ListN.{length};
-ghost use Rattle.output.specs.Output.{shortFault, Prints};
+ghost use Rattle.output.specs.Output.{outputFault, Prints};
 ghost use Rattle.plan_output.specs.Output.{outputOf};
 
 pub mod plan_lines;
@@ -12,7 +12,7 @@ pub mod text;
 // Prints the plan of the table that a text gives, or the text's refusal.
 pub fn plan_text(text: &[u8], out: &mut [u8]) -> Output
     ensures { λ r. let printed = outputOf (now (text .entry)) in
-        ⌜ Prints (shortFault (length (now (out .entry))) printed) printed r (now (out .entry)) (now (out .exit)) ⌝ }
+        ⌜ Prints (outputFault (length (now (out .entry))) printed) printed r (now (out .entry)) (now (out .exit)) ⌝ }
 {
     let mut needs = [0u16; 256];
     let mut lows = [0u16; 2048];

@@ -4,7 +4,7 @@ use table::CLOSING_BYTES;
 ghost use mathlib.Core.Path.{_≡_};
 ghost use lib.ListN.{length};
 ghost use Rattle.table.specs.Slices.{slicesOf, tableOf, slicesFault};
-ghost use Rattle.output.specs.Output.{shortFault, Prints};
+ghost use Rattle.output.specs.Output.{outputFault, Prints};
 ghost use Rattle.plan_output.specs.Output.{planText};
 
 // Prints the plan of the legal table in these slices.
@@ -22,7 +22,7 @@ pub fn print_plan(
         ⌜ slicesFault x ≡ 0 ⌝ }
     ensures { λ r. let x = slicesOf number probes links (now (needs .entry)) (now (lows .entry)) (now (highs .entry)) (now (costs .entry)) in
         let printed = planText (tableOf x) in
-        ⌜ Prints (shortFault (length (now (out .entry))) printed) printed r (now (out .entry)) (now (out .exit)) ⌝ }
+        ⌜ Prints (outputFault (length (now (out .entry))) printed) printed r (now (out .entry)) (now (out .exit)) ⌝ }
 {
     let mut plan = [0u8; 2048];
     plan_methods::limited::slse_plan(&mut plan, links, needs, lows, highs, costs);

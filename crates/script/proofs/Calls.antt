@@ -10,7 +10,7 @@ use borrow.Author.Tests.{lt-ltb}
 use Rattle.range.proofs.Faults.{or-none}
 use Rattle.fleet_theory.specs.Fleet.{fleetFault}
 use Rattle.table.specs.Slices.{Slices, tableOf, slicesFault}
-use Rattle.output.specs.Output.{outputReply, shortFault, Prints}
+use Rattle.output.specs.Output.{outputReply, outputFault, Prints}
 use Rattle.output.specs.declared.Output.{Output}
 use Rattle.output.specs.declared.Output.the-variants as output
 use Rattle.output.proofs.Printing.{long-enough, prints-answer}
@@ -24,7 +24,7 @@ module _ (x : Slices) (fine : slicesFault x ≡ 0) (rec : List ℕ) (good : flee
       let n = length-end x rec held changed in
       let m = end-most (eqb held 0) in
       let room-none = long-enough (length out) (endText x rec held changed) (omega arith) in
-      or-none (shortFault (length out) (endText x rec held changed)) (siteFault x rec) room-none ∙ rw (fine, good)
+      or-none (outputFault (length out) (endText x rec held changed)) (siteFault x rec) room-none ∙ rw (fine, good)
 
 -- printed, and not refused
 module _ (fault : ℕ) (printed : List ℕ) (r : Output) (out out′ : List ℕ) (h : Prints fault printed r out out′) where

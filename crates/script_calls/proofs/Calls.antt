@@ -14,7 +14,7 @@ use Rattle.range.proofs.Bools.{decided}
 use Rattle.range.proofs.Faults.{or-none}
 use Rattle.table.specs.Slices.{Slices, tableOf, slicesFault}
 use Rattle.table.specs.Legal.{lentFault}
-use Rattle.output.specs.Output.{shortFault, Prints}
+use Rattle.output.specs.Output.{outputFault, Prints}
 use Rattle.output.specs.declared.Output.{Output}
 use Rattle.output.proofs.Printing.{prints-answer, long-enough}
 use Rattle.fleet_theory.specs.Fleet.{fleetFault, start}
@@ -104,14 +104,14 @@ module _ (x : Slices) (fine : slicesFault x ≡ 0) where
     line-none = rw (le-ltb (length (b .line)) 16 (l .long))
 
     -- the only fault that is left is 8 of the output slice
-    fault-is : pieceCallFault (c .slices) (b .progress) (c .piece) (b .bytes) (b .line) (c .out) ≡ shortFault (length (c .out)) (after b c .out)
+    fault-is : pieceCallFault (c .slices) (b .progress) (c .piece) (b .bytes) (b .line) (c .out) ≡ outputFault (length (c .out)) (after b c .out)
     fault-is =
-        let last : Slices → ℕ = λ y. shortFault (length (c .out)) (afterPiece y 1024 (scriptOf b) (c .piece) .out) in
+        let last : Slices → ℕ = λ y. outputFault (length (c .out)) (afterPiece y 1024 (scriptOf b) (c .piece) .out) in
         or-none (lentFault (length (b .line)) 16) (orElse (siteFault (c .slices) (b .bytes)) (last (c .slices))) line-none
         ∙ or-none (siteFault (c .slices) (b .bytes)) (last (c .slices)) site-none
-        ∙ ap (λ (q : Script). shortFault (length (c .out)) (q .out)) same-after
+        ∙ ap (λ (q : Script). outputFault (length (c .out)) (q .out)) same-after
 
-    handles : Handles (shortFault (length (c .out)) (after b c .out)) (after b c) (c .answer) (b .bytes) (c .bytes) (b .line) (c .line) (c .out) (c .out′)
+    handles : Handles (outputFault (length (c .out)) (after b c .out)) (after b c) (c .answer) (b .bytes) (c .bytes) (b .line) (c .line) (c .out) (c .out′)
     handles = rw (fault-is, same-after) at (k .promise)
 
     called : Called b c
@@ -249,7 +249,7 @@ module _ (x : Slices) (fine : slicesFault x ≡ 0) (line : List ℕ) (long : 16 
       let fine′ = same-fine x y fine same in
       let passes = same-fleet (tableOf y) (tableOf x) (same .same) (b .bytes) ∙ passes-after in
       let site = or-none (slicesFault y) (fleetFault (tableOf y) (b .bytes)) fine′ ∙ passes in
-      let none : endCallFault y (b .bytes) printed out ≡ 0 = or-none (shortFault (length out) printed) (siteFault y (b .bytes)) (long-enough (length out) printed room) ∙ site in
+      let none : endCallFault y (b .bytes) printed out ≡ 0 = or-none (outputFault (length out) printed) (siteFault y (b .bytes)) (long-enough (length out) printed room) ∙ site in
       let h = rw none at p in
       rw (prints-answer h, h .out) (take-append-seam printed (drop (length printed) out)) ∙ same-end y x (same .same) fine′ fine 1024 (b .bytes) (b .progress .held) (b .progress .changed)
 

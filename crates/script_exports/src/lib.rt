@@ -1,7 +1,7 @@
 // The library of scripts for C and Rust: whole, in pieces, and the end.
 ghost use lib.ListN.{length};
 ghost use Rattle.table.specs.Slices.{slicesOf};
-ghost use Rattle.output.specs.Output.{shortFault};
+ghost use Rattle.output.specs.Output.{outputFault};
 ghost use Rattle.script_theory.specs.Script.{endText, scriptOutput};
 ghost use Rattle.script_output.specs.Handling.{endCallFault};
 ghost use Rattle.packed_answers.specs.Packed.{PrintsPacked};
@@ -15,7 +15,7 @@ use script_steps::Progress;
 #[no_mangle]
 pub extern "C" fn planner_script_text(text: &[u8], out: &mut [u8]) -> u64
     ensures { λ r. let printed = scriptOutput (now (text .entry)) in
-        ⌜ PrintsPacked (shortFault (length (now (out .entry))) printed) printed r (now (out .entry)) (now (out .exit)) ⌝ }
+        ⌜ PrintsPacked (outputFault (length (now (out .entry))) printed) printed r (now (out .entry)) (now (out .exit)) ⌝ }
 {
     packed_output(script_output::script_text(text, out))
 }

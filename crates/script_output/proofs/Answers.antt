@@ -14,7 +14,7 @@ use Rattle.range.specs.Reply.{refusal, values}
 use Rattle.range.proofs.Bools.{when-none}
 use Rattle.range.proofs.Faults.{or-left, or-right, or-here, or-next}
 use Rattle.range.proofs.Sets.{sets-start}
-use Rattle.output.specs.Output.{shortFault}
+use Rattle.output.specs.Output.{outputFault}
 use Rattle.output.proofs.Printing.{filled-within}
 use Rattle.fleet_theory.specs.Fleet.{fleetFault}
 use Rattle.table.specs.Legal.{lentFault}
@@ -85,10 +85,10 @@ module _ (x : Slices) (p : Script) (piece : List ℕ) (line room state : ℕ) (l
   printed = afterPiece x 1024 p piece .out
 
   pub fault-site : (state ≡ 0 → ⊥) → state ≡ pieceFault x p piece line room
-  fault-site some = rw (le-ltb line 16 long) (or-here state (siteFault x (p .bytes)) (shortFault room printed) f some)
+  fault-site some = rw (le-ltb line 16 long) (or-here state (siteFault x (p .bytes)) (outputFault room printed) f some)
 
-  pub fault-short : (n : ℕ) → state ≡ 0 → n ≡ shortFault room printed → n ≡ pieceFault x p piece line room
-  fault-short n none e = rw (le-ltb line 16 long) (or-next state (siteFault x (p .bytes)) (shortFault room printed) n f none e)
+  pub fault-short : (n : ℕ) → state ≡ 0 → n ≡ outputFault room printed → n ≡ pieceFault x p piece line room
+  fault-short n none e = rw (le-ltb line 16 long) (or-next state (siteFault x (p .bytes)) (outputFault room printed) n f none e)
 
 -- what a piece's call has found, where it found no fault
 pub record Given (x : Slices) (q : Script) (rec line : List ℕ) (held room : ℕ) : Type 0 where
@@ -116,7 +116,7 @@ module _ (x : Slices) (b p : Progress) (piece rec line : List ℕ) (room fault :
       let printed = afterPiece x 1024 (before p rec line) piece .out in
       let short = lentFault (length line) 16 in
       let state = orElse (slicesFault x) (fleetFault (tableOf x) rec) in
-      let last = shortFault room printed in
+      let last = outputFault room printed in
       let z = sym call-is ∙ none in
       let rest = or-right short (orElse state last) z in
       let good = or-left state last rest in

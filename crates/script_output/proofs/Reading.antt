@@ -17,7 +17,7 @@ use Rattle.table_read.specs.declared.Reading.the-variants.{Table as Read, Refus
 use Rattle.table_text.proofs.Good.{text-head}
 use Rattle.table_laws.proofs.Round.{text-within}
 use Rattle.table_laws.proofs.Reading.{blank, blank-found, accepted, refusal-is, read-none, read-numbers, read-legal, read-held}
-use Rattle.output.specs.Output.{refusalLine, shortFault, Prints}
+use Rattle.output.specs.Output.{refusalLine, outputFault, Prints}
 use Rattle.output.specs.declared.Output.{Output}
 use Rattle.table.specs.Slices.{Slices, slicesFault, slicesOf}
 use Rattle.script_theory.specs.Script.{inSlices, scriptText, scriptOutput}
@@ -40,8 +40,8 @@ module _ (s : List ℕ) (r : Reading) (needs lows highs costs : List ℕ)
   abbrev b : Lent
   b = lentOf needs lows highs costs
 
-  pub refusal-printed : (n : ℕ) (o : Output) (out out′ : List ℕ) → r ≡ Unread n → Prints (shortFault (length out) (refusalLine n)) (refusalLine n) o out out′
-      → Prints (shortFault (length out) (scriptOutput s)) (scriptOutput s) o out out′
+  pub refusal-printed : (n : ℕ) (o : Output) (out out′ : List ℕ) → r ≡ Unread n → Prints (outputFault (length out) (refusalLine n)) (refusalLine n) o out out′
+      → Prints (outputFault (length out) (scriptOutput s)) (scriptOutput s) o out out′
   refusal-printed n o out out′ e p =
       let u = refusal-is true s r blank b read n e in
       rw (ne-eqb (textFault 256 2048 true s) 0 (λ z. u .1 (blank-found true s ∙ z)), ← u .0 ∙ blank-found true s) p
@@ -72,12 +72,12 @@ module _ (s : List ℕ) (r : Reading) (needs lows highs costs : List ℕ)
     behind-is = take-all (length s - rest) (drop rest s) (let n = length-drop rest s in omega arith)
 
     pub script-printed : (o : Output) (out out′ : List ℕ)
-        → (let text = scriptText (slicesOf number probes links needs lows highs costs) 1024 behind in Prints (shortFault (length out) text) text o out out′)
-        → Prints (shortFault (length out) (scriptOutput s)) (scriptOutput s) o out out′
+        → (let text = scriptText (slicesOf number probes links needs lows highs costs) 1024 behind in Prints (outputFault (length out) text) text o out out′)
+        → Prints (outputFault (length out) (scriptOutput s)) (scriptOutput s) o out out′
     script-printed o out out′ p =
         let same : scriptText (slicesOf number probes links needs lows highs costs) 1024 behind ≡ scriptOutput s =
         ap (λ (x : Slices). scriptText x 1024 behind) slices-are
         ∙ ap (λ (z : List ℕ). scriptText (inSlices (ofText s)) 1024 z) behind-is
         ∙ ap (λ (m : ℕ). scriptText (inSlices (ofText s)) 1024 (drop m s)) (is .3)
         ∙ sym (output-read s (accepted true s r blank b read none)) in
-        subst (λ (z : List ℕ). Prints (shortFault (length out) z) z o out out′) same p
+        subst (λ (z : List ℕ). Prints (outputFault (length out) z) z o out out′) same p

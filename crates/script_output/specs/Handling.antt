@@ -10,7 +10,7 @@ use Rattle.range.specs.Reply.{Reply, refusal, values, replyOf}
 use Rattle.fleet_theory.specs.Fleet.{fleetFault}
 use Rattle.table.specs.Legal.{lentFault}
 use Rattle.table.specs.Slices.{Slices, tableOf, slicesFault}
-use Rattle.output.specs.Output.{shortFault, printedInto}
+use Rattle.output.specs.Output.{outputFault, printedInto}
 use Rattle.script_theory.specs.Script.{Script, afterPiece}
 use Rattle.script_steps.specs.declared.Progress.{Progress}
 use Rattle.script_output.specs.declared.Handling.{Handling}
@@ -27,7 +27,7 @@ siteFault x rec = orElse (slicesFault x) (fleetFault (tableOf x) rec)
 -- The fault of a piece behind the script p, with so many bytes for an unfinished line and so many for what is printed: "a lent .. output slice too short".
 -- 8 for fewer than 16 bytes for an unfinished line comes first; 8 for what is printed comes last, exactly where it is longer than its slice.
 abbrev pub pieceFault : Slices → Script → List ℕ → ℕ → ℕ → ℕ
-pieceFault x p piece line room = orElse (lentFault line 16) (orElse (siteFault x (p .bytes)) (shortFault room (afterPiece x 1024 p piece .out)))
+pieceFault x p piece line room = orElse (lentFault line 16) (orElse (siteFault x (p .bytes)) (outputFault room (afterPiece x 1024 p piece .out)))
 
 -- the answer's values: the length printed, and how far the script has come
 abbrev pub handlingReply : Handling → Reply
@@ -50,7 +50,7 @@ pieceCallFault x p piece rec line out = pieceFault x (before p rec line) piece (
 
 -- the fault of the text's end: the length of what it prints does not depend on the table, so 8 comes first
 abbrev pub endCallFault : Slices → List ℕ → List ℕ → List ℕ → ℕ
-endCallFault x rec printed out = orElse (shortFault (length out) printed) (siteFault x rec)
+endCallFault x rec printed out = orElse (outputFault (length out) printed) (siteFault x rec)
 
 -- "For each it prints the entry .. A refused line prints its refusal and the script goes on." "Its log has 1,024 entries."
 abbrev pub HandlesPiece : Slices → Progress → List ℕ → Handling → List ℕ → List ℕ → List ℕ → List ℕ → List ℕ → List ℕ → Type 0

@@ -6,7 +6,7 @@ ghost use mathlib.Core.Bool.{cond};
 ghost use Prim.Native.Nat.{ℕ, _≤_, _<_};
 ghost use lib.Dec.{ltb};
 ghost use lib.ListN.{length, getD};
-ghost use Rattle.output.specs.Output.{shortFault, Prints};
+ghost use Rattle.output.specs.Output.{outputFault, Prints};
 ghost use Rattle.table.specs.Table.{Degrees};
 ghost use Rattle.table.specs.Slices.{slicesOf, tableOf};
 ghost use Rattle.script_theory.specs.Script.{endText, scriptOutput};
@@ -214,7 +214,7 @@ pub fn script_end(
 // Prints what a whole text prints: a table and, behind its closing line, the script.
 pub fn script_text(text: &[u8], out: &mut [u8]) -> Output
     ensures { λ r. let printed = scriptOutput (now (text .entry)) in
-        ⌜ Prints (shortFault (length (now (out .entry))) printed) printed r (now (out .entry)) (now (out .exit)) ⌝ }
+        ⌜ Prints (outputFault (length (now (out .entry))) printed) printed r (now (out .entry)) (now (out .exit)) ⌝ }
 {
     let mut needs = [0u16; 256];
     let mut lows = [0u16; 2048];

@@ -13,7 +13,7 @@ ghost use Rattle.table.specs.Table.{ofSlices, Degrees};
 ghost use Rattle.table.specs.Slices.{slicesFault, tableOf, slicesOf};
 ghost use Rattle.fleet_state.specs.Within.{LegalWithoutCosts};
 ghost use Rattle.fleet.specs.Answers.{changesBy};
-ghost use Rattle.output.specs.Output.{shortFault, Prints};
+ghost use Rattle.output.specs.Output.{outputFault, Prints};
 ghost use Rattle.script_lines.specs.Fitting.{capped, storedWithin};
 ghost use Rattle.script_theory.specs.Script.{endText, scriptText, afterLine, afterByte, afterPiece};
 ghost use Rattle.wake_log.specs.Entry.{acceptedBy};
@@ -410,7 +410,7 @@ pub fn print_script(
     requires { ⌜ slicesFault (slicesOf number probes links (now needs) (now lows) (now highs) (now costs)) ≡ 0 ⌝ }
     ensures { λ r. let x = slicesOf number probes links (now (needs .entry)) (now (lows .entry)) (now (highs .entry)) (now (costs .entry)) in
         let printed = scriptText x 1024 (now (text .entry)) in
-        ⌜ Prints (shortFault (length (now (out .entry))) printed) printed r (now (out .entry)) (now (out .exit)) ⌝ }
+        ⌜ Prints (outputFault (length (now (out .entry))) printed) printed r (now (out .entry)) (now (out .exit)) ⌝ }
 {
     let mut degrees = [0u16; 256];
     table::degrees::count_degrees(&mut degrees, links, lows, highs);

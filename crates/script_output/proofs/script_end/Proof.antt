@@ -17,7 +17,7 @@ use Rattle.fleet_theory.specs.Fleet.{fleetFault}
 use Rattle.fleet_state.proofs.Legal.{fits}
 use Rattle.fleet_state.proofs.CheckLaws.{fleet-good}
 use Rattle.fleet.proofs.Calls.{state-is}
-use Rattle.output.specs.Output.{shortFault}
+use Rattle.output.specs.Output.{outputFault}
 use Rattle.output.proofs.Printing.{prints-refused, prints-done, too-short, long-enough}
 use Rattle.script_lines.proofs.Fitting.{capped-below, stored-fits}
 use Rattle.script_theory.specs.Script.{endText}
@@ -36,7 +36,7 @@ returns c =
     let printed = endText x (a .rec .now) (a .progress .held) (a .progress .changed) in
     let n = length-end x (a .rec .now) (a .progress .held) (a .progress .changed) in
     let short : length (a .out .now) < length printed = omega (arith, at-end-length .end-length .ensures, c .if1 .taken) in
-    prints-refused _ 8 printed (a .out .now) (or-here 8 (shortFault (length (a .out .now)) printed) (siteFault x (a .rec .now)) (too-short (length (a .out .now)) printed short) (λ z. omega arith)) (λ z. omega arith)
+    prints-refused _ 8 printed (a .out .now) (or-here 8 (outputFault (length (a .out .now)) printed) (siteFault x (a .rec .now)) (too-short (length (a .out .now)) printed short) (λ z. omega arith)) (λ z. omega arith)
 
 slice-aggregate-state-fault : tie.Need-slice-aggregate-state-fault
 slice-aggregate-state-fault c = search needs
@@ -56,7 +56,7 @@ returns-2 c =
     let n = length-end x (a .rec .now) (a .progress .held) (a .progress .changed) in
     let long : length printed ≤ length (a .out .now) = omega (arith, at-end-length .end-length .ensures, at-if1 .if1 .left) in
     let f = state-is (a .number) (a .probes) (a .links) (a .needs .now) (a .lows .now) (a .highs .now) (a .costs .now) 0 0 [] (a .rec .now) _ (at-state-fault .state-fault .ensures .0) in
-    prints-refused _ _ printed (a .out .now) (f ∙ sym (or-none (shortFault (length (a .out .now)) printed) (siteFault x (a .rec .now)) (long-enough (length (a .out .now)) printed long))) (c .if2 .taken)
+    prints-refused _ _ printed (a .out .now) (f ∙ sym (or-none (outputFault (length (a .out .now)) printed) (siteFault x (a .rec .now)) (long-enough (length (a .out .now)) printed long))) (c .if2 .taken)
 
 slice-aggregate-put-end : tie.Need-slice-aggregate-put-end
 slice-aggregate-put-end c = search needs
@@ -97,7 +97,7 @@ returns-3 c =
     let e = k .ensures .1 ∙ capped-below (0 + cond (eqb (a .progress .held) 0) 11 16) (omega arith) in
     let long : 0 + length printed ≤ length (a .out .now) = omega (arith, at-end-length .end-length .ensures, at-if1 .if1 .left) in
     let none : endCallFault x (a .rec .now) printed (a .out .now) ≡ 0 =
-    or-none (shortFault (length (a .out .now)) printed) (siteFault x (a .rec .now)) (long-enough (length (a .out .now)) printed (omega arith)) ∙ sym f ∙ at-if2 .if2 .left in
+    or-none (outputFault (length (a .out .now)) printed) (siteFault x (a .rec .now)) (long-enough (length (a .out .now)) printed (omega arith)) ∙ sym f ∙ at-if2 .if2 .left in
     prints-done _ _ printed (a .out .now) _ none (omega arith) (omega arith) (k .ensures .0 (a .number) (a .costs .now) ∙ stored-fits (a .out .now) 0 printed long)
 
 pub script-end-spec : {M : Type 1} → statement M
