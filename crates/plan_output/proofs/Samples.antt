@@ -8,7 +8,7 @@ use Rattle.lines.specs.Line.{untilFeed, lineAt}
 use Rattle.lines.specs.Digits.{lineFault}
 use Rattle.table.specs.Table.{dearer}
 use Rattle.table.specs.Legal.{linkFault}
-use Rattle.table.specs.Text.{begins, ofText, textFault}
+use Rattle.table.specs.Text.{begins, textFault}
 use Rattle.table_laws.specs.Samples.{bytes, m2Text}
 use Rattle.plan_theory.specs.Pass.{passAfter}
 use Rattle.plan_theory.specs.Plan.{rested}
@@ -18,15 +18,15 @@ pub m2-output : outputOf m2Text ≡ bytes "000100020000000a\n000000010005\n00020
 unfolding planText textFault lineFault lineAt untilFeed first numberAt valueOf linkFault begins sum joined digits digitOf dearer passAfter rested
 m2-output = refl
 
--- 02, No. 1: "a need of three meets two links": the probe is listed with the 1 that is missing, and keeps both its links
-pub short-output : planText (ofText (bytes "000100030003\n0003\n0000\n0000\n000000010001\n000000020002\n000100020003\nffff\n"))
-    ≡ bytes "0001000200000003\n000000010001\n000000020002\n00000001\nffff\n"
-unfolding planText numberAt valueOf sum joined digits digitOf dearer passAfter rested
-short-output = refl
+-- 02, No. 1: "a need of three meets two links": probe 1 is listed with the 1 that is missing, and keeps both its links
+pub valley-output : outputOf (bytes "000100040004\n0001\n0003\n0001\n0000\n000000010005\n000000020006\n000100020007\n000200030004\nffff\n")
+    ≡ bytes "000100020000000c\n000000010005\n000100020007\n00010001\nffff\n"
+unfolding planText textFault lineFault lineAt untilFeed first numberAt valueOf linkFault begins sum joined digits digitOf dearer passAfter rested
+valley-output = refl
 
--- a probe whose need is the number of its links is not listed
-pub met-output : outputOf (bytes "000100030003\n0002\n0000\n0000\n000000010001\n000000020002\n000100020003\nffff\n")
-    ≡ bytes "0001000200000003\n000000010001\n000000020002\nffff\n"
+-- with a need of two, the number of its links, it is not listed
+pub met-output : outputOf (bytes "000100040004\n0001\n0002\n0001\n0000\n000000010005\n000000020006\n000100020007\n000200030004\nffff\n")
+    ≡ bytes "000100020000000c\n000000010005\n000100020007\nffff\n"
 unfolding planText textFault lineFault lineAt untilFeed first numberAt valueOf linkFault begins sum joined digits digitOf dearer passAfter rested
 met-output = refl
 

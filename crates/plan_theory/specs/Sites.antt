@@ -46,12 +46,12 @@ pub record Sites : Type 0 where
   pub m9 : Phases (row (5 ∷ 6 ∷ 5 ∷ [])) ((0, 1) ∷ (2, 3) ∷ []) []
   pub m10 : Phases (row (5 ∷ 5 ∷ 5 ∷ [])) ((0, 1) ∷ (1, 2) ∷ []) ((0, 1) ∷ [])
 
--- 02, No. 1: "a need of three meets two links"
+-- 02, No. 1: "a need of three meets two links": those of probe 1
 abbrev pub valley : Table
-valley = site (3 ∷ 0 ∷ 0 ∷ []) (0 ∷ 0 ∷ 1 ∷ []) (1 ∷ 2 ∷ 2 ∷ []) (1 ∷ 2 ∷ 3 ∷ [])
+valley = site (1 ∷ 3 ∷ 1 ∷ 0 ∷ []) (0 ∷ 0 ∷ 1 ∷ 2 ∷ []) (1 ∷ 2 ∷ 2 ∷ 3 ∷ []) (5 ∷ 6 ∷ 7 ∷ 4 ∷ [])
 
 pub record Valley : Type 0 where
-  pub short : isShort valley 0 ≡ true
-  pub missing-one : missing valley 0 ≡ 1
-  pub no-spare : spare valley 0 ≡ 0
-  pub keeps-both : SitePlan valley ((0, 1) ∷ (0, 2) ∷ []) 3
+  pub short : isShort valley 1 ≡ true
+  pub missing-one : missing valley 1 ≡ 1
+  pub no-spare : spare valley 1 ≡ 0
+  pub keeps-both : SitePlan valley ((0, 1) ∷ (1, 2) ∷ []) 12
