@@ -206,6 +206,7 @@ fn readme() {
     let commands: Vec<(&str, &str)> = commands.collect();
     let expected = [
         ("plan", "examples/m2.table"),
+        ("plan", "examples/valley.table"),
         ("script", "examples/m11.script"),
     ];
     assert_eq!(commands, expected);
