@@ -1,4 +1,3 @@
 pub mod Table
 pub mod Answered
-pub mod Calls
 pub mod Writing

@@ -22,7 +22,7 @@ use Rattle.script_table.proofs.Table.{own-length, part-of}
 use Rattle.script_output.proofs.Reading.{slices-are, read-fine}
 use Rattle.script.specs.Writing.{zeroSlices, ScriptWrites}
 use Rattle.script.proofs.Table.{own-script, own-refusal}
-use Rattle.script.proofs.Calls.{end-holds}
+use Rattle.script_reads.proofs.Calls.{end-holds}
 
 module _ (input : List ℕ) where
   abbrev n : ℕ

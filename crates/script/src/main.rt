@@ -2,6 +2,7 @@
 use output::Output;
 use script_reads::Stop;
 use script_reads::reads::UNREAD;
+use script_reads::reads::end;
 use script_reads::reads::handle_all;
 use script_reads::reads::write;
 use script_steps::Progress;
@@ -10,55 +11,15 @@ use standard_io::Filling;
 ghost use mathlib.Core.Path.{_≡_};
 ghost use Prim.Native.Nat.{_≤_};
 ghost use lib.ListN.{length};
-ghost use Rattle.table.specs.Slices.{slicesOf, tableOf, slicesFault};
-ghost use Rattle.fleet_theory.specs.Fleet.{fleetFault};
+ghost use Rattle.table.specs.Slices.{slicesOf, slicesFault};
 ghost use Rattle.output.specs.Output.{refusalLine, Prints};
 ghost use Rattle.output.specs.declared.Output.the-variants.{Length};
-ghost use Rattle.script_theory.specs.Script.{endText};
-ghost use Rattle.script_output.specs.Handling.{endCallFault};
 ghost use Rattle.script.specs.Writing.{AnswersScript};
 
 // What is left to write: what the text's end printed; nothing where a read or write failed.
 enum Ending {
     Printed(usize),
     Failed,
-}
-
-// Prints what the text's end prints.
-fn end(
-    number: u16,
-    probes: u16,
-    links: u16,
-    needs: &[u16],
-    lows: &[u16],
-    highs: &[u16],
-    costs: &[u16],
-    rec: &[u8],
-    progress: Progress,
-    out: &mut [u8],
-) -> usize
-    requires { let x = slicesOf number probes links (now needs) (now lows) (now highs) (now costs) in
-        ⌜ (slicesFault x ≡ 0) × (fleetFault (tableOf x) (now rec) ≡ 0) × (16 ≤ length (now out)) ⌝ }
-    ensures { λ r. let x = slicesOf number probes links (now (needs .entry)) (now (lows .entry)) (now (highs .entry)) (now (costs .entry)) in
-        let printed = endText x (now (rec .entry)) (progress .held) (progress .changed) in
-        ⌜ Prints (endCallFault x (now (rec .entry)) printed (now (out .entry))) printed (Length r) (now (out .entry)) (now (out .exit)) ⌝ }
-{
-    let printed = script_output::script_end(
-        number,
-        probes,
-        links,
-        needs,
-        lows,
-        highs,
-        costs,
-        rec,
-        progress,
-        out,
-    );
-    match printed {
-        Output::Length(length) => length,
-        Output::Refused(_) => 0,
-    }
 }
 
 // Prints the refusal of the table.

@@ -1,4 +1,4 @@
-// The text behind the script program's table: each read's lines are handled as they come, and their answers written.
+// The text behind the script program's table: each read's lines are handled as they come and their answers written, then the end's.
 use script_steps::Progress;
 
 pub mod reads;

@@ -1,5 +1,6 @@
 // Reads from standard input, handled one after the other.
 use super::Stop;
+use output::Output;
 use script_output::Handling;
 use script_steps::Progress;
 use standard_io::Got;
@@ -8,7 +9,10 @@ ghost use Prim.Native.Nat.{_+_, _*_, _≤_};
 ghost use lib.ListN.{length};
 ghost use Rattle.table.specs.Slices.{slicesOf, tableOf, slicesFault};
 ghost use Rattle.fleet_theory.specs.Fleet.{fleetFault, start};
-ghost use Rattle.script_output.specs.Handling.{HandlesPiece};
+ghost use Rattle.output.specs.Output.{Prints};
+ghost use Rattle.output.specs.declared.Output.the-variants.{Length};
+ghost use Rattle.script_theory.specs.Script.{endText};
+ghost use Rattle.script_output.specs.Handling.{HandlesPiece, endCallFault};
 ghost use Rattle.script_output.specs.declared.Handling.the-variants.{Printed};
 ghost use Rattle.script_reads.specs.Handled.{HandlesReads};
 
@@ -139,4 +143,41 @@ pub fn handle_all(
         turns -= 1;
     }
     Stop::Failed
+}
+
+// Prints what the text's end prints.
+pub fn end(
+    number: u16,
+    probes: u16,
+    links: u16,
+    needs: &[u16],
+    lows: &[u16],
+    highs: &[u16],
+    costs: &[u16],
+    rec: &[u8],
+    progress: Progress,
+    out: &mut [u8],
+) -> usize
+    requires { let x = slicesOf number probes links (now needs) (now lows) (now highs) (now costs) in
+        ⌜ (slicesFault x ≡ 0) × (fleetFault (tableOf x) (now rec) ≡ 0) × (16 ≤ length (now out)) ⌝ }
+    ensures { λ r. let x = slicesOf number probes links (now (needs .entry)) (now (lows .entry)) (now (highs .entry)) (now (costs .entry)) in
+        let printed = endText x (now (rec .entry)) (progress .held) (progress .changed) in
+        ⌜ Prints (endCallFault x (now (rec .entry)) printed (now (out .entry))) printed (Length r) (now (out .entry)) (now (out .exit)) ⌝ }
+{
+    let printed = script_output::script_end(
+        number,
+        probes,
+        links,
+        needs,
+        lows,
+        highs,
+        costs,
+        rec,
+        progress,
+        out,
+    );
+    match printed {
+        Output::Length(length) => length,
+        Output::Refused(_) => 0,
+    }
 }

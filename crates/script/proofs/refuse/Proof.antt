@@ -5,7 +5,7 @@ use Rattle.script.proofs.refuse.Tie as tie
 use lib.ListN.{length}
 use Rattle.output.specs.Output.{refusalLine}
 use Rattle.output.proofs.Printing.{long-enough}
-use Rattle.script.proofs.Calls.{printed-as, never-refused}
+use Rattle.script_reads.proofs.Calls.{printed-as, never-refused}
 
 print-refusal-requires : tie.Need-print-refusal-requires
 print-refusal-requires c κs = search needs

@@ -1,9 +1,9 @@
--- `script::end` meets its contract.
+-- `script_reads::reads::end` meets its contract.
 use borrow.Author.Needs.{needs}
-use Rattle.script.proofs.end.Statement.{statement}
-use Rattle.script.proofs.end.Tie as tie
+use Rattle.script_reads.proofs.reads.end.Statement.{statement}
+use Rattle.script_reads.proofs.reads.end.Tie as tie
 use Rattle.table.specs.Slices.{slicesOf}
-use Rattle.script.proofs.Calls.{end-passes, printed-as, never-refused}
+use Rattle.script_reads.proofs.Calls.{end-passes, printed-as, never-refused}
 
 script-end-requires : tie.Need-script-end-requires
 script-end-requires c κs = search needs
