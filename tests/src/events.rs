@@ -36,7 +36,7 @@ pub fn each_table(series: u64, count: u64, mut run: impl FnMut(&Table, &mut Rand
     let mut with_short = 0;
     each_seed(series, count, |random| {
         let table = any_table(random);
-        with_short += u64::from(!table.short_probes().is_empty());
+        with_short += u64::from(table.has_short());
         run(&table, random);
     });
     assert!(4 * with_short > count, "{with_short} with a short probe");

@@ -98,7 +98,7 @@ fn every_table_of_three_probes() {
     let (mut tables, mut none_short, mut records) = (0, 0, 0);
     every_table(3, 2, |table| {
         tables += 1;
-        none_short += usize::from(table.short_probes().is_empty());
+        none_short += usize::from(!table.has_short());
         records += explore(table);
     });
     assert_eq!([tables, none_short], [2_275, 385]);
