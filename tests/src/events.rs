@@ -29,12 +29,17 @@ pub fn any_table(random: &mut Random) -> Table {
     table
 }
 
-/// Runs with so many random tables, each from a seed of its own in this series.
+/// Runs with so many random tables, each from a seed of its own in this series. More than a quarter
+/// have a short probe.
+#[track_caller]
 pub fn each_table(series: u64, count: u64, mut run: impl FnMut(&Table, &mut Random)) {
+    let mut with_short = 0;
     each_seed(series, count, |random| {
         let table = any_table(random);
+        with_short += u64::from(table.has_short());
         run(&table, random);
     });
+    assert!(4 * with_short > count, "{with_short} with a short probe");
 }
 
 /// A refusal for the table or the record, which every call makes.

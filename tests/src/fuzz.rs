@@ -202,7 +202,7 @@ pub fn script(random: &mut Random, tally: &mut Tally) {
         _ => lines.iter().map(|line| told(line)).collect(),
     };
     let table = table_of_text(&input, Behind::Anything);
-    if table.is_ok_and(|table| !table.short_probes().is_empty()) {
+    if table.is_ok_and(|table| table.has_short()) {
         things.insert("short probes");
     }
     tally.count(things);

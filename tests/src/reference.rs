@@ -95,7 +95,7 @@ impl Table {
         degrees
     }
 
-    /// Something of each probe's need and number of links.
+    /// What `of` makes of each probe's need and number of links.
     fn of_probes<T>(&self, of: impl Fn(u16, usize) -> T) -> Vec<T> {
         let numbers = self.needs.iter().zip(self.degrees());
         numbers.map(|(&need, degree)| of(need, degree)).collect()
@@ -116,6 +116,10 @@ impl Table {
         let missing = self.of_probes(|need, degree| usize::from(need).saturating_sub(degree));
         let probes = missing.into_iter().enumerate();
         probes.filter(|&(_, missing)| missing > 0).collect()
+    }
+
+    pub fn has_short(&self) -> bool {
+        !self.short_probes().is_empty()
     }
 
     /// Adds a link, unless 4 or 5 refuses it.

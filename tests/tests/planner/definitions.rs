@@ -172,7 +172,7 @@ fn plan_costs_at_most_twice_any_choice() {
             dearer += usize::from(cost > least);
             if cost > least && cost == 2 * least {
                 twice += 1;
-                short += usize::from(!table.short_probes().is_empty());
+                short += usize::from(table.has_short());
             }
         });
     }

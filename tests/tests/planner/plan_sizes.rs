@@ -96,9 +96,9 @@ fn hubs_joined_to_all_others() {
         assert_eq!(table.links.len(), links);
         for range in [1, 3, 65_536] {
             set_costs(&mut table, || random.below(range) as u16);
-            for thirds in 0..=3 {
+            for thirds in 0..=4 {
                 set_needs(&mut table, |_, degree| degree * thirds / 3);
-                assert_eq!(plan(&table).count == links, thirds == 3);
+                assert_eq!(plan(&table).count == links, thirds >= 3);
             }
         }
     }
@@ -110,9 +110,9 @@ fn all_pairs_of_64_probes() {
     let mut table = legal_of_size(64, 2016, &mut random);
     for range in [1, 2, 65_536] {
         set_costs(&mut table, || random.below(range) as u16);
-        for need in [0, 1, 2, 31, 62, 63] {
+        for need in [0, 1, 2, 31, 62, 63, 64, 65_535] {
             set_needs(&mut table, |_, _| need);
-            assert!(2 * plan(&table).count >= 64 * need);
+            assert!(2 * plan(&table).count >= 64 * need.min(63));
         }
     }
 }

@@ -43,9 +43,11 @@ fn ties_that_alter_the_cost() {
 
 #[test]
 fn spare_0_that_takes_an_offer() {
-    // 0 has no spare; if it takes the offer of 1, then 1 makes none to 2.
-    let row = site(&[[0, 1, 7], [1, 2, 5]], &[1, 1, 0]);
-    assert_slip_shows(&row, Slip::SpareZeroTakes);
+    // 0 has no spare, or is short; if it takes the offer of 1, then 1 makes none to 2.
+    for need in [1, 2, 65_535] {
+        let row = site(&[[0, 1, 7], [1, 2, 5]], &[need, 1, 0]);
+        assert_slip_shows(&row, Slip::SpareZeroTakes);
+    }
 }
 
 #[test]

@@ -14,7 +14,7 @@ fn plan_each(probes: usize, picked: impl Fn(&Table) -> bool) -> [usize; 2] {
         if picked(table) {
             compare::plan_table(table, &mut random);
             tables += 1;
-            none_short += usize::from(table.short_probes().is_empty());
+            none_short += usize::from(!table.has_short());
         }
     });
     [tables, none_short]

@@ -204,12 +204,13 @@ fn readme() {
         Some((program, rest.split_whitespace().next()?))
     });
     let commands: Vec<(&str, &str)> = commands.collect();
-    let expected = [
+    for command in [
         ("plan", "examples/m2.table"),
         ("plan", "examples/valley.table"),
         ("script", "examples/m11.script"),
-    ];
-    assert_eq!(commands, expected);
+    ] {
+        assert!(commands.contains(&command), "{commands:?}");
+    }
     let printed = commands
         .iter()
         .map(|(program, path)| run(program, &file(path), &WHOLE));

@@ -59,7 +59,7 @@ fn legal_tables() {
         assert!(checked.is_ok() || !written);
         fine += checked.is_ok() as usize;
         writes += written as usize;
-        short += usize::from(written && !table.short_probes().is_empty());
+        short += usize::from(written && table.has_short());
     });
     let reached = [fine, writes, short];
     assert!(

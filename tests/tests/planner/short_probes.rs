@@ -73,7 +73,7 @@ fn need_equal_to_the_links_is_not_listed() {
     }
 }
 
-/// Every other probe of a ring is short; the short lines stand in number order behind the kept
+/// Every other probe of a ring is short: the short lines stand in number order behind the kept
 /// links, and the kept count does not count them.
 #[test]
 fn place_and_order_of_the_short_lines() {
@@ -141,7 +141,7 @@ fn texts_and_slices_keep_the_need() {
         let written = compare::write(numbers.slices(), text.len(), random);
         assert!(written == Ok(text));
         above += table.short_probes().len();
-        tables += usize::from(!table.short_probes().is_empty());
+        tables += usize::from(table.has_short());
     });
     assert!(above > 2_000 && tables > 300, "{above} {tables}");
 }
@@ -277,9 +277,9 @@ fn record_of_a_short_probe() {
     }
 }
 
-/// Where every link has a short end and every other probe needs its links, nothing can be opened.
+/// Where every probe is short or needs all its links, nothing can be opened.
 #[test]
-fn site_of_short_probes_is_finished_at_once() {
+fn site_without_spare_is_finished_at_once() {
     let mut sites = 0;
     for (probes, count) in [(2, 1), (9, 2), (256, 8)] {
         let mut table = hubs(probes, count);
@@ -292,7 +292,7 @@ fn site_of_short_probes_is_finished_at_once() {
             assert_eq!(fleet.event(&opening(probe), 0, 1), nothing);
         }
         assert_eq!(text(&table.text(), &mut Random::new(42)), b"0100000000\n");
-        sites += usize::from(!table.short_probes().is_empty());
+        sites += usize::from(table.has_short());
     }
     assert_eq!(sites, 3);
 }

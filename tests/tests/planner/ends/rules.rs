@@ -298,7 +298,7 @@ fn ends_finish_with_the_plan() {
                 assert_eq!(ends[end].rests(place as u16), Ok(!kept[place]));
             }
         }
-        with_short += usize::from(!table.short_probes().is_empty());
+        with_short += usize::from(table.has_short());
     });
     assert!(with_short > 100, "{with_short}");
 }

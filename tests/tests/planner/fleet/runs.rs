@@ -226,7 +226,7 @@ fn small_sites() {
         let links = random.below(probes * (probes - 1) / 2 + 1);
         let table = legal_of_size(probes, links, random);
         events += run_all(&table, ORDERS, random);
-        with_short += usize::from(!table.short_probes().is_empty());
+        with_short += usize::from(table.has_short());
     });
     assert!(
         events > 100_000 && with_short > 100,

@@ -95,12 +95,14 @@ fn explore(table: &Table) -> usize {
 
 #[test]
 fn every_table_of_three_probes() {
-    let (mut tables, mut records) = (0, 0);
+    let (mut tables, mut none_short, mut records) = (0, 0, 0);
     every_table(3, 2, |table| {
         tables += 1;
+        none_short += usize::from(!table.has_short());
         records += explore(table);
     });
-    assert!(tables > 300 && records > 10_000, "{tables} {records}");
+    assert_eq!([tables, none_short], [2_275, 385]);
+    assert!(records > 30_000, "{records}");
 }
 
 #[test]
