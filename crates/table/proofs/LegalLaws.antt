@@ -1,14 +1,14 @@
 -- What a legal table gives, at any limits. The links rise by induction on the later one: each comes after the one before it.
-use Prim.Native.Nat.{ℕ, zero, suc, _-_, _≤_, _<_}
+use Prim.Native.Nat.{ℕ, zero, suc, _-_, _<_}
 use mathlib.Core.Path.{_≡_}
 use mathlib.Core.Logic.{_⊎_, inl, inr}
 use mathlib.Core.Bool.{true, cond, _&&_, _||_}
 use native.Mathlib.Omega.{arith}
 use native.Mathlib.Decide.{ℕ-discrete}
 use lib.Dec.{ltb, eqb}
-use borrow.Author.Tests.{ltb-true, ltb-false, eqb-true, ne-eqb}
-use Rattle.range.specs.First.{orElse, first}
-use Rattle.range.proofs.Bools.{and-left, and-right, or-cases, unless-none, when-none}
+use borrow.Author.Tests.{ltb-true, eqb-true, ne-eqb}
+use Rattle.range.specs.First.{first}
+use Rattle.range.proofs.Bools.{and-left, and-right, or-cases, unless-none}
 use Rattle.range.proofs.Faults.{or-left, or-right, first-all}
 use Rattle.table.specs.Table.{Table}
 use Rattle.table.specs.Legal.{sizeFault, endsFault, orderFault, linkFault, tableFault, After, LegalTable}

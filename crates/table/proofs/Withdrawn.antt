@@ -1,6 +1,6 @@
 -- No check of a table has the fault 7: none of its stages has.
 use Prim.Native.Nat.{ℕ, zero, suc, _+_, _-_}
-use mathlib.Core.Path.{_≡_, refl}
+use mathlib.Core.Path.{_≡_}
 use mathlib.Core.Bool.{Bool, true, false, cond, not, _&&_, _||_}
 use mathlib.Core.List.{List}
 use native.Mathlib.Omega.{arith}
@@ -15,7 +15,7 @@ use Rattle.lines.specs.declared.Line.the-variants.{Here, Missing}
 use Rattle.table.specs.Legal.{sizeFault, endsFault, orderFault, linkFault, tableFault, roomFault}
 use Rattle.table.specs.Table.{Table}
 use Rattle.table.specs.Text.{ofText, linkStart, begins, closingLine, closingFault, needLineFault, linkLineFault, headFault, bodyFault, textFault, readFault}
-use Rattle.table.specs.Slices.{Slices, tableOf, slicesRoomFault, sliceFault}
+use Rattle.table.specs.Slices.{tableOf, slicesRoomFault}
 use Rattle.table.specs.Withdrawn.{SevenWithdrawn}
 
 abbrev NotSeven : ℕ → Type 0
