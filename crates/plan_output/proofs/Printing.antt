@@ -8,7 +8,6 @@ use native.Mathlib.Decide.{decLe}
 use lib.Dec.{ltb, eqb}
 use lib.ListN.{length, length-append}
 use lib.Seq.{sets}
-use borrow.Author.Tests.{lt-ltb}
 use Rattle.range.specs.Sum.{sum, count, weigh}
 use Rattle.range.specs.Lists.{joined, stored}
 use Rattle.range.proofs.Sums.{weigh-same}
@@ -36,9 +35,9 @@ length-short-line true probe missing = simp length-append (let a = length-digits
 length-short-line false probe missing = refl
 
 -- the room for a short probe's line
-pub short-room : (at degree need probe room : ℕ) → degree < need → at + length (shortLine (ltb degree need) probe (need - degree)) ≤ room → at + 9 ≤ room
-short-room at degree need probe room l fits =
-    let f = rw (lt-ltb degree need l) at fits in
+pub short-room : (at degree need probe room : ℕ) → ltb degree need ≡ true → at + length (shortLine (ltb degree need) probe (need - degree)) ≤ room → at + 9 ≤ room
+short-room at degree need probe room e fits =
+    let f = rw e at fits in
     let k = length-short-line true probe (need - degree) in
     omega arith
 
@@ -108,7 +107,7 @@ module _ (t : Table) (plan plan′ degrees : List ℕ) (room : t .links ≤ leng
       ∙ ap (λ (x : ℕ). eqb x 1) (stored-at (λ i. planByte (kept t i)) (t .links) plan i room l)
       ∙ byte-back (kept t i)
 
-  -- where the closing line is stored
+  -- where the closing line ends, by the counts of both
   pub end-says : (n k : ℕ) → n ≡ count (t .links) says → k ≡ count (t .probes) tells → shortStart n k + 5 ≡ length (planText t)
   end-says n k en ek =
       let a = en ∙ weigh-same (t .links) says (kept t) (λ i. 1) byte-says in

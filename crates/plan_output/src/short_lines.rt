@@ -1,4 +1,4 @@
-// The lines of the short probes: those whose need is above their number of links, the degree.
+// The lines of the short probes. A degree is a probe's number of links.
 use super::starts::SHORT_BYTES;
 ghost use mathlib.Core.Path.{_≡_};
 ghost use Prim.Native.Nat.{_+_, _-_, _*_, _≤_};
@@ -10,6 +10,13 @@ ghost use Rattle.range.specs.Lists.{joined};
 ghost use Rattle.table.specs.Table.{item};
 ghost use Rattle.plan_output.specs.Output.{shortLine};
 
+// Whether a need is above the links that there are.
+fn is_short(degree: u16, need: u16) -> bool
+    ensures { λ r. ⌜ r ≡ ltb degree need ⌝ }
+{
+    degree < need
+}
+
 // The count of short probes.
 pub fn short_count(probes: usize, needs: &[u16], degrees: &[u16]) -> u32
     requires { ⌜ (probes ≤ 256) × (probes ≤ length (now needs)) × (probes ≤ length (now degrees)) ⌝ }
@@ -18,7 +25,7 @@ pub fn short_count(probes: usize, needs: &[u16], degrees: &[u16]) -> u32
     let mut n: u32 = 0;
     let mut v = 0;
     while v < probes {
-        if degrees[v] < needs[v] {
+        if is_short(degrees[v], needs[v]) {
             n += 1;
         }
         v += 1;
@@ -32,7 +39,7 @@ fn put_short(out: &mut [u8], at: usize, probe: u32, degree: u16, need: u16) -> u
     ensures { λ r. let line = shortLine (ltb degree need) probe (need - degree) in
         ⌜ (now (out .exit) ≡ sets (now (out .entry)) at line) × (r ≡ at + length line) ⌝ }
 {
-    if need <= degree {
+    if !is_short(degree, need) {
         return at;
     }
     hex::fields::put_number(out, at, 4, probe);

@@ -4,13 +4,12 @@ use borrow.Author.Needs.{needs}
 use Rattle.plan_output.proofs.short_lines.short_count.Statement.{statement}
 use Rattle.plan_output.proofs.short_lines.short_count.Tie as tie
 use Prim.Native.Nat.{ℕ, _-_, _≤_}
-use mathlib.Core.Path.{_≡_, refl}
+use mathlib.Core.Path.{_≡_, refl, sym, _∙_}
 use native.Mathlib.Omega.{arith}
 use lib.Dec.{ltb}
 use Rattle.range.specs.Sum.{sum, count}
 use Rattle.table.specs.Table.{item}
 use Rattle.range.proofs.Sums.{count-le, count-hit, count-miss}
-use borrow.Author.Tests.{lt-ltb, le-ltb}
 use mathlib.Core.Bool.{Bool}
 use mathlib.Core.Logic.{⊎-elim}
 
@@ -24,22 +23,25 @@ loop-holds : tie.Need-loop-holds Inv-loop μ-loop
 unfolding sum
 loop-holds c = (search needs, refl)
 
-mul-if1 : tie.Need-mul-if1 Inv-loop μ-loop
-mul-if1 c = search needs
+mul-is-short : tie.Need-mul-is-short Inv-loop μ-loop
+mul-is-short c = search needs
 
-shared-slice-read-if1 : tie.Need-shared-slice-read-if1 Inv-loop μ-loop
-shared-slice-read-if1 c = search needs
+shared-slice-read-is-short : tie.Need-shared-slice-read-is-short Inv-loop μ-loop
+shared-slice-read-is-short c = search needs
 
-mul-if1-2 : tie.Need-mul-if1-2 Inv-loop μ-loop
-mul-if1-2 c = search needs
+mul-is-short-2 : tie.Need-mul-is-short-2 Inv-loop μ-loop
+mul-is-short-2 c = search needs
 
-shared-slice-read-if1-2 : tie.Need-shared-slice-read-if1-2 Inv-loop μ-loop
-shared-slice-read-if1-2 c = search needs
+shared-slice-read-is-short-2 : tie.Need-shared-slice-read-is-short-2 Inv-loop μ-loop
+shared-slice-read-is-short-2 c = search needs
+
+is-short-requires : tie.Need-is-short-requires Inv-loop μ-loop
+is-short-requires c κs = search needs
 
 add-n : tie.Need-add-n Inv-loop μ-loop
 add-n c =
-    let l = c .before .before .before .before .loop in
-    let a = c .before .before .before .before .before .args in
+    let l = c .before .before .before .before .before .loop in
+    let a = c .before .before .before .before .before .before .before .before .args in
     let m = count-le (l .v) (λ w. ltb (item (a .degrees .now) w) (item (a .needs .now) w)) in
     omega (arith, l .inv)
 
@@ -51,14 +53,15 @@ loop-less c = search needs
 
 loop-again : tie.Need-loop-again Inv-loop μ-loop
 loop-again c =
-    let l = c .before .before .before .before .loop in
-    let a = c .before .before .before .before .before .args in
+    let l = c .before .before .before .before .before .loop in
+    let a = c .before .before .before .before .before .before .before .before .args in
     let p : ℕ → Bool = λ w. ltb (item (a .degrees .now) w) (item (a .needs .now) w) in
-    (search needs, ⊎-elim (λ z. let h = count-hit p (l .v) (lt-ltb _ _ (z .0 .taken)) in omega (arith, z, l .inv)) (λ z. let h = count-miss p (l .v) (le-ltb _ _ (z .0 .left)) in omega (arith, z, l .inv)) (c .if1 .came))
+    let e = sym (c .before .is-short .ensures) in
+    (search needs, ⊎-elim (λ z. let h = count-hit p (l .v) (e ∙ z .0 .taken) in omega (arith, z, l .inv)) (λ z. let h = count-miss p (l .v) (e ∙ z .0 .left) in omega (arith, z, l .inv)) (c .if1 .came))
 
 returns : tie.Need-returns Inv-loop μ-loop
 returns c =
-    let e : c .before .loop .v ≡ c .before .before .args .probes = omega arith in
+    let e : c .before .loop .v ≡ c .before .before .before .before .args .probes = omega arith in
     rw (← e) (c .before .loop .inv .1)
 
 pub short-count-spec : {M : Type 1} → statement M
@@ -68,10 +71,11 @@ short-count-spec =
     Inv-loop
     μ-loop
     loop-holds
-    mul-if1
-    shared-slice-read-if1
-    mul-if1-2
-    shared-slice-read-if1-2
+    mul-is-short
+    shared-slice-read-is-short
+    mul-is-short-2
+    shared-slice-read-is-short-2
+    is-short-requires
     add-n
     add-v
     loop-less

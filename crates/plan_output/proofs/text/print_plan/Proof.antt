@@ -45,20 +45,22 @@ slice-aggregate-kept-count c = search needs
 
 kept-count-requires : tie.Need-kept-count-requires
 kept-count-requires c κs =
-    let s = c .before .before .before .before .before .before .before .before .before .before .before .before in
+    let at-slse-plan = c .before .before .before .before .before in
+    let s = at-slse-plan .before .before .before .before .before .before .before in
     let a = s .args in
     let g = legal-slices 256 2048 (slicesOf (a .number) (a .probes) (a .links) (a .needs .now) (a .lows .now) (a .highs .now) (a .costs .now)) (s .pre) in
-    (omega (arith, c .before .before .before .before .before .slse-plan .kept .0, g .within), g .within)
+    (omega (arith, at-slse-plan .slse-plan .kept .0, g .within), g .within)
 
 slice-aggregate-short-count : tie.Need-slice-aggregate-short-count
 slice-aggregate-short-count c = search needs
 
 short-count-requires : tie.Need-short-count-requires
 short-count-requires c κs =
-    let s = c .before .before .before .before .before .before .before .before .before .before .before .before .before .before in
+    let at-count-degrees = c .before .before .before .before in
+    let s = at-count-degrees .before .before .before .before .before .before .before .before .before .before in
     let a = s .args in
     let g = legal-slices 256 2048 (slicesOf (a .number) (a .probes) (a .links) (a .needs .now) (a .lows .now) (a .highs .now) (a .costs .now)) (s .pre) in
-    (g .few, g .in-needs, omega (arith, c .before .before .before .before .count-degrees .kept .0, g .few))
+    (g .few, g .in-needs, omega (arith, at-count-degrees .count-degrees .kept .0, g .few))
 
 short-start-requires : tie.Need-short-start-requires
 short-start-requires c κs = search needs
@@ -87,10 +89,11 @@ slice-aggregate-kept-cost c = search needs
 
 kept-cost-requires : tie.Need-kept-cost-requires
 kept-cost-requires c κs =
-    let s = c .before .before .before .before .before .before .before .before .before .before .before .before .before .before .before .before .before .before in
+    let at-slse-plan = c .before .before .before .before .before .before .before .before .before .before .before in
+    let s = at-slse-plan .before .before .before .before .before .before .before in
     let a = s .args in
     let g = legal-slices 256 2048 (slicesOf (a .number) (a .probes) (a .links) (a .needs .now) (a .lows .now) (a .highs .now) (a .costs .now)) (s .pre) in
-    (omega (arith, c .before .before .before .before .before .before .before .before .before .before .before .slse-plan .kept .0, g .within), g .in-costs, g .within)
+    (omega (arith, at-slse-plan .slse-plan .kept .0, g .within), g .in-costs, g .within)
 
 put-head-requires : tie.Need-put-head-requires
 put-head-requires c κs = search needs
@@ -100,10 +103,15 @@ slice-aggregate-put-kept c = search needs
 
 put-kept-requires : tie.Need-put-kept-requires
 put-kept-requires c κs =
-    let s = c .before .before .before .before .before .before .before .before .before .before .before .before .before .before .before .before .before .before .before .before .before .before .before .before .before in
+    let at-put-head = c .before .before .before .before in
+    let at-if1 = at-put-head .before .before .before .before in
+    let at-short-start = at-if1 .before in
+    let at-kept-count = at-short-start .before .before .before in
+    let at-slse-plan = at-kept-count .before .before .before .before .before .before in
+    let s = at-slse-plan .before .before .before .before .before .before .before in
     let a = s .args in
     let g = legal-slices 256 2048 (slicesOf (a .number) (a .probes) (a .links) (a .needs .now) (a .lows .now) (a .highs .now) (a .costs .now)) (s .pre) in
-    (omega (arith, c .before .before .before .before .before .before .before .before .before .before .before .before .kept-count .ensures, c .before .before .before .before .before .before .before .before .before .short-start .ensures, c .before .before .before .before .before .before .before .before .if1 .left, c .before .before .before .before .put-head .kept .0), omega (arith, c .before .before .before .before .before .before .before .before .before .before .before .before .before .before .before .before .before .before .slse-plan .kept .0, g .within), g .in-lows, g .in-highs, g .in-costs)
+    (omega (arith, at-kept-count .kept-count .ensures, at-short-start .short-start .ensures, at-if1 .if1 .left, at-put-head .put-head .kept .0), omega (arith, at-slse-plan .slse-plan .kept .0, g .within), g .in-lows, g .in-highs, g .in-costs)
 
 short-start-requires-2 : tie.Need-short-start-requires-2
 short-start-requires-2 c κs = search needs
@@ -113,10 +121,17 @@ slice-aggregate-put-shorts c = search needs
 
 put-shorts-requires : tie.Need-put-shorts-requires
 put-shorts-requires c κs =
-    let s = c .before .before .before .before .before .before .before .before .before .before .before .before .before .before .before .before .before .before .before .before .before .before .before .before .before .before .before .before .before .before .before in
+    let at-short-start2 = c .before .before in
+    let at-put-kept = at-short-start2 .before .before .before in
+    let at-put-head = at-put-kept .before .before .before .before .before in
+    let at-if1 = at-put-head .before .before .before .before in
+    let at-short-start = at-if1 .before in
+    let at-short-count = at-short-start .before in
+    let at-count-degrees = at-short-count .before .before .before .before .before in
+    let s = at-count-degrees .before .before .before .before .before .before .before .before .before .before in
     let a = s .args in
     let g = legal-slices 256 2048 (slicesOf (a .number) (a .probes) (a .links) (a .needs .now) (a .lows .now) (a .highs .now) (a .costs .now)) (s .pre) in
-    (omega (arith, c .before .before .before .before .before .before .before .before .before .before .before .before .before .before .before .before .short-count .ensures, c .before .before .before .before .before .before .before .before .before .before .before .before .before .before .before .short-start .ensures, c .before .before .short-start2 .ensures, c .before .before .before .before .before .before .before .before .before .before .before .before .before .before .if1 .left, c .before .before .before .before .before .before .before .before .before .before .put-head .kept .0, c .before .before .before .before .before .put-kept .kept .0), g .few, g .in-needs, omega (arith, c .before .before .before .before .before .before .before .before .before .before .before .before .before .before .before .before .before .before .before .before .before .count-degrees .kept .0, g .few))
+    (omega (arith, at-short-count .short-count .ensures, at-short-start .short-start .ensures, at-short-start2 .short-start2 .ensures, at-if1 .if1 .left, at-put-head .put-head .kept .0, at-put-kept .put-kept .kept .0), g .few, g .in-needs, omega (arith, at-count-degrees .count-degrees .kept .0, g .few))
 
 put-closing-requires : tie.Need-put-closing-requires
 put-closing-requires c κs = search needs
