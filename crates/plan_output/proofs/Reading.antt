@@ -5,14 +5,13 @@ use mathlib.Core.Bool.{false}
 use mathlib.Core.List.{List}
 use lib.ListN.{length}
 use borrow.Author.Tests.{eq-eqb, ne-eqb}
-use Rattle.range.proofs.Faults.{or-none}
 use Rattle.table.specs.Text.{ofText, textFault}
 use Rattle.table_read.specs.declared.Reading.{Reading}
 use Rattle.table_read.specs.declared.Reading.the-variants.{Table as Read, Refused as Unread}
-use Rattle.table.specs.Slices.{tableOf, slicesRoomFault, slicesFault}
+use Rattle.table.specs.Slices.{tableOf}
 use Rattle.table_read.specs.Reading.{Lent}
 use Rattle.table_laws.specs.Functions.{lentSlices, ReadTable}
-use Rattle.table_laws.proofs.Reading.{blank, blank-found, accepted, refusal-is, read-none, read-same, read-legal, read-held}
+use Rattle.table_laws.proofs.Reading.{blank, blank-found, accepted, refusal-is, read-none, read-same, read-legal}
 use Rattle.output.specs.Output.{refusalLine, outputFault, Prints}
 use Rattle.output.specs.declared.Output.{Output}
 use Rattle.plan_output.specs.Output.{planText, outputOf}
@@ -24,11 +23,6 @@ module _ (s : List ℕ) (r : Reading) (b : Lent) (read : ReadTable s r blank b) 
   refusal-printed refusal o out out′ e p =
       let n = refusal-is false s r blank b read refusal e in
       rw (ne-eqb (textFault 256 2048 false s) 0 (λ z. n .1 (blank-found false s ∙ z)), ← n .0 ∙ blank-found false s) p
-
-  pub read-fine : (number probes links rest : ℕ) → r ≡ Read number probes links rest → slicesFault (lentSlices number probes links b) ≡ 0
-  read-fine number probes links rest e =
-      or-none (slicesRoomFault (lentSlices number probes links b)) _ (read-held false s r blank b read number probes links rest e)
-      ∙ read-legal false s r blank b read number probes links rest e
 
   pub plan-printed : (number probes links rest : ℕ) → r ≡ Read number probes links rest → (o : Output) (out out′ : List ℕ)
       → Prints (outputFault (length out) (planText (tableOf (lentSlices number probes links b)))) (planText (tableOf (lentSlices number probes links b))) o out out′

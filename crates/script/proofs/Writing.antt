@@ -19,7 +19,8 @@ use Rattle.fleet_calls.proofs.Promises.{same-self}
 use Rattle.script_calls.proofs.Calls.{script-of-calls}
 use Rattle.script_table.specs.Reading.{tableText}
 use Rattle.script_table.proofs.Table.{own-length, part-of}
-use Rattle.script_output.proofs.Reading.{slices-are, read-fine}
+use Rattle.table_laws.proofs.Reading.{read-fine}
+use Rattle.script_output.proofs.Reading.{slices-are}
 use Rattle.script.specs.Writing.{zeroSlices, ScriptWrites}
 use Rattle.script.proofs.Table.{own-script, own-refusal}
 use Rattle.script_reads.proofs.Calls.{end-holds}
@@ -64,7 +65,7 @@ script-writes input =
           let r = Read number probes links rest in
           let z = accepted true text r zeroSlices b read (read-none true text r zeroSlices b read number probes links rest refl) in
           let x = lentSlices number probes links b in
-          let fine = read-fine text r (b .needs) (b .lows) (b .highs) (b .costs) read number probes links rest refl in
+          let fine = read-fine true text r _ b read number probes links rest refl in
           let left = leftAfterPieces (freshPiece x (a .line)) (a .calls) in
           let printed = endText x (left .bytes) (left .progress .held) (left .progress .changed) in
           let all = script-of-calls x fine (a .line) (a .long) (a .calls) (a .kept) in

@@ -8,18 +8,16 @@ use native.Mathlib.Decide.{ℕ-discrete}
 use lib.ListN.{length, take, drop, length-drop}
 use lib.Seq.{take-all}
 use borrow.Author.Tests.{ne-eqb}
-use Rattle.range.proofs.Faults.{or-none}
-use Rattle.table.specs.Legal.{roomFault}
 use Rattle.table.specs.Text.{ofText, textEnd, textFault, readFault}
 use Rattle.table_read.specs.Reading.{Lent, ReadsTable, lentOf}
 use Rattle.table_read.specs.declared.Reading.{Reading}
 use Rattle.table_read.specs.declared.Reading.the-variants.{Table as Read, Refused as Unread}
 use Rattle.table_text.proofs.Good.{text-head}
 use Rattle.table_laws.proofs.Round.{text-within}
-use Rattle.table_laws.proofs.Reading.{blank, blank-found, accepted, refusal-is, read-none, read-numbers, read-legal, read-held}
+use Rattle.table_laws.proofs.Reading.{blank, blank-found, accepted, refusal-is, read-none, read-numbers}
 use Rattle.output.specs.Output.{refusalLine, outputFault, Prints}
 use Rattle.output.specs.declared.Output.{Output}
-use Rattle.table.specs.Slices.{Slices, slicesFault, slicesOf}
+use Rattle.table.specs.Slices.{Slices, slicesOf}
 use Rattle.script_theory.specs.Script.{inSlices, scriptText, scriptOutput}
 
 module _ (s : List ℕ) (e : textFault 256 2048 true s ≡ 0) where
@@ -55,11 +53,6 @@ module _ (s : List ℕ) (r : Reading) (needs lows highs costs : List ℕ)
 
     pub slices-are : slicesOf number probes links needs lows highs costs ≡ inSlices (ofText s)
     slices-are = rw (is .0, is .1, is .2, rw none at (read .lent .need), rw none at (read .lent .low), rw none at (read .lent .high), rw none at (read .lent .cost))
-
-    pub read-fine : slicesFault (slicesOf number probes links needs lows highs costs) ≡ 0
-    read-fine =
-        or-none (roomFault probes links (length needs) (length lows) (length highs) (length costs)) _ (read-held true s r blank b read number probes links rest e)
-        ∙ read-legal true s r blank b read number probes links rest e
 
     pub rest-within : (23 ≤ rest) × (rest ≤ length s)
     rest-within = rw (is .3) (end-within s (accepted true s r blank b read none))

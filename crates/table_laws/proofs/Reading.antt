@@ -21,7 +21,7 @@ use Rattle.table_read.specs.declared.Reading.{Reading}
 use Rattle.table_read.specs.declared.Reading.the-variants.{Table as Read, Refused as Unread}
 use Rattle.table_read.proofs.Answers.{reads-answer, read-text, read-room}
 use Rattle.table.specs.Same.{Same}
-use Rattle.table.specs.Slices.{tableOf}
+use Rattle.table.specs.Slices.{tableOf, slicesRoomFault, slicesFault}
 use Rattle.table_laws.specs.Functions.{lentSlices, HoldsTable}
 use Rattle.table.proofs.Same.{same-fault}
 
@@ -105,8 +105,12 @@ module _ (more : Bool) (s : List ℕ) (r : Reading) (a b : Lent) (read : ReadsTa
     pub read-legal : tableFault 256 2048 (tableOf (lentSlices number probes links b)) ≡ 0
     read-legal = same-fault (tableOf (lentSlices number probes links b)) t read-same 256 2048 ∙ text-legal 256 2048 more s (accepted read-none)
 
-    pub read-held : roomFault probes links (length (b .needs)) (length (b .lows)) (length (b .highs)) (length (b .costs)) ≡ 0
-    read-held = room-none probes links b (rw (said .2, said .3) (holds read-none))
+    held : roomFault probes links (length (b .needs)) (length (b .lows)) (length (b .highs)) (length (b .costs)) ≡ 0
+    held = room-none probes links b (rw (said .2, said .3) (holds read-none))
+
+    -- so the slices pass
+    pub read-fine : slicesFault (lentSlices number probes links b) ≡ 0
+    read-fine = or-none (slicesRoomFault (lentSlices number probes links b)) (tableFault 256 2048 (tableOf (lentSlices number probes links b))) held ∙ read-legal
 
 -- slices of zeros, as long as the largest table's
 abbrev pub blank : Lent

@@ -3,7 +3,9 @@ use borrow.Author.Needs.{needs}
 use Rattle.plan_output.proofs.plan_text.Statement.{statement}
 use Rattle.plan_output.proofs.plan_text.Tie as tie
 use Rattle.table_read.specs.Reading.{Lent}
-use Rattle.plan_output.proofs.Reading.{refusal-printed, read-fine, plan-printed}
+use Rattle.plan_output.proofs.Reading.{refusal-printed, plan-printed}
+use mathlib.Core.Bool.{false}
+use Rattle.table_laws.proofs.Reading.{read-fine}
 
 slice-aggregate-read-table : tie.Need-slice-aggregate-read-table
 slice-aggregate-read-table c = search needs
@@ -49,7 +51,7 @@ print-plan-requires c κs =
     let k = at-read-table .read-table in
     let b : Lent = record { needs = k .last .1 .0; lows = k .last .1 .1 .0; highs = k .last .1 .1 .1 .0; costs = k .last .1 .1 .1 .1 .0 } in
     let e = at-read .read .given .1 in
-    read-fine (a .text .now) _ b (k .ensures) _ _ _ _ e
+    read-fine false (a .text .now) _ _ b (k .ensures) _ _ _ _ e
 
 enum-known-read-2 : tie.Need-enum-known-read-2
 enum-known-read-2 c = search needs

@@ -6,7 +6,8 @@ use mathlib.Core.Path.{refl, sym}
 use native.Mathlib.Omega.{arith}
 use lib.Seq.{length-take-le}
 use Rattle.output.proofs.Printing.{printed-within}
-use Rattle.script_output.proofs.Reading.{read-fine}
+use mathlib.Core.Bool.{true}
+use Rattle.table_laws.proofs.Reading.{read-fine}
 use Rattle.script.proofs.Answered.{answered-within}
 
 slice-reshare-prefix-read-table-prefix : tie.Need-slice-reshare-prefix-read-table-prefix
@@ -64,7 +65,7 @@ answer-script-requires c κs =
     let at-read-table-prefix = at-read .before .before .before .before .before .before in
     let s = at-read-table-prefix .before .before .before .before .before .before .before in
     let m = length-take-le 4096 (s .args .text .now) (s .pre .1) in
-    (read-fine _ _ _ _ _ _ (at-read-table-prefix .read-table-prefix .ensures) _ _ _ _ (at-read .read .given .1), omega arith, search needs)
+    (read-fine true _ _ _ _ (at-read-table-prefix .read-table-prefix .ensures) _ _ _ _ (at-read .read .given .1), omega arith, search needs)
 
 enum-known-ending : tie.Need-enum-known-ending
 enum-known-ending c = search needs

@@ -3,7 +3,9 @@ use borrow.Author.Needs.{needs}
 use Rattle.script_output.proofs.script_text.Statement.{statement}
 use Rattle.script_output.proofs.script_text.Tie as tie
 use native.Mathlib.Omega.{arith}
-use Rattle.script_output.proofs.Reading.{refusal-printed, read-fine, rest-within, script-printed}
+use Rattle.script_output.proofs.Reading.{refusal-printed, rest-within, script-printed}
+use mathlib.Core.Bool.{true}
+use Rattle.table_laws.proofs.Reading.{read-fine}
 
 slice-aggregate-read-table-prefix : tie.Need-slice-aggregate-read-table-prefix
 slice-aggregate-read-table-prefix c = search needs
@@ -64,7 +66,7 @@ print-script-requires c κs =
     let at-read = c .before .before .before .before .before .before .before in
     let at-read-table-prefix = at-read .before .before .before .before .before .before in
     let a = at-read-table-prefix .before .before .before .before .before .before .before .args in
-    read-fine (a .text .now) _ _ _ _ _ (at-read-table-prefix .read-table-prefix .ensures) _ _ _ _ (at-read .read .given .1)
+    read-fine true (a .text .now) _ _ _ (at-read-table-prefix .read-table-prefix .ensures) _ _ _ _ (at-read .read .given .1)
 
 enum-known-read-2 : tie.Need-enum-known-read-2
 enum-known-read-2 c = search needs
