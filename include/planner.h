@@ -123,7 +123,7 @@ uint64_t planner_plan_turns(
     uint8_t *plan, size_t plan_length,
     uint8_t *work, size_t work_length);
 
-/* What the plan program prints for an input, into out. */
+/* What the plan program prints for an input, into out; 28,950 bytes hold every output. */
 uint64_t planner_plan_text(
     const uint8_t *text, size_t text_length,
     uint8_t *out, size_t out_length);
