@@ -86,13 +86,13 @@ demand-2 x fine fits =
       turns-call = λ r before after work work′ p room bytes.
           let z = turns-none x fine (length before) (length work) room bytes in
           (plans-none (turnsFault 256 2048 x (length before) (length work)) t r before after (p .plans) z room, p .cleared ∙ rw z);
-      turns-short = λ r before after work work′ p short.
+      turns-no-room = λ r before after work work′ p short.
           let z = turns-eight x fine (length before) (length work) short in
           let left = plans-short (turnsFault 256 2048 x (length before) (length work)) t r before after (p .plans) z in
           (left .0, left .1, p .cleared ∙ rw z);
       slse-call = λ r before after p room.
           plans-none (planFault 256 2048 x (length before)) t r before after p (slse-none x fine (length before) room) room;
-      slse-short = λ r before after p short.
+      slse-no-room = λ r before after p short.
           plans-short (planFault 256 2048 x (length before)) t r before after p (slse-eight x fine (length before) short);
       both-same = λ r r′ before after after′ work work′ p q bytes.
           -- with working bytes that are long enough, both have one fault

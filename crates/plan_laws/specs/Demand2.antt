@@ -51,11 +51,11 @@ module _ (x : Slices) where
     -- what `plan_by_turns` and `plan_by_slse` answer and leave, in every lent plan and working bytes that are long enough; else 8, and nothing changes
     pub turns-call : (r : Planning) (before after work work′ : List ℕ) → PlansByTurns 256 2048 x r before after work work′
         → x .links ≤ length before → 4 * x .links ≤ length work → LeavesPlan t r before after × (work′ ≡ replicate (length work) 0)
-    pub turns-short : (r : Planning) (before after work work′ : List ℕ) → PlansByTurns 256 2048 x r before after work work′
+    pub turns-no-room : (r : Planning) (before after work work′ : List ℕ) → PlansByTurns 256 2048 x r before after work work′
         → (length before < x .links) ⊎ (length work < 4 * x .links) → (r ≡ Refused 8) × (after ≡ before) × (work′ ≡ work)
     pub slse-call : (r : Planning) (before after : List ℕ) → PlansBySlse 256 2048 x r before after
         → x .links ≤ length before → LeavesPlan t r before after
-    pub slse-short : (r : Planning) (before after : List ℕ) → PlansBySlse 256 2048 x r before after
+    pub slse-no-room : (r : Planning) (before after : List ℕ) → PlansBySlse 256 2048 x r before after
         → length before < x .links → (r ≡ Refused 8) × (after ≡ before)
     -- both give the same answer and, into one lent plan, the same bytes
     pub both-same : (r r′ : Planning) (before after after′ work work′ : List ℕ)

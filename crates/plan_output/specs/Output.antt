@@ -1,4 +1,4 @@
--- What the plan program prints: document 01, "Programs". Every printed line is closed by a line feed.
+-- What the plan program prints: document 01, "Programs", and 02, No. 1. Every printed line is closed by a line feed.
 use Prim.Native.Nat.{ℕ, _+_, _*_}
 use mathlib.Core.Bool.{Bool, false, cond}
 use mathlib.Core.List.{List, [], _∷_, _++_}

@@ -1,4 +1,4 @@
--- One link's turn, on the plan's bytes and the counts of links by probe.
+-- One link's turn, on the plan's bytes and the counts of links by probe. The needs are as given: for the counts that are met here that says the same as the counted needs (laws `under-given`, `over-given`).
 use Prim.Native.Nat.{ℕ, _+_, _-_}
 use mathlib.Core.Bool.{Bool, cond, _&&_, _||_}
 use mathlib.Core.List.{List}

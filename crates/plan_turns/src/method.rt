@@ -11,7 +11,7 @@ ghost use Rattle.table.specs.Legal.{linkFault, tableFault};
 ghost use Rattle.plan_theory.specs.Plan.{kept, planByte};
 ghost use Rattle.plan_turns_search.specs.Record.{keptByte};
 
-// Takes the probes' needs off their counted links.
+// Takes the probes' needs off their numbers of links, down to 0.
 fn take_needs(counts: &mut [u16], probes: usize, needs: &[u16])
     requires { ⌜ (probes ≤ length (now counts)) × (probes ≤ length (now needs)) ⌝ }
     ensures { λ _. ⌜ now (counts .exit) ≡ stored (λ v. item (now (counts .entry)) v - item (now (needs .entry)) v) probes (now (counts .entry)) ⌝ }

@@ -5,7 +5,6 @@ use script_reads::reads::UNREAD;
 use script_reads::reads::end;
 use script_reads::reads::handle_all;
 use script_reads::reads::write;
-use script_steps::Progress;
 use script_table::input::read_table_text;
 use standard_io::Filling;
 ghost use mathlib.Core.Path.{_≡_};

@@ -256,10 +256,10 @@ module _ (x : Slices) (fine : slicesFault x ≡ 0) (line : List ℕ) (long : 16 
   pub script-of-calls : ScriptOfCalls x line cs
   script-of-calls =
       record {
-        refused-short = λ earlier later c is n e.
+        refused-no-room = λ earlier later c is n e.
             let at = at-place x fine fresh left earlier later c (rw is at k) in
             refused-here x fine (leftAfterPieces fresh earlier) (at .0) c (at .1) n e;
-        short-refused = λ earlier later c is few.
+        no-room-refused = λ earlier later c is few.
             let at = at-place x fine fresh left earlier later c (rw is at k) in
             short-here x fine (leftAfterPieces fresh earlier) (at .0) c (at .1) few;
         bytes = ap (λ (p : Script). p .bytes) is-reached ∙ reached x 1024 fine (textOfPieces cs) .0;

@@ -104,10 +104,10 @@ module _ (x : Slices) (line : List ℕ) (cs : List PieceCall) where
 
   pub record ScriptOfCalls : Type 0 where
     -- a call is refused by 8 alone, where its output slice is shorter than what its piece prints
-    pub refused-short : (earlier later : List PieceCall) (c : PieceCall) → cs ≡ earlier ++ c ∷ later → (n : ℕ) → c .answer ≡ Refused n
+    pub refused-no-room : (earlier later : List PieceCall) (c : PieceCall) → cs ≡ earlier ++ c ∷ later → (n : ℕ) → c .answer ≡ Refused n
         → (let b = leftAt earlier in (n ≡ 8) × (length (c .out) < length (afterPiece x 1024 (before (b .progress) (b .bytes) (b .line)) (c .piece) .out)))
     -- and every such call is refused: it leaves what the last one left, and its output slice as it was
-    pub short-refused : (earlier later : List PieceCall) (c : PieceCall) → cs ≡ earlier ++ c ∷ later
+    pub no-room-refused : (earlier later : List PieceCall) (c : PieceCall) → cs ≡ earlier ++ c ∷ later
         → (let b = leftAt earlier in length (c .out) < length (afterPiece x 1024 (before (b .progress) (b .bytes) (b .line)) (c .piece) .out)
         → (c .answer ≡ Refused 8) × (leftByPiece b c ≡ b) × (c .out′ ≡ c .out))
     -- the record, the used entries and the changes, as far as eight digits print them, are the run's

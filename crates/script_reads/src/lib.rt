@@ -1,4 +1,4 @@
-// The text behind the script program's table: each read's lines are handled as they come and their answers written, then the end's.
+// The text behind the script program's table: each read's lines are handled as they come and their answers written; then what the text's end prints.
 use script_steps::Progress;
 
 pub mod reads;

@@ -1,4 +1,4 @@
--- The text of a table, and the reading of a text: document 01, "Table and order", and refusals 1 to 8.
+-- The text of a table, and the reading of a text: document 01, "Table and order", and refusals 1 to 6 and 8.
 use Prim.Native.Nat.{ℕ, _+_, _*_}
 use mathlib.Core.Bool.{Bool, true, false, cond, _&&_, _||_}
 use mathlib.Core.List.{List, [], _∷_, _++_}

@@ -80,7 +80,7 @@ pub record TextRefusals : Type 0 where
   pub itself : refusal false "000100020001\n0001\n0000\n000000000007\nffff\n" ≡ 4
   pub outside : refusal false "000100020001\n0001\n0000\n000000020007\nffff\n" ≡ 4
   -- a need line of 3 digits
-  pub short : refusal false "000100020001\n001\n0000\n000000010007\nffff\n" ≡ 1
+  pub three-digits : refusal false "000100020001\n001\n0000\n000000010007\nffff\n" ≡ 1
   -- 0 probes; 257 probes; 2,049 links
   pub empty : refusal false "000100000000\nffff\n" ≡ 3
   pub probes : refusal false "000101010001\n0001\n0000\n000000010007\nffff\n" ≡ 3

@@ -18,7 +18,7 @@ ghost use Rattle.table.specs.Legal.{roomFault};
 ghost use Rattle.table.specs.Text.{ofText, textFault, readFault};
 ghost use Rattle.table_read.specs.Reading.{lentOf, readingReply, readValues, Filled, ReadsTable};
 
-// 1 to 8, by the lengths of the lent needs, lows, highs and costs.
+// 1 to 6, then 8 by the lengths of the lent needs, lows, highs and costs.
 fn read_fault(
     text: &[u8],
     needs: usize,

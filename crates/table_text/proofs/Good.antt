@@ -7,7 +7,7 @@ use native.Mathlib.Omega.{arith}
 use native.Mathlib.Decide.{decLt}
 use lib.ListN.{length}
 use Rattle.range.specs.First.{first}
-use Rattle.range.proofs.Faults.{or-here, or-next, or-left, or-right, first-all, none-first}
+use Rattle.range.proofs.Faults.{or-here, or-next, or-left, or-right, first-all}
 use Rattle.range.specs.Lists.{stored}
 use Rattle.range.proofs.Lists.{stored-same}
 use Rattle.hex.specs.Digits.{numberAt}
@@ -54,11 +54,6 @@ pub link-lines : (s : List ℕ) (m : ℕ) → first (linkLineFault s) m ≡ 0 �
 link-lines s m e i l =
     line-good s (linkStart (ofText s .probes) i) 12
     (or-left (lineFault s (linkStart (ofText s .probes) i) 12) (linkFault (ofText s .probes) (ofText s .low) (ofText s .high) i) (first-all (linkLineFault s) m i e l))
-
-pub links-good : (s : List ℕ) (m : ℕ) → first (linkLineFault s) m ≡ 0 → first (linkFault (ofText s .probes) (ofText s .low) (ofText s .high)) m ≡ 0
-links-good s m e =
-    none-first (linkFault (ofText s .probes) (ofText s .low) (ofText s .high)) m
-    (λ i l. or-right (lineFault s (linkStart (ofText s .probes) i) 12) (linkFault (ofText s .probes) (ofText s .low) (ofText s .high) i) (first-all (linkLineFault s) m i e l))
 
 -- A link line that starts at an offset: its ends, and how the code comes to its fault.
 module _ (s : List ℕ) (probes i at : ℕ) (ep : probes ≡ ofText s .probes) (ea : at ≡ linkStart probes i) where
