@@ -147,3 +147,25 @@ fn names_in_prose() {
     }
     assert!(names > 20, "{names}");
 }
+
+/// The refusals that calls make; 7 is withdrawn.
+const REFUSALS: [u8; 16] = [1, 2, 3, 4, 5, 6, 8, 9, 20, 21, 22, 23, 24, 25, 26, 27];
+
+/// The README's table and the header's list have each of them once, and no other.
+#[test]
+fn refusals() {
+    let readme = document("README.md");
+    let cells = rows(&readme, "\n## The library\n").into_iter();
+    let listed: Vec<u8> = cells.filter_map(|row| row[0].parse().ok()).collect();
+    assert_eq!(listed, REFUSALS);
+    let header = document("include/planner.h");
+    let (_, list) = header
+        .split_once("A refusal is its number")
+        .expect("a list");
+    let (list, _) = list.split_once("*/").expect("its end");
+    let parts = list
+        .split("  ")
+        .filter_map(|part| part.trim().split_once(' '));
+    let numbers = parts.filter_map(|(number, _)| number.parse().ok());
+    assert_eq!(numbers.collect::<BTreeSet<u8>>(), BTreeSet::from(REFUSALS));
+}
