@@ -15,9 +15,8 @@
  *    4 low not below high, or high not below probes    23 a frame of another table number
  *    5 a link not after the one before it              24 no such probe or link, or a frame for another probe
  *    6 the closing line absent, different or followed  25 one end alone: a refusal where outbound is 0
- *    7 (withdrawn: no call answers it)                 26 the log is full
- *    8 slices of unequal length, or one too short      27 a line that no probe can have sent
- *    9 a frame kind with no meaning here
+ *    8 slices of unequal length, or one too short      26 the log is full
+ *    9 a frame kind with no meaning here               27 a line that no probe can have sent
  */
 #ifndef PLANNER_H
 #define PLANNER_H

@@ -139,7 +139,7 @@ fn counted_needs_are_met() {
     assert!(short > 10_000, "{short}");
     let mut short = 0;
     for probes in 1..=4 {
-        every_table(probes, 2, |table| {
+        every_table(probes, 3, |table| {
             short += assert_counted(table);
             assert_planned(table);
         });
@@ -166,7 +166,7 @@ fn least_cost(table: &Table) -> u64 {
 fn plan_costs_at_most_twice_any_choice() {
     let (mut dearer, mut twice, mut short) = (0, 0, 0);
     for probes in 1..=4 {
-        every_table(probes, 2, |table| {
+        every_table(probes, 3, |table| {
             let (cost, least) = (plan(table).cost, least_cost(table));
             assert!(cost <= 2 * least, "{table:?}");
             dearer += usize::from(cost > least);
