@@ -13,7 +13,8 @@ use Rattle.table.specs.Text.{closingLine}
 use Rattle.table.specs.Same.{Same}
 use Rattle.plan_theory.proofs.Same.{same-degree, rested-same}
 use Rattle.plan_theory.specs.Plan.{kept, keptCount, costOf}
-use Rattle.plan_output.specs.Output.{headLine, keptLine, keptLines, shortLine, shortLines, planText}
+use Rattle.plan_lines.specs.Lines.{headLine, keptLine, shortLine}
+use Rattle.plan_output.specs.Output.{keptLines, shortLines, planText}
 
 parts-same : {n n′ k k′ c c′ : ℕ} {l l′ s s′ : List ℕ} → n ≡ n′ → k ≡ k′ → c ≡ c′ → l ≡ l′ → s ≡ s′
     → headLine n k c ++ (l ++ (s ++ closingLine)) ≡ headLine n′ k′ c′ ++ (l′ ++ (s′ ++ closingLine))

@@ -4,9 +4,6 @@ ghost use lib.ListN.{length};
 ghost use Rattle.output.specs.Output.{outputFault, Prints};
 ghost use Rattle.plan_output.specs.Output.{outputOf};
 
-pub mod plan_lines;
-pub mod short_lines;
-pub mod starts;
 pub mod text;
 
 // Prints the plan of the table that a text gives, or the text's refusal.

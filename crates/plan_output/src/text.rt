@@ -29,16 +29,16 @@ pub fn print_plan(
     let mut degrees = [0u16; 256];
     table::degrees::count_degrees(&mut degrees, links, lows, highs);
     let kept = plan_methods::counts::kept_count(&plan, links);
-    let short = super::short_lines::short_count(probes, needs, &degrees);
-    let end = super::starts::short_start(kept, short);
+    let short = plan_lines::short_lines::short_count(probes, needs, &degrees);
+    let end = plan_lines::starts::short_start(kept, short);
     if out.len() < end + CLOSING_BYTES {
         return Output::Refused(8);
     }
     let cost = plan_methods::counts::kept_cost(&plan, links, costs);
-    super::plan_lines::put_head(out, number, kept, cost);
-    super::plan_lines::put_kept(out, &plan, links, lows, highs, costs);
-    let shorts = super::starts::short_start(kept, 0);
-    super::short_lines::put_shorts(out, shorts, probes, needs, &degrees);
+    plan_lines::kept_lines::put_head(out, number, kept, cost);
+    plan_lines::kept_lines::put_kept(out, &plan, links, lows, highs, costs);
+    let shorts = plan_lines::starts::short_start(kept, 0);
+    plan_lines::short_lines::put_shorts(out, shorts, probes, needs, &degrees);
     table_write::line::put_closing(out, end);
     Output::Length(end + CLOSING_BYTES)
 }

@@ -1,7 +1,7 @@
--- `plan_output::plan_lines::put_head` meets its contract.
+-- `plan_lines::kept_lines::put_head` meets its contract.
 use borrow.Author.Needs.{needs}
-use Rattle.plan_output.proofs.plan_lines.put_head.Statement.{statement}
-use Rattle.plan_output.proofs.plan_lines.put_head.Tie as tie
+use Rattle.plan_lines.proofs.kept_lines.put_head.Statement.{statement}
+use Rattle.plan_lines.proofs.kept_lines.put_head.Tie as tie
 use mathlib.Core.Path.{refl, _∙_}
 use mathlib.Core.List.{[], _∷_, _++_}
 use native.Mathlib.Omega.{arith}

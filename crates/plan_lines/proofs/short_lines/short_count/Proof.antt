@@ -1,8 +1,8 @@
--- `plan_output::short_lines::short_count` meets its contract.
+-- `plan_lines::short_lines::short_count` meets its contract.
 -- Invariant: n is the number of short probes before v. Measure: the probes that are left.
 use borrow.Author.Needs.{needs}
-use Rattle.plan_output.proofs.short_lines.short_count.Statement.{statement}
-use Rattle.plan_output.proofs.short_lines.short_count.Tie as tie
+use Rattle.plan_lines.proofs.short_lines.short_count.Statement.{statement}
+use Rattle.plan_lines.proofs.short_lines.short_count.Tie as tie
 use Prim.Native.Nat.{ℕ, _-_, _≤_}
 use mathlib.Core.Path.{_≡_, refl, sym, _∙_}
 use native.Mathlib.Omega.{arith}

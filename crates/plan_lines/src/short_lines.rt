@@ -8,7 +8,7 @@ ghost use lib.Seq.{sets};
 ghost use Rattle.range.specs.Sum.{count};
 ghost use Rattle.range.specs.Lists.{joined};
 ghost use Rattle.table.specs.Table.{item};
-ghost use Rattle.plan_output.specs.Output.{shortLine};
+ghost use Rattle.plan_lines.specs.Lines.{shortLine};
 
 // Whether a need is above the links that there are.
 fn is_short(degree: u16, need: u16) -> bool

@@ -1,8 +1,8 @@
--- `plan_output::plan_lines::put_kept` meets its contract.
+-- `plan_lines::kept_lines::put_kept` meets its contract.
 -- Invariant: the lines of the kept links before i are stored, up to `at`. Measure: the links that are left.
 use borrow.Author.Needs.{needs}
-use Rattle.plan_output.proofs.plan_lines.put_kept.Statement.{statement}
-use Rattle.plan_output.proofs.plan_lines.put_kept.Tie as tie
+use Rattle.plan_lines.proofs.kept_lines.put_kept.Statement.{statement}
+use Rattle.plan_lines.proofs.kept_lines.put_kept.Tie as tie
 use Prim.Native.Nat.{ℕ, _+_, _-_, _≤_}
 use mathlib.Core.Path.{_≡_, refl, _∙_}
 use native.Mathlib.Omega.{arith}
@@ -12,8 +12,8 @@ use Rattle.range.specs.Sum.{sum, count}
 use Rattle.range.specs.Lists.{joined}
 use Rattle.range.proofs.Sums.{weigh-next}
 use Rattle.table.specs.Table.{item}
-use Rattle.plan_output.specs.Output.{keptStart}
-use Rattle.plan_output.proofs.Printing.{length-kept-line, keptLineAt, count-part, lines-then}
+use Rattle.plan_lines.specs.Lines.{keptStart}
+use Rattle.plan_lines.proofs.Lengths.{length-kept-line, keptLineAt, count-part, lines-then}
 use Rattle.plan_theory.specs.Plan.{isKept}
 
 abbrev Inv-loop : tie.InvT-loop

@@ -9,7 +9,7 @@ ghost use Rattle.range.specs.Sum.{count};
 ghost use Rattle.range.specs.Lists.{joined};
 ghost use Rattle.table.specs.Table.{item};
 ghost use Rattle.plan_theory.specs.Plan.{isKept};
-ghost use Rattle.plan_output.specs.Output.{headLine, keptStart, keptLine};
+ghost use Rattle.plan_lines.specs.Lines.{headLine, keptStart, keptLine};
 
 // A plan's first line.
 pub fn put_head(out: &mut [u8], number: u16, kept: u32, cost: u32)

@@ -1,7 +1,7 @@
 // Where the lines of a plan start.
 use table::LINK_BYTES;
 ghost use mathlib.Core.Path.{_≡_};
-ghost use Rattle.plan_output.specs.Output.{keptStart, shortStart};
+ghost use Rattle.plan_lines.specs.Lines.{keptStart, shortStart};
 
 // The bytes of a plan's first line, with its line feed.
 const FIRST_LINE_BYTES: usize = 17;

@@ -1,7 +1,7 @@
--- `plan_output::short_lines::put_short` meets its contract.
+-- `plan_lines::short_lines::put_short` meets its contract.
 use borrow.Author.Needs.{needs}
-use Rattle.plan_output.proofs.short_lines.put_short.Statement.{statement}
-use Rattle.plan_output.proofs.short_lines.put_short.Tie as tie
+use Rattle.plan_lines.proofs.short_lines.put_short.Statement.{statement}
+use Rattle.plan_lines.proofs.short_lines.put_short.Tie as tie
 use Prim.Native.Nat.{_+_, _-_}
 use mathlib.Core.Path.{refl, sym, _∙_}
 use mathlib.Core.Bool.{true}
@@ -12,7 +12,7 @@ use borrow.Author.Tests.{ltb-true, not-true, not-false}
 use Rattle.hex.specs.Digits.{digits}
 use Rattle.hex.proofs.Laws.{length-digits}
 use Rattle.range.proofs.Sets.{sets-then}
-use Rattle.plan_output.proofs.Printing.{length-short-line, short-room}
+use Rattle.plan_lines.proofs.Lengths.{length-short-line, short-room}
 
 is-short-requires : tie.Need-is-short-requires
 is-short-requires c κs = search needs

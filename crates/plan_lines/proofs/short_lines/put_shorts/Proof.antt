@@ -1,8 +1,8 @@
--- `plan_output::short_lines::put_shorts` meets its contract.
+-- `plan_lines::short_lines::put_shorts` meets its contract.
 -- Invariant: the lines of the short probes before v are stored, up to `at`. Measure: the probes that are left.
 use borrow.Author.Needs.{needs}
-use Rattle.plan_output.proofs.short_lines.put_shorts.Statement.{statement}
-use Rattle.plan_output.proofs.short_lines.put_shorts.Tie as tie
+use Rattle.plan_lines.proofs.short_lines.put_shorts.Statement.{statement}
+use Rattle.plan_lines.proofs.short_lines.put_shorts.Tie as tie
 use Prim.Native.Nat.{ℕ, _+_, _-_, _*_, _≤_}
 use mathlib.Core.Path.{_≡_, refl, _∙_}
 use native.Mathlib.Omega.{arith}
@@ -13,7 +13,7 @@ use Rattle.range.specs.Sum.{sum, count}
 use Rattle.range.specs.Lists.{joined}
 use Rattle.range.proofs.Sums.{weigh-next}
 use Rattle.table.specs.Table.{item}
-use Rattle.plan_output.proofs.Printing.{length-short-line, shortLineAt, count-part, lines-then}
+use Rattle.plan_lines.proofs.Lengths.{length-short-line, shortLineAt, count-part, lines-then}
 use mathlib.Core.Bool.{Bool, cond}
 
 abbrev Inv-loop : tie.InvT-loop

@@ -1,7 +1,7 @@
--- `plan_output::plan_lines::put_link` meets its contract.
+-- `plan_lines::kept_lines::put_link` meets its contract.
 use borrow.Author.Needs.{needs}
-use Rattle.plan_output.proofs.plan_lines.put_link.Statement.{statement}
-use Rattle.plan_output.proofs.plan_lines.put_link.Tie as tie
+use Rattle.plan_lines.proofs.kept_lines.put_link.Statement.{statement}
+use Rattle.plan_lines.proofs.kept_lines.put_link.Tie as tie
 use native.Mathlib.Omega.{arith}
 use borrow.Author.Tests.{eq-eqb, ne-eqb}
 use Rattle.table.proofs.Lengths.{length-triple}
