@@ -28,7 +28,7 @@ use Rattle.wake_log.specs.Entry.{answerOf}
 use Rattle.probe_rules.specs.declared.Event.{Event}
 use Rattle.probe_rules.specs.declared.Event.the-variants.{Opening, Offer, Refusal}
 use Rattle.probe_rules.specs.declared.Outcome.{Outcome}
-use Rattle.probe_rules.specs.declared.Outcome.the-variants.{Opened, NothingToOpen, Taken, TakenDisplacing, Refused, RefusalLearnt, NoChange}
+use Rattle.probe_rules.specs.declared.Outcome.the-variants.{Opened, Enough, Taken, TakenDisplacing, Refused, RefusalLearnt, NoChange, AllTried}
 use Rattle.probe_rules.specs.Rules.{befalls, offer, whatOf, entryOf}
 use Rattle.fleet_theory.specs.Fleet.{outAt, inAt, own, fleetFault, eventFault, eventOf, outcomeOf, alterFleet, alteredBy, differs, linkChanges}
 use Rattle.table.specs.Slices.{Slices, tableOf, slicesFault}
@@ -46,12 +46,13 @@ use Rattle.fleet.proofs.Passing.{passed-line}
 -- what an outcome stores differs from what stood there; e are the probe's own bytes
 abbrev NewBytes : List ℕ → Outcome → Type 0
 NewBytes e (Opened i) = outbound e i ≡ 1 → ⊥
-NewBytes e NothingToOpen = Unit
+NewBytes e Enough = Unit
 NewBytes e (Taken i) = inbound e i ≡ 1 → ⊥
 NewBytes e (TakenDisplacing i c) = (inbound e i ≡ 0) × (inbound e c ≡ 1)
 NewBytes e (Refused i) = inbound e i ≡ 2 → ⊥
 NewBytes e (RefusalLearnt i) = outbound e i ≡ 2 → ⊥
 NewBytes e (NoChange i) = Unit
+NewBytes e AllTried = Unit
 
 module _ (t : Table) (legal : Legal t) (p : ℕ) (e : List ℕ) where
   cheapest : Best (cheaper t) (ownWith t p (inbound e) 1) (t .links) (t .links) (cheapestHeld t p e)
@@ -174,7 +175,7 @@ module _ (t : Table) (p : ℕ) (r : List ℕ) (long : length r ≡ 4 * t .links)
 
   outcome-changes : (o : Outcome) → OwnOutcome t p o → NewBytes (own t p r) o → sum (t .links) (linkChanges r (alterFleet t p o r)) ≡ changesOf (whatOf t p o)
   outcome-changes (Opened i) a new = out-one i 1 a new
-  outcome-changes NothingToOpen a new = no-changes r (t .links)
+  outcome-changes Enough a new = no-changes r (t .links)
   outcome-changes (Taken i) a new = in-one i 1 a new
   outcome-changes (TakenDisplacing i c) a new =
       let byte = in-reads t .own-byte r p i (a .0) in
@@ -186,6 +187,7 @@ module _ (t : Table) (p : ℕ) (r : List ℕ) (long : length r ≡ 4 * t .links)
   outcome-changes (Refused i) a new = in-one i 2 a new
   outcome-changes (RefusalLearnt i) a new = out-one i 2 a new
   outcome-changes (NoChange i) a new = no-changes r (t .links)
+  outcome-changes AllTried a new = no-changes r (t .links)
 
 module _ (x : Slices) (fine : slicesFault x ≡ 0) (room : ℕ) where
   abbrev t : Table

@@ -17,7 +17,7 @@ use Rattle.plan_theory.proofs.Settled.{near, back}
 use Rattle.probe_frame.specs.Frame.{Frame, frameOf}
 use Rattle.probe_record.specs.Record.{recordLengthFault, byteFault, spareFault, recordFault}
 use Rattle.probe_rules.specs.declared.Outcome.{Outcome}
-use Rattle.probe_rules.specs.declared.Outcome.the-variants.{Opened, NothingToOpen, Taken, TakenDisplacing, Refused, RefusalLearnt, NoChange}
+use Rattle.probe_rules.specs.declared.Outcome.the-variants.{Opened, Enough, Taken, TakenDisplacing, Refused, RefusalLearnt, NoChange, AllTried}
 use Rattle.probe_rules.specs.Rules.{alter}
 use Rattle.probe_rules.specs.Within.{OwnEvent, OwnOutcome}
 use Rattle.probe_theory.proofs.EndLaws.{end-laws}
@@ -54,13 +54,14 @@ small-set n r k v long small each j l = go (ℕ-discrete j k)
 module _ (t : Table) (p : ℕ) (n : ℕ) (r : List ℕ) (long : length r ≡ n) (each : Small n r) where
   small-altered : (o : Outcome) → Small n (alterFleet t p o r)
   small-altered (Opened i) = small-set n r (outAt t p i) 1 long (omega arith) each
-  small-altered NothingToOpen = each
+  small-altered Enough = each
   small-altered (Taken i) = small-set n r (inAt t p i) 1 long (omega arith) each
   small-altered (TakenDisplacing i c) =
       small-set n (set r (inAt t p i) 1) (inAt t p c) 2 (length-set r (inAt t p i) 1 ∙ long) (omega arith) (small-set n r (inAt t p i) 1 long (omega arith) each)
   small-altered (Refused i) = small-set n r (inAt t p i) 2 long (omega arith) each
   small-altered (RefusalLearnt i) = small-set n r (outAt t p i) 2 long (omega arith) each
   small-altered (NoChange i) = each
+  small-altered AllTried = each
 
 module _ (x : Slices) (fine : slicesFault x ≡ 0) (r : List ℕ) (good : fleetFault (tableOf x) r ≡ 0) where
   abbrev t : Table

@@ -10,7 +10,7 @@ use Rattle.probe_frame.specs.Frame.{frameOf}
 use Rattle.wake_log.specs.declared.Answer.{Answer}
 use Rattle.wake_log.specs.declared.Answer.the-variants as answer
 use Rattle.wake_log.specs.declared.What.{What}
-use Rattle.wake_log.specs.declared.What.the-variants.{Opened, NothingToOpen, Taken, TakenDisplacing, Refused, RefusalLearnt, NoChange}
+use Rattle.wake_log.specs.declared.What.the-variants.{Opened, Enough, Taken, TakenDisplacing, Refused, RefusalLearnt, NoChange, AllTried}
 use Rattle.wake_log.specs.Entry.{entryValues, answerReply}
 use Rattle.probe_rules.specs.Rules.{entryOf}
 use Rattle.fleet.specs.declared.Finishing.{Finishing}
@@ -26,12 +26,13 @@ pub record Handled (x : Slices) (used room : ℕ) (line : List ℕ) (r : Answer)
 -- how many record bytes an event altered, by its entry
 abbrev pub changesOf : What → ℕ
 changesOf (Opened link) = 1
-changesOf NothingToOpen = 0
+changesOf Enough = 0
 changesOf (Taken link) = 1
 changesOf (TakenDisplacing link displaced) = 2
 changesOf (Refused link) = 1
 changesOf (RefusalLearnt link) = 1
 changesOf (NoChange link) = 0
+changesOf AllTried = 0
 
 -- by its answer
 abbrev pub changesBy : Answer → ℕ

@@ -104,7 +104,7 @@ pub fn changes_of(what: wake_log::What) -> u8
 {
     match what {
         wake_log::What::Opened(_) => 1,
-        wake_log::What::NothingToOpen => 0,
+        wake_log::What::Enough => 0,
         wake_log::What::Taken(_) => 1,
         wake_log::What::TakenDisplacing {
             link: _,
@@ -113,6 +113,7 @@ pub fn changes_of(what: wake_log::What) -> u8
         wake_log::What::Refused(_) => 1,
         wake_log::What::RefusalLearnt(_) => 1,
         wake_log::What::NoChange(_) => 0,
+        wake_log::What::AllTried => 0,
     }
 }
 

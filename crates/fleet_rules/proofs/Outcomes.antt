@@ -7,7 +7,7 @@ use borrow.Author.Tests.{lt-ltb, le-ltb}
 use Rattle.table.specs.Table.{Table, degree, spare, dearer, cheaper}
 use Rattle.table.proofs.Needs.{spare-given}
 use Rattle.probe_record.specs.Record.{outbound, inbound, standing, held, dearestUntried, cheapestHeld}
-use Rattle.probe_rules.specs.declared.Outcome.the-variants.{Opened, NothingToOpen, Taken, TakenDisplacing, Refused}
+use Rattle.probe_rules.specs.declared.Outcome.the-variants.{Opened, Enough, Taken, TakenDisplacing, Refused, AllTried}
 use Rattle.probe_rules.specs.Rules.{opening, offer}
 use Rattle.fleet_rules.specs.Survey.{Surveyed}
 use Rattle.fleet_rules.specs.declared.Survey.{Survey}
@@ -24,10 +24,10 @@ module _ (t : Table) (p : ℕ) (e : List ℕ) (s : Survey) (n : ℕ) (spare-is :
     dearest-is : dearestUntried t p e ≡ s .best
     dearest-is = sym (g .chosen)
 
-    pub opening-full : n ≤ s .count → NothingToOpen ≡ opening t p e
+    pub opening-full : n ≤ s .count → Enough ≡ opening t p e
     opening-full l = rw (standing-is, spare-is, le-ltb (s .count) n l)
 
-    pub opening-none : s .count < n → t .links ≤ s .best → NothingToOpen ≡ opening t p e
+    pub opening-none : s .count < n → t .links ≤ s .best → AllTried ≡ opening t p e
     opening-none l m = rw (standing-is, spare-is, dearest-is, lt-ltb (s .count) n l, le-ltb (s .best) (t .links) m)
 
     pub opening-one : s .count < n → s .best < t .links → Opened (s .best) ≡ opening t p e

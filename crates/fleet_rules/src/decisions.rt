@@ -99,10 +99,10 @@ fn decide_opening(
 {
     let s = survey(0, rec, links, lows, highs, costs, probe);
     if table_links::spares::spare_at(degrees, needs, probe) <= s.count {
-        return Outcome::NothingToOpen;
+        return Outcome::Enough;
     }
     if links <= s.best {
-        return Outcome::NothingToOpen;
+        return Outcome::AllTried;
     }
     Outcome::Opened(s.best)
 }

@@ -66,7 +66,7 @@ pub fn alter_fleet(rec: &mut [u8], outcome: probe_rules::Outcome, lows: &[u16], 
             let at = out_at(lows, probe, i);
             rec[at] = 1;
         }
-        probe_rules::Outcome::NothingToOpen => {}
+        probe_rules::Outcome::Enough => {}
         probe_rules::Outcome::Taken(i) => {
             let at = in_at(lows, probe, i);
             rec[at] = 1;
@@ -86,5 +86,6 @@ pub fn alter_fleet(rec: &mut [u8], outcome: probe_rules::Outcome, lows: &[u16], 
             rec[at] = 2;
         }
         probe_rules::Outcome::NoChange(_) => {}
+        probe_rules::Outcome::AllTried => {}
     }
 }

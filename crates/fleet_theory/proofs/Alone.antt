@@ -10,7 +10,7 @@ use lib.Seq.{getD-set-same, getD-set-other, ext-getD}
 use Rattle.table.specs.Table.{Table, item}
 use Rattle.probe_record.specs.Record.{outbound, inbound}
 use Rattle.probe_rules.specs.declared.Outcome.{Outcome}
-use Rattle.probe_rules.specs.declared.Outcome.the-variants.{Opened, NothingToOpen, Taken, TakenDisplacing, Refused, RefusalLearnt, NoChange}
+use Rattle.probe_rules.specs.declared.Outcome.the-variants.{Opened, Enough, Taken, TakenDisplacing, Refused, RefusalLearnt, NoChange, AllTried}
 use Rattle.probe_rules.specs.Rules.{alter}
 use Rattle.probe_rules.specs.Within.{OwnLink, OwnOutcome}
 use Rattle.fleet_theory.proofs.EndState.{store}
@@ -45,21 +45,23 @@ module _ (p : ℕ) where
 
   out-else : (o : Outcome) (b : ℕ → ℕ → ℕ) (q j : ℕ) → (q ≡ p → ⊥) → storedOut p o b q j ≡ b q j
   out-else (Opened i) b q j d = store-else b i 1 q j d
-  out-else NothingToOpen b q j d = refl
+  out-else Enough b q j d = refl
   out-else (Taken i) b q j d = refl
   out-else (TakenDisplacing i c) b q j d = refl
   out-else (Refused i) b q j d = refl
   out-else (RefusalLearnt i) b q j d = store-else b i 2 q j d
   out-else (NoChange i) b q j d = refl
+  out-else AllTried b q j d = refl
 
   in-else : (o : Outcome) (b : ℕ → ℕ → ℕ) (q j : ℕ) → (q ≡ p → ⊥) → storedIn p o b q j ≡ b q j
   in-else (Opened i) b q j d = refl
-  in-else NothingToOpen b q j d = refl
+  in-else Enough b q j d = refl
   in-else (Taken i) b q j d = store-else b i 1 q j d
   in-else (TakenDisplacing i c) b q j d = store-else (store b p i 1) c 2 q j d ∙ store-else b i 1 q j d
   in-else (Refused i) b q j d = store-else b i 2 q j d
   in-else (RefusalLearnt i) b q j d = refl
   in-else (NoChange i) b q j d = refl
+  in-else AllTried b q j d = refl
 
 module _ (t : Table) (p : ℕ) where
   -- a byte of p stored in the fleet's record is stored in its own
@@ -88,13 +90,14 @@ module _ (t : Table) (p : ℕ) where
   module _ (r : List ℕ) (long : length r ≡ 4 * t .links) where
     pub own-altered : (o : Outcome) → OwnOutcome t p o → own t p (alterFleet t p o r) ≡ alter o (own t p r)
     own-altered (Opened i) a = own-set-out r i 1 long a
-    own-altered NothingToOpen a = refl
+    own-altered Enough a = refl
     own-altered (Taken i) a = own-set-in r i 1 long a
     own-altered (TakenDisplacing i c) a =
         own-set-in (set r (inAt t p i) 1) c 2 (length-set r (inAt t p i) 1 ∙ long) (a .1) ∙ ap (λ e. set e (2 * c + 1) 2) (own-set-in r i 1 long (a .0))
     own-altered (Refused i) a = own-set-in r i 2 long a
     own-altered (RefusalLearnt i) a = own-set-out r i 2 long a
     own-altered (NoChange i) a = refl
+    own-altered AllTried a = refl
 
     pub own-else : (o : Outcome) → OwnOutcome t p o → (q : ℕ) → (q ≡ p → ⊥) → own t q (alterFleet t p o r) ≡ own t q r
     own-else o a q d =

@@ -12,7 +12,7 @@ use Rattle.table.specs.Table.{Table, item}
 use Rattle.table.specs.Legal.{LegalTable}
 use Rattle.plan_theory.proofs.Plan.{touches-low, touches-high}
 use Rattle.probe_rules.specs.declared.Outcome.{Outcome}
-use Rattle.probe_rules.specs.declared.Outcome.the-variants.{Opened, NothingToOpen, Taken, TakenDisplacing, Refused, RefusalLearnt, NoChange}
+use Rattle.probe_rules.specs.declared.Outcome.the-variants.{Opened, Enough, Taken, TakenDisplacing, Refused, RefusalLearnt, NoChange, AllTried}
 use Rattle.probe_rules.specs.Within.{OwnLink, OwnOutcome}
 use Rattle.fleet_theory.proofs.EndState.{store, SameBytes}
 use Rattle.fleet_theory.specs.Fleet.{outAt, inAt, alterFleet}
@@ -61,30 +61,33 @@ byte-of t s r j l = go (ℕ-discrete (j % 4) 0) (ℕ-discrete (j % 4) 1) (ℕ-di
 -- the outbound and the inbound bytes after an outcome of the probe
 abbrev pub storedOut : ℕ → Outcome → (ℕ → ℕ → ℕ) → ℕ → ℕ → ℕ
 storedOut p (Opened i) o = store o p i 1
-storedOut p NothingToOpen o = o
+storedOut p Enough o = o
 storedOut p (Taken i) o = o
 storedOut p (TakenDisplacing i c) o = o
 storedOut p (Refused i) o = o
 storedOut p (RefusalLearnt i) o = store o p i 2
 storedOut p (NoChange i) o = o
+storedOut p AllTried o = o
 
 abbrev pub storedIn : ℕ → Outcome → (ℕ → ℕ → ℕ) → ℕ → ℕ → ℕ
 storedIn p (Opened i) n = n
-storedIn p NothingToOpen n = n
+storedIn p Enough n = n
 storedIn p (Taken i) n = store n p i 1
 storedIn p (TakenDisplacing i c) n = store (store n p i 1) p c 2
 storedIn p (Refused i) n = store n p i 2
 storedIn p (RefusalLearnt i) n = n
 storedIn p (NoChange i) n = n
+storedIn p AllTried n = n
 
 pub length-altered : (t : Table) (p : ℕ) (o : Outcome) (r : List ℕ) → length (alterFleet t p o r) ≡ length r
 length-altered t p (Opened i) r = length-set r (outAt t p i) 1
-length-altered t p NothingToOpen r = refl
+length-altered t p Enough r = refl
 length-altered t p (Taken i) r = length-set r (inAt t p i) 1
 length-altered t p (TakenDisplacing i c) r = length-set (set r (inAt t p i) 1) (inAt t p c) 2 ∙ length-set r (inAt t p i) 1
 length-altered t p (Refused i) r = length-set r (inAt t p i) 2
 length-altered t p (RefusalLearnt i) r = length-set r (outAt t p i) 2
 length-altered t p (NoChange i) r = refl
+length-altered t p AllTried r = refl
 
 store-same : {b b′ : ℕ → ℕ → ℕ} (p i v : ℕ) → SameBytes b b′ → SameBytes (store b p i v) (store b′ p i v)
 unfolding store
@@ -106,19 +109,21 @@ module _ (t : Table) (p : ℕ) where
   module _ (r : List ℕ) (long : length r ≡ 4 * t .links) where
     pub altered-out : (o : Outcome) → OwnOutcome t p o → SameBytes (outOf t (alterFleet t p o r)) (storedOut p o (outOf t r))
     altered-out (Opened i) a = out-set r i 1 long a
-    altered-out NothingToOpen a = λ q j. refl
+    altered-out Enough a = λ q j. refl
     altered-out (Taken i) a = out-in-set r i 1 a
     altered-out (TakenDisplacing i c) a = λ q j. out-in-set (set r (inAt t p i) 1) c 2 (a .1) q j ∙ out-in-set r i 1 (a .0) q j
     altered-out (Refused i) a = out-in-set r i 2 a
     altered-out (RefusalLearnt i) a = out-set r i 2 long a
     altered-out (NoChange i) a = λ q j. refl
+    altered-out AllTried a = λ q j. refl
 
     pub altered-in : (o : Outcome) → OwnOutcome t p o → SameBytes (inOf t (alterFleet t p o r)) (storedIn p o (inOf t r))
     altered-in (Opened i) a = in-out-set r i 1 a
-    altered-in NothingToOpen a = λ q j. refl
+    altered-in Enough a = λ q j. refl
     altered-in (Taken i) a = in-set r i 1 long a
     altered-in (TakenDisplacing i c) a = λ q j.
         in-set (set r (inAt t p i) 1) c 2 (length-set r (inAt t p i) 1 ∙ long) (a .1) q j ∙ store-same p c 2 (in-set r i 1 long (a .0)) q j
     altered-in (Refused i) a = in-set r i 2 long a
     altered-in (RefusalLearnt i) a = in-out-set r i 2 a
     altered-in (NoChange i) a = λ q j. refl
+    altered-in AllTried a = λ q j. refl

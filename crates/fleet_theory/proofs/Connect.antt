@@ -13,7 +13,7 @@ use Rattle.probe_rules.specs.declared.Outcome.{Outcome}
 use Rattle.probe_rules.specs.declared.Outcome.the-variants.{Opened, Taken, TakenDisplacing, Refused, RefusalLearnt}
 use Rattle.probe_rules.specs.Rules.{befalls}
 use Rattle.probe_rules.specs.Within.{OwnEvent, OwnOutcome}
-use Rattle.probe_rules.proofs.Befalls.{Befell, opened, nothing-to-open, taken, displacing, refused, seen, learnt, known, befell, befell-own, own-within}
+use Rattle.probe_rules.proofs.Befalls.{Befell, opened, enough, all-tried, taken, displacing, refused, seen, learnt, known, befell, befell-own, own-within}
 use Rattle.fleet_theory.proofs.EndState.{Step, idle, opens, takes, displaces, refuses, learns, Sent, Denied}
 use Rattle.fleet_theory.specs.Fleet.{own, alterFleet}
 use Rattle.fleet_theory.proofs.Own.{outOf, inOf}
@@ -42,7 +42,8 @@ module _ (t : Table) (r : List ℕ) (long : length r ≡ 4 * t .links) (p : ℕ)
   befell-step : {v : Event} {o : Outcome} → Befell t p (own t p r) v o → Came t r p v → OwnOutcome t p o → StepOf o
   befell-step (opened i a z m h) x own-links =
       opens p i (a .0) (a .1) z m (λ g l at. h g (l, at)) (altered-out t p r long (Opened i) own-links) (altered-in t p r long (Opened i) own-links)
-  befell-step nothing-to-open x own-links = idle (λ q j. refl) (λ q j. refl)
+  befell-step (enough m) x own-links = idle (λ q j. refl) (λ q j. refl)
+  befell-step (all-tried m h) x own-links = idle (λ q j. refl) (λ q j. refl)
   befell-step (taken i z m) (w, l, x, f) own-links =
       takes p w i l x f z m (altered-out t p r long (Taken i) own-links) (altered-in t p r long (Taken i) own-links)
   befell-step (displacing i c z m a y d h) (w, l, x, f) own-links =

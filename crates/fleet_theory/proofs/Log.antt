@@ -8,7 +8,7 @@ use Rattle.table.specs.Table.{Table, other}
 use Rattle.table.specs.Legal.{Legal}
 use Rattle.wake_log.specs.declared.Entry.{Entry}
 use Rattle.probe_rules.specs.declared.Outcome.{Outcome}
-use Rattle.probe_rules.specs.declared.Outcome.the-variants.{Opened, NothingToOpen, Taken, TakenDisplacing, Refused, RefusalLearnt, NoChange}
+use Rattle.probe_rules.specs.declared.Outcome.the-variants.{Opened, Enough, Taken, TakenDisplacing, Refused, RefusalLearnt, NoChange, AllTried}
 use Rattle.probe_rules.specs.Rules.{whatOf}
 use Rattle.probe_rules.specs.Within.{OwnOutcome}
 use Rattle.probe_rules.proofs.Frames.{joins-across, across-joins, other-across, one-link}
@@ -40,7 +40,7 @@ module _ (t : Table) (p : ℕ) (n : ℕ → ℕ → ℕ) where
   -- a byte 2 was there before, or the entry says it
   pub two-new : (o : Outcome) → OwnOutcome t p o → (q j : ℕ) → storedIn p o n q j ≡ 2 → (n q j ≡ 2) ⊎ Refuses t j p (whatOf t p o)
   two-new (Opened i) a q j e = inl e
-  two-new NothingToOpen a q j e = inl e
+  two-new Enough a q j e = inl e
   two-new (Taken i) a q j e = inl (before-store n (store n p i 1) p i 1 (λ x y. refl) q j 2 (λ z. omega arith) e)
   two-new (TakenDisplacing i c) a q j e = go (swap n (store (store n p i 1) p c 2) p i c (λ x y. refl) q j)
     where
@@ -55,6 +55,7 @@ module _ (t : Table) (p : ℕ) (n : ℕ → ℕ → ℕ) where
       go (there d f) = inl (sym f ∙ e)
   two-new (RefusalLearnt i) a q j e = inl e
   two-new (NoChange i) a q j e = inl e
+  two-new AllTried a q j e = inl e
 
   -- what the entry says has a byte 2
   pub new-two : Legal t → (o : Outcome) → OwnOutcome t p o → (j : ℕ) → j < t .links → Refuses t j p (whatOf t p o) → storedIn p o n p j ≡ 2

@@ -35,10 +35,11 @@ abbrev pub Refuses : Table → ℕ → ℕ → What → Type 0
 Refuses t i p (what.Refused j) = j ≡ i
 Refuses t i p (what.TakenDisplacing j q) = joins t p q i ≡ true
 Refuses t i p (what.Opened j) = ⊥
-Refuses t i p what.NothingToOpen = ⊥
+Refuses t i p what.Enough = ⊥
 Refuses t i p (what.Taken j) = ⊥
 Refuses t i p (what.RefusalLearnt j) = ⊥
 Refuses t i p (what.NoChange j) = ⊥
+Refuses t i p what.AllTried = ⊥
 
 abbrev pub RefusedIn : Table → ℕ → List Entry → Type 0
 RefusedIn t i [] = ⊥

@@ -19,14 +19,15 @@ use Rattle.probe_record.proofs.SearchLaws.{dearest, cheapest}
 use Rattle.probe_rules.specs.declared.Event.{Event}
 use Rattle.probe_rules.specs.declared.Event.the-variants.{Opening, Offer, Refusal}
 use Rattle.probe_rules.specs.declared.Outcome.{Outcome}
-use Rattle.probe_rules.specs.declared.Outcome.the-variants.{Opened, NothingToOpen, Taken, TakenDisplacing, Refused, RefusalLearnt, NoChange}
+use Rattle.probe_rules.specs.declared.Outcome.the-variants.{Opened, Enough, Taken, TakenDisplacing, Refused, RefusalLearnt, NoChange, AllTried}
 use Rattle.probe_rules.specs.Rules.{opening, offer, befalls}
 use Rattle.probe_rules.specs.Within.{OwnLink, OwnEvent, OwnOutcome, EventWithin}
 
 pub data Befell (t : Table) (p : ℕ) (e : List ℕ) : Event → Outcome → Type 0 where
   opened : (i : ℕ) → OwnLink t p i → outbound e i ≡ 0 → standing t p e < spare t p
       → ((g : ℕ) → OwnLink t p g → outbound e g ≡ 0 → dearer t g i ≡ false) → Befell t p e Opening (Opened i)
-  nothing-to-open : Befell t p e Opening NothingToOpen
+  enough : spare t p ≤ standing t p e → Befell t p e Opening Enough
+  all-tried : standing t p e < spare t p → ((g : ℕ) → OwnLink t p g → outbound e g ≡ 0 → ⊥) → Befell t p e Opening AllTried
   taken : (i : ℕ) → inbound e i ≡ 0 → held t p e < spare t p → Befell t p e (Offer i) (Taken i)
   displacing : (i c : ℕ) → inbound e i ≡ 0 → spare t p ≤ held t p e → OwnLink t p c → inbound e c ≡ 1 → dearer t i c ≡ true
       → ((g : ℕ) → OwnLink t p g → inbound e g ≡ 1 → dearer t c g ≡ false) → Befell t p e (Offer i) (TakenDisplacing i c)
@@ -41,7 +42,7 @@ module _ (t : Table) (legal : Legal t) (p : ℕ) (e : List ℕ) where
   order = dearer-order t (legal-table 256 2048 t legal .order)
 
   befell-opening : Befell t p e Opening (opening t p e)
-  befell-opening = go (decided (room && some))
+  befell-opening = go (decided room) (decided some) (dearest t legal p e)
     where
       i : ℕ
       i = dearestUntried t p e
@@ -52,15 +53,24 @@ module _ (t : Table) (legal : Legal t) (p : ℕ) (e : List ℕ) where
       some : Bool
       some = ltb i (t .links)
 
-      opens : room ≡ true → some ≡ true → Best (dearer t) (ownWith t p (outbound e) 0) (t .links) (t .links) i → Befell t p e Opening (Opened i)
+      -- what is found dearest
+      IsDearest : Type 0
+      IsDearest = Best (dearer t) (ownWith t p (outbound e) 0) (t .links) (t .links) i
+
+      opens : room ≡ true → some ≡ true → IsDearest → Befell t p e Opening (Opened i)
       opens a s (nobody x h) = let l = ltb-true i (t .links) s in absurd (omega arith)
       opens a s (chosen l f h) =
           opened i (l, and-left (touches t p i) (eqb (outbound e i) 0) f) (eqb-true (outbound e i) 0 (and-right (touches t p i) (eqb (outbound e i) 0) f))
           (ltb-true (standing t p e) (spare t p) a) (λ g o z. h g (o .0) (and-intro (o .1) (eq-eqb (outbound e g) 0 z)))
 
-      go : ((room && some) ≡ true) ⊎ ((room && some) ≡ false) → Befell t p e Opening (opening t p e)
-      go (inl a) = rw a (opens (and-left room some a) (and-right room some a) (dearest t legal p e))
-      go (inr a) = rw a nothing-to-open
+      tried : some ≡ false → IsDearest → (g : ℕ) → OwnLink t p g → outbound e g ≡ 0 → ⊥
+      tried s (nobody x h) g o z = true≢false (sym (and-intro (o .1) (eq-eqb (outbound e g) 0 z)) ∙ h g (o .0))
+      tried s (chosen l f h) g o z = let k = ltb-false i (t .links) s in omega arith
+
+      go : (room ≡ true) ⊎ (room ≡ false) → (some ≡ true) ⊎ (some ≡ false) → IsDearest → Befell t p e Opening (opening t p e)
+      go (inl a) (inl s) b = rw (a, s) (opens a s b)
+      go (inl a) (inr s) b = rw (a, s) (all-tried (ltb-true (standing t p e) (spare t p) a) (tried s b))
+      go (inr a) s b = rw a (enough (ltb-false (standing t p e) (spare t p) a))
 
   befell-offer : (i : ℕ) → i < t .links → inbound e i ≡ 0 → Befell t p e (Offer i) (offer t p e i)
   befell-offer i l z = go (decided room) (decided (some && dear)) (cheapest t legal p e)
@@ -133,7 +143,8 @@ own-within t p (Refusal i) o = o .0
 -- an event on an own link has an outcome on own links
 pub befell-own : {t : Table} {p : ℕ} {e : List ℕ} {v : Event} {o : Outcome} → Befell t p e v o → OwnEvent t p v → OwnOutcome t p o
 befell-own (opened i a z m h) w = a
-befell-own nothing-to-open w = tt
+befell-own (enough m) w = tt
+befell-own (all-tried m h) w = tt
 befell-own (taken i z m) w = w
 befell-own (displacing i c z m a y d h) w = (w, a)
 befell-own (refused i z m h) w = w

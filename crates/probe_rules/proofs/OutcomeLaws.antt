@@ -7,13 +7,13 @@ use mathlib.Core.List.{List, []}
 use native.Mathlib.Omega.{arith}
 use lib.Dec.{ltb, eqb}
 use borrow.Author.Tests.{ltb-true}
-use Rattle.range.proofs.Bools.{and-left, and-right, decided}
+use Rattle.range.proofs.Bools.{and-left, decided}
 use Rattle.table.specs.Table.{Table, ofSlices, spare, dearer}
 use Rattle.probe_record.specs.Record.{outbound, inbound, standing, held, dearestUntried, cheapestHeld, bestOwn}
 use Rattle.probe_rules.specs.declared.Event.{Event}
 use Rattle.probe_rules.specs.declared.Event.the-variants.{Opening, Offer, Refusal}
 use Rattle.probe_rules.specs.declared.Outcome.{Outcome}
-use Rattle.probe_rules.specs.declared.Outcome.the-variants.{Opened, NothingToOpen, Taken, TakenDisplacing, Refused, RefusalLearnt, NoChange}
+use Rattle.probe_rules.specs.declared.Outcome.the-variants.{Opened, Enough, Taken, TakenDisplacing, Refused, RefusalLearnt, NoChange, AllTried}
 use Rattle.probe_rules.specs.Rules.{befalls, offer, entryOf}
 use Rattle.probe_rules.specs.Within.{EventWithin, Within}
 
@@ -28,8 +28,7 @@ either n b x y f g = go (decided b)
 pub befalls-within : (t : Table) (p : ℕ) (event : Event) (e : List ℕ) → EventWithin (t .links) event → Within (t .links) (befalls t p event e)
 befalls-within t p Opening e w =
     let i = dearestUntried t p e in
-    either (t .links) (ltb (standing t p e) (spare t p) && ltb i (t .links)) (Opened i) NothingToOpen
-    (λ f. ltb-true i (t .links) (and-right (ltb (standing t p e) (spare t p)) (ltb i (t .links)) f)) tt
+    either (t .links) (ltb (standing t p e) (spare t p)) _ Enough (λ f. either (t .links) (ltb i (t .links)) (Opened i) AllTried (ltb-true i (t .links)) tt) tt
 befalls-within t p (Offer i) e w = either (t .links) (eqb (inbound e i) 0) (offer t p e i) (NoChange i) (λ f. heard) w
   where
     c : ℕ
@@ -44,12 +43,13 @@ befalls-within t p (Refusal i) e w = either (t .links) (eqb (outbound e i) 2) (N
 
 pub within-wider : (n m : ℕ) (o : Outcome) → n ≤ m → Within n o → Within m o
 within-wider n m (Opened i) l w = omega arith
-within-wider n m NothingToOpen l w = tt
+within-wider n m Enough l w = tt
 within-wider n m (Taken i) l w = omega arith
 within-wider n m (TakenDisplacing i c) l w = (omega (arith, w .0), omega (arith, w .1))
 within-wider n m (Refused i) l w = omega arith
 within-wider n m (RefusalLearnt i) l w = omega arith
 within-wider n m (NoChange i) l w = omega arith
+within-wider n m AllTried l w = tt
 
 pub event-wider : (n m : ℕ) (v : Event) → n ≤ m → EventWithin n v → EventWithin m v
 event-wider n m Opening l w = tt
@@ -63,12 +63,13 @@ module _ (number probes links : ℕ) (needs lows highs costs : List ℕ) (p : �
 
   pub entry-same : (o : Outcome) → entryOf (ofSlices 0 0 0 [] lows highs []) p o ≡ entryOf table p o
   entry-same (Opened i) = refl
-  entry-same NothingToOpen = refl
+  entry-same Enough = refl
   entry-same (Taken i) = refl
   entry-same (TakenDisplacing i c) = refl
   entry-same (Refused i) = refl
   entry-same (RefusalLearnt i) = refl
   entry-same (NoChange i) = refl
+  entry-same AllTried = refl
 
   pub befalls-same : (event : Event) (e : List ℕ) → befalls (ofSlices 0 0 links needs lows highs costs) p event e ≡ befalls table p event e
   unfolding dearer

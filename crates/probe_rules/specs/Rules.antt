@@ -12,13 +12,14 @@ use Rattle.wake_log.specs.declared.What.the-variants as what
 use Rattle.probe_rules.specs.declared.Event.{Event}
 use Rattle.probe_rules.specs.declared.Event.the-variants.{Opening, Offer, Refusal}
 use Rattle.probe_rules.specs.declared.Outcome.{Outcome}
-use Rattle.probe_rules.specs.declared.Outcome.the-variants.{Opened, NothingToOpen, Taken, TakenDisplacing, Refused, RefusalLearnt, NoChange}
+use Rattle.probe_rules.specs.declared.Outcome.the-variants.{Opened, Enough, Taken, TakenDisplacing, Refused, RefusalLearnt, NoChange, AllTried}
 
 -- "Opening: with fewer standing than spare, the dearest untried own link becomes standing. Otherwise nothing to open."
+-- 02, No. 3: "An opening that opens nothing says 01 when the offers standing equal the spare, otherwise 07, every link tried." (22 lets no more stand than the spare.)
 abbrev pub opening : Table → ℕ → List ℕ → Outcome
 opening t p e =
     let i = dearestUntried t p e in
-    cond (ltb (standing t p e) (spare t p) && ltb i (t .links)) (Opened i) NothingToOpen
+    cond (ltb (standing t p e) (spare t p)) (cond (ltb i (t .links)) (Opened i) AllTried) Enough
 
 -- "An end takes an offer if it holds fewer than its spare, or if the offer is dearer than its cheapest held, which is then displaced."
 abbrev pub offer : Table → ℕ → List ℕ → ℕ → Outcome
@@ -35,12 +36,13 @@ befalls t p (Refusal i) e = cond (eqb (outbound e i) 2) (NoChange i) (RefusalLea
 -- the bytes that an outcome alters, by the places of outbound and inbound in the record
 abbrev pub alterAt : (ℕ → ℕ) → (ℕ → ℕ) → Outcome → List ℕ → List ℕ
 alterAt outAt inAt (Opened i) e = set e (outAt i) 1
-alterAt outAt inAt NothingToOpen e = e
+alterAt outAt inAt Enough e = e
 alterAt outAt inAt (Taken i) e = set e (inAt i) 1
 alterAt outAt inAt (TakenDisplacing i c) e = set (set e (inAt i) 1) (inAt c) 2
 alterAt outAt inAt (Refused i) e = set e (inAt i) 2
 alterAt outAt inAt (RefusalLearnt i) e = set e (outAt i) 2
 alterAt outAt inAt (NoChange i) e = e
+alterAt outAt inAt AllTried e = e
 
 -- in an end's own record
 abbrev pub alter : Outcome → List ℕ → List ℕ
@@ -59,12 +61,13 @@ rests e i = eqb (outbound e i) 1 && eqb (inbound e i) 1
 -- "An entry holds the probe and what befell it, with the link where there is one", and "the displaced probe"
 abbrev pub whatOf : Table → ℕ → Outcome → What
 whatOf t p (Opened i) = what.Opened i
-whatOf t p NothingToOpen = what.NothingToOpen
+whatOf t p Enough = what.Enough
 whatOf t p (Taken i) = what.Taken i
 whatOf t p (TakenDisplacing i c) = what.TakenDisplacing i (other t p c)
 whatOf t p (Refused i) = what.Refused i
 whatOf t p (RefusalLearnt i) = what.RefusalLearnt i
 whatOf t p (NoChange i) = what.NoChange i
+whatOf t p AllTried = what.AllTried
 
 abbrev pub entryOf : Table → ℕ → Outcome → Entry
 entryOf t p o = record { probe = p; what = whatOf t p o }

@@ -10,7 +10,7 @@ use Rattle.probe_record.specs.Record.{byteFault}
 use Rattle.probe_rules.specs.declared.Event.{Event}
 use Rattle.probe_rules.specs.declared.Event.the-variants.{Opening, Offer, Refusal}
 use Rattle.probe_rules.specs.declared.Outcome.{Outcome}
-use Rattle.probe_rules.specs.declared.Outcome.the-variants.{Opened, NothingToOpen, Taken, TakenDisplacing, Refused, RefusalLearnt, NoChange}
+use Rattle.probe_rules.specs.declared.Outcome.the-variants.{Opened, Enough, Taken, TakenDisplacing, Refused, RefusalLearnt, NoChange, AllTried}
 
 -- the links are below a number
 abbrev pub EventWithin : ℕ → Event → Type 0
@@ -20,12 +20,13 @@ EventWithin n (Refusal i) = i < n
 
 abbrev pub Within : ℕ → Outcome → Type 0
 Within n (Opened i) = i < n
-Within n NothingToOpen = Unit
+Within n Enough = Unit
 Within n (Taken i) = i < n
 Within n (TakenDisplacing i c) = (i < n) × (c < n)
 Within n (Refused i) = i < n
 Within n (RefusalLearnt i) = i < n
 Within n (NoChange i) = i < n
+Within n AllTried = Unit
 
 -- the link is the probe's own
 abbrev pub OwnLink : Table → ℕ → ℕ → Type 0
@@ -38,12 +39,13 @@ OwnEvent t p (Refusal i) = OwnLink t p i
 
 abbrev pub OwnOutcome : Table → ℕ → Outcome → Type 0
 OwnOutcome t p (Opened i) = OwnLink t p i
-OwnOutcome t p NothingToOpen = Unit
+OwnOutcome t p Enough = Unit
 OwnOutcome t p (Taken i) = OwnLink t p i
 OwnOutcome t p (TakenDisplacing i c) = OwnLink t p i × OwnLink t p c
 OwnOutcome t p (Refused i) = OwnLink t p i
 OwnOutcome t p (RefusalLearnt i) = OwnLink t p i
 OwnOutcome t p (NoChange i) = Unit
+OwnOutcome t p AllTried = Unit
 
 -- a record with room for the links, that 21 lets pass
 pub record EndReady (t : Table) (p : ℕ) (e : List ℕ) : Type 0 where

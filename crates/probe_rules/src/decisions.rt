@@ -25,11 +25,11 @@ fn decide_opening(
 {
     let spare = table_links::spares::spare(links, needs, lows, highs, probe);
     if spare <= probe_record::counts::ones(rec, links, 0) {
-        return Outcome::NothingToOpen;
+        return Outcome::Enough;
     }
     let i = probe_record::search::best_own(0, rec, links, lows, highs, costs, probe);
     if links <= i {
-        return Outcome::NothingToOpen;
+        return Outcome::AllTried;
     }
     Outcome::Opened(i)
 }

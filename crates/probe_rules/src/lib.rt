@@ -13,10 +13,11 @@ pub enum Event {
 // What befalls it.
 pub enum Outcome {
     Opened(usize),
-    NothingToOpen,
+    Enough,
     Taken(usize),
     TakenDisplacing { link: usize, displaced: usize },
     Refused(usize),
     RefusalLearnt(usize),
     NoChange(usize),
+    AllTried,
 }

@@ -18,7 +18,7 @@ pub fn alter(rec: &mut [u8], outcome: Outcome)
         Outcome::Opened(i) => {
             rec[2 * i] = 1;
         }
-        Outcome::NothingToOpen => {}
+        Outcome::Enough => {}
         Outcome::Taken(i) => {
             rec[2 * i + 1] = 1;
         }
@@ -33,6 +33,7 @@ pub fn alter(rec: &mut [u8], outcome: Outcome)
             rec[2 * i] = 2;
         }
         Outcome::NoChange(_) => {}
+        Outcome::AllTried => {}
     }
 }
 
@@ -43,7 +44,7 @@ fn what_of(outcome: Outcome, lows: &[u16], highs: &[u16], probe: u16) -> wake_lo
 {
     match outcome {
         Outcome::Opened(i) => wake_log::What::Opened(i as u16),
-        Outcome::NothingToOpen => wake_log::What::NothingToOpen,
+        Outcome::Enough => wake_log::What::Enough,
         Outcome::Taken(i) => wake_log::What::Taken(i as u16),
         Outcome::TakenDisplacing { link, displaced } => wake_log::What::TakenDisplacing {
             link: link as u16,
@@ -52,6 +53,7 @@ fn what_of(outcome: Outcome, lows: &[u16], highs: &[u16], probe: u16) -> wake_lo
         Outcome::Refused(i) => wake_log::What::Refused(i as u16),
         Outcome::RefusalLearnt(i) => wake_log::What::RefusalLearnt(i as u16),
         Outcome::NoChange(i) => wake_log::What::NoChange(i as u16),
+        Outcome::AllTried => wake_log::What::AllTried,
     }
 }
 

@@ -17,7 +17,7 @@ use Rattle.range.proofs.Counts.{count-except}
 use Rattle.table.specs.Table.{Table, item}
 use Rattle.probe_record.specs.Record.{outbound, inbound}
 use Rattle.probe_rules.specs.declared.Outcome.{Outcome}
-use Rattle.probe_rules.specs.declared.Outcome.the-variants.{Opened, NothingToOpen, Taken, TakenDisplacing, Refused, RefusalLearnt, NoChange}
+use Rattle.probe_rules.specs.declared.Outcome.the-variants.{Opened, Enough, Taken, TakenDisplacing, Refused, RefusalLearnt, NoChange, AllTried}
 use Rattle.probe_rules.specs.Rules.{alter}
 use Rattle.probe_rules.specs.Within.{OwnLink, OwnOutcome}
 use Rattle.probe_theory.specs.EndLaws.{byteChanged, FewChanges}
@@ -75,7 +75,7 @@ module _ (n : ℕ) (e e′ : List ℕ) where
 module _ (t : Table) (p : ℕ) (e : List ℕ) where
   pub outcome-few : (o : Outcome) → OwnOutcome t p o → FewChanges (t .links) e (alter o e)
   outcome-few (Opened i) a = few-out (t .links) e (set e (2 * i) 1) i (a .0) (out-else e i 1) (in-kept e i 1)
-  outcome-few NothingToOpen a = few-none (t .links) e e (λ j. refl) (λ j. refl)
+  outcome-few Enough a = few-none (t .links) e e (λ j. refl) (λ j. refl)
   outcome-few (Taken i) a = few-in (t .links) e (set e (2 * i + 1) 1) i i (a .0) (a .0) (out-kept e i 1) (λ j d f. in-else e i 1 j d)
   outcome-few (TakenDisplacing i c) a =
       let m = set e (2 * i + 1) 1 in
@@ -83,6 +83,7 @@ module _ (t : Table) (p : ℕ) (e : List ℕ) where
   outcome-few (Refused i) a = few-in (t .links) e (set e (2 * i + 1) 2) i i (a .0) (a .0) (out-kept e i 2) (λ j d f. in-else e i 2 j d)
   outcome-few (RefusalLearnt i) a = few-out (t .links) e (set e (2 * i) 2) i (a .0) (out-else e i 2) (in-kept e i 2)
   outcome-few (NoChange i) a = few-none (t .links) e e (λ j. refl) (λ j. refl)
+  outcome-few AllTried a = few-none (t .links) e e (λ j. refl) (λ j. refl)
 
   -- a byte that differs is the one stored
   stored-own : (l : List ℕ) (i k v j : ℕ) → OwnLink t p i → k / 2 ≡ i → (item (set l k v) j ≡ item l j → ⊥) → OwnLink t p (j / 2)
@@ -100,7 +101,7 @@ module _ (t : Table) (p : ℕ) (e : List ℕ) where
 
   pub outcome-own : (o : Outcome) → OwnOutcome t p o → (j : ℕ) → (item (alter o e) j ≡ item e j → ⊥) → OwnLink t p (j / 2)
   outcome-own (Opened i) a j d = stored-own e i (2 * i) 1 j a (half i) d
-  outcome-own NothingToOpen a j d = absurd (d refl)
+  outcome-own Enough a j d = absurd (d refl)
   outcome-own (Taken i) a j d = stored-own e i (2 * i + 1) 1 j a (half-odd i) d
   outcome-own (TakenDisplacing i c) a j d = go (ℕ-discrete j (2 * c + 1))
     where
@@ -113,3 +114,4 @@ module _ (t : Table) (p : ℕ) (e : List ℕ) where
   outcome-own (Refused i) a j d = stored-own e i (2 * i + 1) 2 j a (half-odd i) d
   outcome-own (RefusalLearnt i) a j d = stored-own e i (2 * i) 2 j a (half i) d
   outcome-own (NoChange i) a j d = absurd (d refl)
+  outcome-own AllTried a j d = absurd (d refl)

@@ -20,7 +20,7 @@ use Rattle.probe_rules.specs.declared.Event.{Event}
 use Rattle.probe_rules.specs.declared.Outcome.{Outcome}
 use Rattle.probe_rules.specs.Rules.{alter}
 use Rattle.probe_rules.specs.Within.{OwnLink, OwnEvent}
-use Rattle.probe_rules.proofs.Befalls.{Befell, opened, nothing-to-open, taken, displacing, refused, seen, learnt, known}
+use Rattle.probe_rules.proofs.Befalls.{Befell, opened, enough, all-tried, taken, displacing, refused, seen, learnt, known}
 use Rattle.probe_theory.proofs.Stores.{out-here, out-else, out-kept, in-here, in-else, in-kept}
 
 -- how many own links have the byte 1, before and after
@@ -142,7 +142,8 @@ module _ (t : Table) (p : ℕ) where
     pub befell-good : {v : Event} {o : Outcome} → Befell t p e v o → OwnEvent t p v → GoodRecord t p (alter o e)
     befell-good (opened i a z m h) w =
         out-good i 1 a (omega arith) (let n = ones-more t p (outbound e) (outbound (set e (2 * i) 1)) i (a .0) (out-else e i 1) in omega arith)
-    befell-good nothing-to-open w = g
+    befell-good (enough m) w = g
+    befell-good (all-tried m h) w = g
     befell-good (taken i z m) w =
         in-good i 1 w (omega arith) (let n = ones-more t p (inbound e) (inbound (set e (2 * i + 1) 1)) i (w .0) (in-else e i 1) in omega arith)
     befell-good (displacing i c z m a y d h) w =

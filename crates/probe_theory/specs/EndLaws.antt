@@ -1,24 +1,29 @@
 -- Laws of one end. The sentences are those of document 01, "The ends and their frames".
 use Prim.Native.Nat.{ℕ, _/_, _≤_, _<_}
 use mathlib.Core.Path.{_≡_}
-use mathlib.Core.Logic.{_⊎_}
+use mathlib.Core.Logic.{_↔_, _⊎_}
 use mathlib.Core.Bool.{Bool, not}
 use mathlib.Core.List.{List}
 use lib.Dec.{eqb}
 use lib.ListN.{length}
 use Rattle.range.specs.Sum.{count}
 use Rattle.range.specs.First.{orElse}
-use Rattle.table.specs.Table.{Table, item, other}
+use Rattle.table.specs.Table.{Table, item, spare, other}
 use Rattle.probe_frame.specs.Frame.{frameOf}
-use Rattle.probe_record.specs.Record.{outbound, inbound, fresh, recordFault}
+use Rattle.probe_record.specs.Record.{outbound, inbound, fresh, standing, recordFault}
+use Rattle.wake_log.specs.declared.Entry.{Entry}
+use Rattle.wake_log.specs.declared.What.{What}
+use Rattle.wake_log.specs.declared.Answer.the-variants.{Logged}
+use Rattle.wake_log.specs.Entry.{codeOf}
 use Rattle.probe_rules.specs.declared.Event.{Event}
+use Rattle.probe_rules.specs.declared.Event.the-variants.{Opening}
 use Rattle.probe_rules.specs.Rules.{befalls, alter}
 use Rattle.probe_rules.specs.Frames.{heardOf}
 use Rattle.probe_rules.specs.Within.{OwnLink, OwnEvent}
 use Rattle.probe.specs.declared.Kind.{Kind}
 use Rattle.probe.specs.declared.Asked.{Asked}
-use Rattle.probe_checks.specs.Checks.{heardFault, linkCallFault}
-use Rattle.probe.specs.Answers.{Asks, askedEvent, askedFrame, askedLine}
+use Rattle.probe_checks.specs.Checks.{heardFault, openFault, linkCallFault}
+use Rattle.probe.specs.Answers.{Befallen, Asks, askedEvent, askedFrame, askedLine}
 use Rattle.table.specs.Legal.{lentFault}
 
 -- "A change is one byte altered": how many of the first n links have an outbound, and an inbound, byte that differs
@@ -37,6 +42,13 @@ pub record FewChanges (n : ℕ) (e e′ : List ℕ) : Type 0 where
   pub in-two : inChanges n e e′ ≤ 2
   pub one-side : (outChanges n e e′ ≡ 0) ⊎ (inChanges n e e′ ≡ 0)
 
+-- 02, No. 3: "An opening that opens nothing says 01 when the offers standing equal the spare, otherwise 07, every link tried": said of the end p with the record e
+pub record Quiet (t : Table) (p : ℕ) (e : List ℕ) (said : What) : Type 0 where
+  pub either : (codeOf said ≡ 1) ⊎ (codeOf said ≡ 7)
+  pub enough : (codeOf said ≡ 1) ↔ (standing t p e ≡ spare t p)
+  pub fewer : (codeOf said ≡ 7) ↔ (standing t p e < spare t p)
+  pub all-tried : codeOf said ≡ 7 → (i : ℕ) → OwnLink t p i → outbound e i ≡ 0 → ⊥
+
 -- the end p of a legal table
 module _ (t : Table) (p : ℕ) where
   -- the record after an event
@@ -52,6 +64,9 @@ module _ (t : Table) (p : ℕ) where
     -- 20, 21 and 22 let a fresh record pass, and a record that they let pass stays one
     pub fresh-usable : recordFault t p (fresh t) ≡ 0
     pub stays-usable : (event : Event) (e : List ℕ) → recordFault t p e ≡ 0 → OwnEvent t p event → recordFault t p (recordAfter event e) ≡ 0
+    -- an opening that is logged and leaves the record as it was
+    pub quiet : (slices free : ℕ) (e e′ : List ℕ) (entry : Entry) → Befallen (openFault slices t p e free) t p Opening (Logged entry) e e′ → e′ ≡ e
+        → Quiet t p e (entry .what)
     -- "as often as wished": asked again, an end answers and writes the same
     pub asked-again : (k : Kind) (i slices : ℕ) (e : List ℕ) (r r′ : Asked) (out out′ out″ : List ℕ)
         → Asks (orElse (lentFault (length out) 15) (linkCallFault slices t p e i)) t p k i e r out out′

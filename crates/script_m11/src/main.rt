@@ -150,7 +150,7 @@ fn print(entries: [Entry; 16], used: usize) {
 fn fresh() -> [Entry; 16] {
     [Entry {
         probe: 0,
-        what: What::NothingToOpen,
+        what: What::Enough,
     }; 16]
 }
 

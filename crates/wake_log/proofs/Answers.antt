@@ -1,9 +1,12 @@
 -- An answer and its values: the values of an entry tell the entry.
 use Prim.Native.Nat.{ℕ}
 use mathlib.Core.Path.{_≡_, refl, sym, _∙_, ap}
+use mathlib.Core.Logic.{_⊎_, inl, inr}
 use mathlib.Core.Bool.{Bool, true, false, cond}
 use native.Mathlib.Omega.{arith}
 use lib.Dec.{eqb}
+use borrow.Author.Tests.{eqb-true}
+use Rattle.range.proofs.Bools.{decided}
 use Rattle.range.specs.Reply.{refusal, values, replyOf}
 use Rattle.wake_log.specs.declared.Entry.{Entry}
 use Rattle.wake_log.specs.declared.What.{What}
@@ -16,19 +19,21 @@ use Rattle.wake_log.specs.Entry.{codeOf, linkOf, displacedOf, entryValue
 abbrev fromCode : ℕ → ℕ → ℕ → What
 fromCode code link displaced =
     cond (eqb code 0) (what.Opened link)
-    (cond (eqb code 1) what.NothingToOpen
+    (cond (eqb code 1) what.Enough
     (cond (eqb code 2) (what.Taken link)
     (cond (eqb code 3) (what.TakenDisplacing link displaced)
-    (cond (eqb code 4) (what.Refused link) (cond (eqb code 5) (what.RefusalLearnt link) (what.NoChange link))))))
+    (cond (eqb code 4) (what.Refused link)
+    (cond (eqb code 5) (what.RefusalLearnt link) (cond (eqb code 6) (what.NoChange link) what.AllTried))))))
 
 what-is : (w : What) → fromCode (codeOf w) (linkOf w) (displacedOf w) ≡ w
 what-is (what.Opened link) = refl
-what-is what.NothingToOpen = refl
+what-is what.Enough = refl
 what-is (what.Taken link) = refl
 what-is (what.TakenDisplacing link displaced) = refl
 what-is (what.Refused link) = refl
 what-is (what.RefusalLearnt link) = refl
 what-is (what.NoChange link) = refl
+what-is what.AllTried = refl
 
 pub entry-is : (e e′ : Entry) → entryValues e ≡ entryValues e′ → e ≡ e′
 entry-is e e′ s =
@@ -56,3 +61,13 @@ answer-reply r fault e is = ap answerReply is ∙ go (eqb fault 0)
     go : (none : Bool) → answerReply (cond none (Logged e) (Refused fault)) ≡ cond none (values (entryValues e)) (refusal fault)
     go true = refl
     go false = refl
+
+-- an entry is logged where there is no fault, and is the one promised
+pub logged-is : (fault : ℕ) (e e′ : Entry) → answerReply (Logged e) ≡ replyOf fault (entryValues e′) → (fault ≡ 0) × (e ≡ e′)
+logged-is fault e e′ s = go (decided (eqb fault 0))
+  where
+    go : (eqb fault 0 ≡ true) ⊎ (eqb fault 0 ≡ false) → (fault ≡ 0) × (e ≡ e′)
+    go (inl z) = let v = rw z at s in (eqb-true fault 0 z, entry-is e e′ (cc))
+    go (inr z) =
+        let v = rw z at s in
+        let apart : _≡_ {A = ℕ} 0 1 = cc in absurd (omega arith)

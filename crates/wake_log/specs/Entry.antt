@@ -8,17 +8,19 @@ use Rattle.wake_log.specs.declared.Entry.{Entry}
 use Rattle.wake_log.specs.declared.Answer.{Answer}
 use Rattle.wake_log.specs.declared.Answer.the-variants as answer
 use Rattle.wake_log.specs.declared.What.{What}
-use Rattle.wake_log.specs.declared.What.the-variants.{Opened, NothingToOpen, Taken, TakenDisplacing, Refused, RefusalLearnt, NoChange}
+use Rattle.wake_log.specs.declared.What.the-variants.{Opened, Enough, Taken, TakenDisplacing, Refused, RefusalLearnt, NoChange, AllTried}
 
 -- "00 opened, 01 nothing to open, 02 taken, 03 taken with the displaced probe, 04 refused, 05 refusal learnt, 06 heard with no change"
+-- 02, No. 3: "01 when the offers standing equal the spare, otherwise 07, every link tried"
 abbrev pub codeOf : What → ℕ
 codeOf (Opened link) = 0
-codeOf NothingToOpen = 1
+codeOf Enough = 1
 codeOf (Taken link) = 2
 codeOf (TakenDisplacing link displaced) = 3
 codeOf (Refused link) = 4
 codeOf (RefusalLearnt link) = 5
 codeOf (NoChange link) = 6
+codeOf AllTried = 7
 
 -- `ffff` "for a link or probe that is absent"
 abbrev pub absent : ℕ
@@ -27,22 +29,24 @@ absent = 65535
 -- the link's place
 abbrev pub linkOf : What → ℕ
 linkOf (Opened link) = link
-linkOf NothingToOpen = absent
+linkOf Enough = absent
 linkOf (Taken link) = link
 linkOf (TakenDisplacing link displaced) = link
 linkOf (Refused link) = link
 linkOf (RefusalLearnt link) = link
 linkOf (NoChange link) = link
+linkOf AllTried = absent
 
 -- the displaced probe
 abbrev pub displacedOf : What → ℕ
 displacedOf (Opened link) = absent
-displacedOf NothingToOpen = absent
+displacedOf Enough = absent
 displacedOf (Taken link) = absent
 displacedOf (TakenDisplacing link displaced) = displaced
 displacedOf (Refused link) = absent
 displacedOf (RefusalLearnt link) = absent
 displacedOf (NoChange link) = absent
+displacedOf AllTried = absent
 
 -- "the entry: probe, what .., link's place in the table from 0, displaced probe"
 abbrev pub entryValues : Entry → List ℕ

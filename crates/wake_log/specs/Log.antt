@@ -7,7 +7,7 @@ use lib.ListN.{length, getD}
 use Rattle.range.specs.Reply.{Reply, values}
 use Rattle.wake_log.specs.declared.Entry.{Entry}
 use Rattle.wake_log.specs.Entry.{entryValues}
-use Rattle.wake_log.specs.declared.What.the-variants.{NothingToOpen}
+use Rattle.wake_log.specs.declared.What.the-variants.{Enough}
 use Rattle.wake_log.specs.declared.Answer.{Answer}
 use Rattle.wake_log.specs.declared.Answer.the-variants.{Logged, Refused}
 use Rattle.wake_log.specs.declared.Slot.{Slot}
@@ -16,7 +16,7 @@ use Rattle.wake_log.specs.declared.storing.Told.{Told}
 
 -- stands where there is no entry, in a refused `Told` and as the default of a place of a list; no answer gives it in place of an entry
 abbrev pub noEntry : Entry
-noEntry = record { probe = 0; what = NothingToOpen }
+noEntry = record { probe = 0; what = Enough }
 
 -- where the entry goes: behind the used ones, or past the log's end where there is none
 abbrev pub toldOf : ℕ → ℕ → Answer → Told

@@ -9,7 +9,7 @@ pub fn code(what: What) -> u8
 {
     match what {
         What::Opened(_) => 0,
-        What::NothingToOpen => 1,
+        What::Enough => 1,
         What::Taken(_) => 2,
         What::TakenDisplacing {
             link: _,
@@ -18,6 +18,7 @@ pub fn code(what: What) -> u8
         What::Refused(_) => 4,
         What::RefusalLearnt(_) => 5,
         What::NoChange(_) => 6,
+        What::AllTried => 7,
     }
 }
 
@@ -27,12 +28,13 @@ pub fn link_place(what: What) -> u16
 {
     match what {
         What::Opened(link) => link,
-        What::NothingToOpen => 65535,
+        What::Enough => 65535,
         What::Taken(link) => link,
         What::TakenDisplacing { link, displaced: _ } => link,
         What::Refused(link) => link,
         What::RefusalLearnt(link) => link,
         What::NoChange(link) => link,
+        What::AllTried => 65535,
     }
 }
 
@@ -42,11 +44,12 @@ pub fn displaced_probe(what: What) -> u16
 {
     match what {
         What::Opened(_) => 65535,
-        What::NothingToOpen => 65535,
+        What::Enough => 65535,
         What::Taken(_) => 65535,
         What::TakenDisplacing { link: _, displaced } => displaced,
         What::Refused(_) => 65535,
         What::RefusalLearnt(_) => 65535,
         What::NoChange(_) => 65535,
+        What::AllTried => 65535,
     }
 }

@@ -10,12 +10,13 @@ pub mod storing;
 // What befell a probe, with the link where there is one, by its place in the table.
 pub enum What {
     Opened(u16),
-    NothingToOpen,
+    Enough,
     Taken(u16),
     TakenDisplacing { link: u16, displaced: u16 },
     Refused(u16),
     RefusalLearnt(u16),
     NoChange(u16),
+    AllTried,
 }
 
 pub struct Entry {

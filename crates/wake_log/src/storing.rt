@@ -34,7 +34,7 @@ pub fn tell(answer: super::Answer, used: usize, room: usize) -> Told
             at: room,
             entry: super::Entry {
                 probe: 0,
-                what: super::What::NothingToOpen,
+                what: super::What::Enough,
             },
             answer: super::Answer::Refused(n),
         },

@@ -106,6 +106,9 @@ slice-write-rec-6 c =
 enum-told-2 : tie.Need-enum-told-2
 enum-told-2 c = search needs
 
+enum-told-3 : tie.Need-enum-told-3
+enum-told-3 c = search needs
+
 same-length : tie.Need-same-length
 same-length c = search needs
 
@@ -144,6 +147,9 @@ returns-6 c = rw (c .before .before .outcome5 .given .1, c .out-at2 .ensures)
 returns-7 : tie.Need-returns-7
 returns-7 c = rw (c .enum-told2 .given .1)
 
+returns-8 : tie.Need-returns-8
+returns-8 c = rw (c .enum-told3 .given .1)
+
 pub alter-fleet-spec : {M : Type 1} → statement M
 alter-fleet-spec =
     tie.close
@@ -167,6 +173,7 @@ alter-fleet-spec =
     out-at-requires-2
     slice-write-rec-6
     enum-told-2
+    enum-told-3
     same-length
     returns
     returns-2
@@ -178,4 +185,5 @@ alter-fleet-spec =
     returns-5
     same-length-5
     returns-6
-    returns-7)
+    returns-7
+    returns-8)

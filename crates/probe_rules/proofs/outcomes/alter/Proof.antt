@@ -106,6 +106,9 @@ slice-write-rec-6 c =
 enum-told-2 : tie.Need-enum-told-2
 enum-told-2 c = search needs
 
+enum-told-3 : tie.Need-enum-told-3
+enum-told-3 c = search needs
+
 same-length : tie.Need-same-length
 same-length c = search needs
 
@@ -142,6 +145,9 @@ returns-6 c = rw (c .before .outcome5 .given .1)
 returns-7 : tie.Need-returns-7
 returns-7 c = rw (c .enum-told2 .given .1)
 
+returns-8 : tie.Need-returns-8
+returns-8 c = rw (c .enum-told3 .given .1)
+
 pub alter-spec : {M : Type 1} → statement M
 alter-spec =
     tie.close
@@ -169,6 +175,7 @@ alter-spec =
     mul-rec-6
     slice-write-rec-6
     enum-told-2
+    enum-told-3
     same-length
     returns
     returns-2
@@ -180,4 +187,5 @@ alter-spec =
     returns-5
     same-length-5
     returns-6
-    returns-7)
+    returns-7
+    returns-8)

@@ -62,6 +62,9 @@ cast-t19 c =
     let at-start = c .before .before .before .before .before in
     let w = rw (c .before .outcome6 .given .1) at (at-start .pre .0) in omega arith
 
+enum-told-2 : tie.Need-enum-told-2
+enum-told-2 c = search needs
+
 returns : tie.Need-returns
 returns c = rw (c .before .outcome .given .1)
 
@@ -83,6 +86,9 @@ returns-6 c = rw (c .before .outcome5 .given .1)
 returns-7 : tie.Need-returns-7
 returns-7 c = rw (c .before .outcome6 .given .1)
 
+returns-8 : tie.Need-returns-8
+returns-8 c = rw (c .enum-told2 .given .1)
+
 pub what-of-spec : {M : Type 1} → statement M
 what-of-spec =
     tie.close
@@ -101,10 +107,12 @@ what-of-spec =
     cast-t18
     enum-known-outcome-6
     cast-t19
+    enum-told-2
     returns
     returns-2
     returns-3
     returns-4
     returns-5
     returns-6
-    returns-7)
+    returns-7
+    returns-8)
