@@ -35,6 +35,8 @@ use Rattle.table.specs.Slices.{Slices, tableOf, slicesFault}
 use Rattle.fleet_theory.proofs.Own.{out-reads, in-reads}
 use Rattle.fleet.proofs.Calls.{handled-answer}
 use Rattle.probe_rules.specs.Within.{OwnLink, OwnOutcome}
+use Rattle.probe_rules.proofs.Befalls.{Befell, opened, enough, all-tried, taken, displacing, refused, seen, learnt, known, befell}
+use Rattle.fleet.proofs.Checks.{line-within}
 use Rattle.probe_record.proofs.SearchLaws.{dearest}
 use Rattle.fleet_theory.proofs.Events.{line-step}
 use Rattle.fleet_theory.proofs.Changes.{no-changes}
@@ -54,60 +56,16 @@ NewBytes e (RefusalLearnt i) = outbound e i ≡ 2 → ⊥
 NewBytes e (NoChange i) = Unit
 NewBytes e AllTried = Unit
 
-module _ (t : Table) (legal : Legal t) (p : ℕ) (e : List ℕ) where
-  cheapest : Best (cheaper t) (ownWith t p (inbound e) 1) (t .links) (t .links) (cheapestHeld t p e)
-  cheapest =
-      let o = reversed (dearer-order t (legal-table 256 2048 t legal .order)) in
-      best-is (cheaper t) (ownWith t p (inbound e) 1) (t .links) (o .irreflexive) (o .transitive) (t .links) (le-refl (t .links))
-
-  befalls-new : (v : Event) → NewBytes e (befalls t p v e)
-  befalls-new Opening = go (decided (room && some))
-    where
-      i : ℕ
-      i = dearestUntried t p e
-
-      room : Bool
-      room = ltb (standing t p e) (spare t p)
-
-      some : Bool
-      some = ltb i (t .links)
-
-      opened : Best (dearer t) (ownWith t p (outbound e) 0) (t .links) (t .links) i → i < t .links → outbound e i ≡ 1 → ⊥
-      opened (nobody x h) l z = omega arith
-      opened (chosen k f h) l z = let u = eqb-true (outbound e i) 0 (and-right (touches t p i) (eqb (outbound e i) 0) f) in omega arith
-
-      go : ((room && some) ≡ true) ⊎ ((room && some) ≡ false) → NewBytes e (befalls t p Opening e)
-      go (inl a) = rw a (opened (dearest t legal p e) (ltb-true i (t .links) (and-right room some a)))
-      go (inr a) = rw a tt
-  befalls-new (Offer i) = go (decided (eqb (inbound e i) 0))
-    where
-      c : ℕ
-      c = cheapestHeld t p e
-
-      room : Bool
-      room = ltb (held t p e) (spare t p)
-
-      some : Bool
-      some = ltb c (t .links)
-
-      is-held : Best (cheaper t) (ownWith t p (inbound e) 1) (t .links) (t .links) c → c < t .links → inbound e c ≡ 1
-      is-held (nobody x h) l = absurd (omega arith)
-      is-held (chosen k f h) l = eqb-true (inbound e c) 1 (and-right (touches t p c) (eqb (inbound e c) 1) f)
-
-      offered : inbound e i ≡ 0 → (room ≡ true) ⊎ (room ≡ false) → ((some && dearer t i c) ≡ true) ⊎ ((some && dearer t i c) ≡ false)
-          → NewBytes e (offer t p e i)
-      offered z (inl b) d = rw b (λ q. omega arith)
-      offered z (inr b) (inl d) = rw (b, d) (z, is-held cheapest (ltb-true c (t .links) (and-left some (dearer t i c) d)))
-      offered z (inr b) (inr d) = rw (b, d) (λ q. omega arith)
-
-      go : (eqb (inbound e i) 0 ≡ true) ⊎ (eqb (inbound e i) 0 ≡ false) → NewBytes e (befalls t p (Offer i) e)
-      go (inl a) = rw a (offered (eqb-true (inbound e i) 0 a) (decided room) (decided (some && dearer t i c)))
-      go (inr a) = rw a tt
-  befalls-new (Refusal i) = go (decided (eqb (outbound e i) 2))
-    where
-      go : (eqb (outbound e i) 2 ≡ true) ⊎ (eqb (outbound e i) 2 ≡ false) → NewBytes e (befalls t p (Refusal i) e)
-      go (inl a) = rw a tt
-      go (inr a) = rw a (eqb-false (outbound e i) 2 a)
+befell-new : {t : Table} {p : ℕ} {e : List ℕ} {v : Event} {o : Outcome} → Befell t p e v o → NewBytes e o
+befell-new (opened i a z m h) = λ q. omega arith
+befell-new (enough m) = tt
+befell-new (all-tried m h) = tt
+befell-new (taken i z m) = λ q. omega arith
+befell-new (displacing i c z m a y d h) = (z, y)
+befell-new (refused i z m h) = λ q. omega arith
+befell-new (seen i d) = tt
+befell-new (learnt i d) = d
+befell-new (known i y) = tt
 
 -- the four bytes of each link are the record's bytes
 sum-fours : (n : ℕ) (f : ℕ → ℕ) → sum n (λ i. sum 4 (λ k. f (4 * i + k))) ≡ sum (4 * n) f
@@ -211,7 +169,7 @@ module _ (x : Slices) (fine : slicesFault x ≡ 0) (room : ℕ) where
       passed e =
           let p = passed-line x r used room l e in
           let step = line-step t (slices-legal x fine) r long l (p .0) (p .1) in
-          outcome-changes t (f .to) r long (outcomeOf t r f) (step .own-links) (befalls-new t (slices-legal x fine) (f .to) (own t (f .to) r) (eventOf t f))
+          outcome-changes t (f .to) r long (outcomeOf t r f) (step .own-links) (befell-new (befell t (slices-legal x fine) (f .to) (own t (f .to) r) (eventOf t f) (line-within t l (p .0))))
 
       go : Dec (eventFault x r used room l ≡ 0)
           → sum (x .links) (linkChanges r (cond (eqb (eventFault x r used room l) 0) (alteredBy t r f) r)) ≡ changesBy (answerOf (eventFault x r used room l) entry)

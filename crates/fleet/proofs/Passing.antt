@@ -31,14 +31,27 @@ use Rattle.fleet_theory.proofs.Alone.{own-altered, own-else}
 use Rattle.fleet_state.proofs.CheckLaws.{fleet-good, own-passes}
 
 -- an accepted line has passed the checks before 27, and 27
-pub passed-line : (x : Slices) (r : List ℕ) (used room : ℕ) (l : List ℕ) → eventFault x r used room l ≡ 0 → (eventLineFault (tableOf x) l ≡ 0) × NotUnsent (tableOf x) r (frameOf l)
-passed-line x r used room l e =
-    let t = tableOf x in
-    let full : ℕ = cond (ltb used room) 0 26 in
-    let unsent : ℕ = unsentOf t r (frameOf l) in
-    let rest : ℕ = orElse (eventLineFault t l) (orElse unsent full) in
-    let a = or-right (fleetFault t r) rest (or-right (slicesFault x) (orElse (fleetFault t r) rest) e) in
-    (or-left (eventLineFault t l) (orElse unsent full) a, or-left unsent full (or-right (eventLineFault t l) (orElse unsent full) a))
+-- what an accepted line has passed
+module _ (x : Slices) (r : List ℕ) (used room : ℕ) (l : List ℕ) (e : eventFault x r used room l ≡ 0) where
+  abbrev full : ℕ
+  full = cond (ltb used room) 0 26
+
+  abbrev unsent : ℕ
+  unsent = unsentOf (tableOf x) r (frameOf l)
+
+  abbrev rest : ℕ
+  rest = orElse (eventLineFault (tableOf x) l) (orElse unsent full)
+
+  past-slices : orElse (fleetFault (tableOf x) r) rest ≡ 0
+  past-slices = or-right (slicesFault x) (orElse (fleetFault (tableOf x) r) rest) e
+
+  pub passed-record : fleetFault (tableOf x) r ≡ 0
+  passed-record = or-left (fleetFault (tableOf x) r) rest past-slices
+
+  pub passed-line : (eventLineFault (tableOf x) l ≡ 0) × NotUnsent (tableOf x) r (frameOf l)
+  passed-line =
+      let a = or-right (fleetFault (tableOf x) r) rest past-slices in
+      (or-left (eventLineFault (tableOf x) l) (orElse unsent full) a, or-left unsent full (or-right (eventLineFault (tableOf x) l) (orElse unsent full) a))
 
 -- the first n bytes are at most 2
 abbrev Small : ℕ → List ℕ → Type 0
@@ -86,7 +99,7 @@ module _ (x : Slices) (fine : slicesFault x ≡ 0) (r : List ℕ) (good : fleetF
   small j l = ltb-false 2 (item r j) (when-none (ltb 2 (item r j)) 20 (first-all (overTwo r) (4 * t .links) j (fleet-good t r good .1) l))
 
   -- so does an end's own part of it
-  own-fault : (p : ℕ) → p < t .probes → recordFault t p (own t p r) ≡ 0
+  pub own-fault : (p : ℕ) → p < t .probes → recordFault t p (own t p r) ≡ 0
   own-fault p l =
       let e = own t p r in
       or-none (recordLengthFault t e) (orElse (first (byteFault t p e) (t .links)) (spareFault t p e)) (rw (eq-eqb (length e) (2 * t .links) (length-own t p r)))

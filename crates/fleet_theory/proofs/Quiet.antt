@@ -1,6 +1,6 @@
 -- Finished: nothing would alter a byte.
 use Prim.Native.Nat.{ℕ, _≤_, _<_}
-use mathlib.Core.Path.{_≡_, sym, _∙_}
+use mathlib.Core.Path.{_≡_, refl, sym, _∙_}
 use mathlib.Core.Logic.{_⊎_, inl, inr}
 use mathlib.Core.Bool.{Bool, true, false, _&&_, _||_, not, true≢false}
 use mathlib.Core.List.{List}
@@ -9,7 +9,7 @@ use native.Mathlib.Decide.{decLt}
 use lib.Dec.{ltb, eqb}
 use borrow.Author.Tests.{ltb-true, lt-ltb, eqb-true, eq-eqb, ne-eqb, not-true, not-false, eqb-false}
 use Rattle.range.specs.Sum.{count}
-use Rattle.range.proofs.Bools.{and-left, and-right, and-intro, or-cases, or-false-left, or-false-right, decided}
+use Rattle.range.proofs.Bools.{and-left, and-right, and-intro, or-cases, or-false-left, or-false-right}
 use Rattle.range.proofs.Choice.{Best, nobody, chosen}
 use Rattle.range.proofs.Sums.{count-none, none-count}
 use Rattle.table.specs.Table.{Table, touches, spare, dearer}
@@ -19,10 +19,13 @@ use Rattle.plan_theory.proofs.Settled.{back}
 use Rattle.plan_theory.specs.Criterion.{Across, up, down}
 use Rattle.probe_record.specs.Record.{outbound, ownWith, standing, dearestUntried}
 use Rattle.probe_record.proofs.SearchLaws.{dearest}
+use Rattle.probe_rules.specs.declared.Event.the-variants.{Opening}
+use Rattle.probe_rules.specs.declared.Outcome.{Outcome}
+use Rattle.probe_rules.proofs.Befalls.{Befell, opened, enough, all-tried, befell}
 use Rattle.probe_frame.specs.Frame.{Frame, frameOf}
 use Rattle.fleet_theory.proofs.EndState.{onesAt, Quiet}
 use Rattle.table.proofs.LegalLaws.{legal-table}
-use Rattle.fleet_theory.specs.Fleet.{own, eventLineFault, alteredBy, wouldOpen, alters, finished}
+use Rattle.fleet_theory.specs.Fleet.{own, eventLineFault, alterFleet, alteredBy, wouldOpen, alters, finished}
 use Rattle.fleet_theory.specs.Words.{MaySend}
 use Rattle.fleet_theory.proofs.Own.{outOf, inOf}
 use Rattle.fleet_theory.proofs.Events.{Says, an-opening, an-offer, a-refusal, says, may-offer, may-refuse}
@@ -133,11 +136,12 @@ module _ (t : Table) (legal : Legal t) (r : List ℕ) where
       f = frameOf l
 
       go : Says t f → (f .kind ≡ 0) ⊎ MaySend t r f → alteredBy t r f ≡ r
-      go (an-opening k b v) u = either (decided (wouldOpen t r (f .to)))
+      go (an-opening k b v) u = rw v (stays (befell t legal (f .to) (own t (f .to) r) Opening tt))
         where
-          either : (wouldOpen t r (f .to) ≡ true) ⊎ (wouldOpen t r (f .to) ≡ false) → alteredBy t r f ≡ r
-          either (inl a) = absurd (quiet-opens quiet (f .to) a)
-          either (inr a) = rw (v, a)
+          stays : {o : Outcome} → Befell t (f .to) (own t (f .to) r) Opening o → alterFleet t (f .to) o r ≡ r
+          stays (opened i a z m h) = let full = quiet .opened (f .to) i (a .0) (a .1) z in absurd (omega arith)
+          stays (enough m) = refl
+          stays (all-tried m h) = refl
       go (an-offer i k b x v is) (inl z) = absurd (omega arith)
       go (an-offer i k b x v is) (inr m) =
           rw (v, ne-eqb (inOf t r (f .to) i) 0 (quiet .heard i (f .from) (f .to) b x (may-offer t f i is r .0 m)))

@@ -76,6 +76,17 @@ m4-lines = openingLine 0 ∷ offerLine 0 1 ∷ openingLine 1 ∷ offerLine 1 0 �
 abbrev pub m4-entries : List Entry
 m4-entries = entry 0 (what.Opened 0) ∷ entry 1 (what.Taken 0) ∷ entry 1 (what.Opened 0) ∷ entry 0 (what.Taken 0) ∷ []
 
+-- 02, No. 3, after M11: the only links of 0 and 3 are refused, while 1 and 2 have as many standing as their spare, each 1
+abbrev pub again-lines : List (List ℕ)
+again-lines = m11-lines ++ (openingLine 0 ∷ openingLine 1 ∷ openingLine 2 ∷ openingLine 3 ∷ [])
+
+abbrev pub again-entries : List Entry
+again-entries = m11-entries ++ (entry 0 what.AllTried ∷ entry 1 what.Enough ∷ entry 2 what.Enough ∷ entry 3 what.AllTried ∷ [])
+
+-- two probes that need their one link have spare 0
+abbrev pub needed : Slices
+needed = slices (1 ∷ 1 ∷ []) (0 ∷ []) (1 ∷ []) (7 ∷ [])
+
 -- lines turned down by their refusal alone, on M2: fresh, or after M11
 pub record LineRefusals : Type 0 where
   pub cut-line : answerTo m2InSlices 1024 (start m2InSlices) (take 14 (openingLine 0)) ≡ Refused 1
@@ -94,6 +105,8 @@ pub record Samples : Type 0 where
   pub m1-to-m10 : Sites
   pub m2-table : tableOf m2InSlices ≡ row (5 ∷ 6 ∷ 5 ∷ [])
   pub m11 : SampleScript m2InSlices m11-lines m11-entries 11
+  pub again : SampleScript m2InSlices again-lines again-entries 11
+  pub spare-none : SampleScript needed (openingLine 0 ∷ []) (entry 0 what.Enough ∷ []) 0
   pub refusals : LineRefusals
   pub m4-table : tableOf m4InSlices ≡ site (0 ∷ 0 ∷ []) (0 ∷ []) (1 ∷ []) (7 ∷ [])
   pub m4-script : SampleScript m4InSlices m4-lines m4-entries 4

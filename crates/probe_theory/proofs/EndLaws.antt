@@ -23,7 +23,7 @@ use Rattle.probe_checks.proofs.Accepted.{heard-link, heard-to}
 use Rattle.probe_theory.specs.EndLaws.{EndLaws, recordAfter}
 use Rattle.probe_theory.proofs.Changes.{outcome-few, outcome-own}
 use Rattle.probe_theory.proofs.Usable.{fresh-good, befell-good}
-use Rattle.probe_theory.proofs.Quiet.{opening-quiet}
+use Rattle.probe_theory.proofs.OpensNothing.{opens-nothing}
 use Rattle.probe_theory.proofs.Asking.{asks-again, asked-says, asked-passes, asked-heard}
 
 heard-own : (t : Table) (p : ℕ) (l : List ℕ) → heardFault t p l ≡ 0 → OwnEvent t p (heardOf t (frameOf l))
@@ -47,7 +47,7 @@ end-laws t legal p =
       changes-few = λ v e a. outcome-few t p e (befalls t p v e) (own-links v e a);
       fresh-usable = record-passes t p (fresh t) (fresh-good t p);
       stays-usable = λ v e f a. record-passes t p (recordAfter t p v e) (befell-good t p e (good-record t p e f) (is v e a) a);
-      quiet = opening-quiet t legal p;
+      opens-nothing = opens-nothing t legal p;
       asked-again = λ k i slices e. asks-again t p k i e (linkCallFault slices t p e i);
       line-says = λ digits k i a. asked-says t legal digits p i a k;
       line-passes = λ digits k i a. asked-passes t legal digits p i a k;

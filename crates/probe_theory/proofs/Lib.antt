@@ -1,6 +1,6 @@
 pub mod Stores
 pub mod Changes
 pub mod Usable
-pub mod Quiet
+pub mod OpensNothing
 pub mod Asking
 pub mod EndLaws

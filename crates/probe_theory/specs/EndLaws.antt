@@ -43,7 +43,7 @@ pub record FewChanges (n : ℕ) (e e′ : List ℕ) : Type 0 where
   pub one-side : (outChanges n e e′ ≡ 0) ⊎ (inChanges n e e′ ≡ 0)
 
 -- 02, No. 3: "An opening that opens nothing says 01 when the offers standing equal the spare, otherwise 07, every link tried": said of the end p with the record e
-pub record Quiet (t : Table) (p : ℕ) (e : List ℕ) (said : What) : Type 0 where
+pub record OpensNothing (t : Table) (p : ℕ) (e : List ℕ) (said : What) : Type 0 where
   pub either : (codeOf said ≡ 1) ⊎ (codeOf said ≡ 7)
   pub enough : (codeOf said ≡ 1) ↔ (standing t p e ≡ spare t p)
   pub fewer : (codeOf said ≡ 7) ↔ (standing t p e < spare t p)
@@ -65,8 +65,8 @@ module _ (t : Table) (p : ℕ) where
     pub fresh-usable : recordFault t p (fresh t) ≡ 0
     pub stays-usable : (event : Event) (e : List ℕ) → recordFault t p e ≡ 0 → OwnEvent t p event → recordFault t p (recordAfter event e) ≡ 0
     -- an opening that is logged and leaves the record as it was
-    pub quiet : (slices free : ℕ) (e e′ : List ℕ) (entry : Entry) → Befallen (openFault slices t p e free) t p Opening (Logged entry) e e′ → e′ ≡ e
-        → Quiet t p e (entry .what)
+    pub opens-nothing : (slices free : ℕ) (e e′ : List ℕ) (entry : Entry) → Befallen (openFault slices t p e free) t p Opening (Logged entry) e e′ → e′ ≡ e
+        → OpensNothing t p e (entry .what)
     -- "as often as wished": asked again, an end answers and writes the same
     pub asked-again : (k : Kind) (i slices : ℕ) (e : List ℕ) (r r′ : Asked) (out out′ out″ : List ℕ)
         → Asks (orElse (lentFault (length out) 15) (linkCallFault slices t p e i)) t p k i e r out out′

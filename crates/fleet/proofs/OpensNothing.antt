@@ -1,0 +1,69 @@
+-- What an opening of a fleet says that opens nothing: its own end's law, on the end's own bytes.
+use Prim.Native.Nat.{ℕ, _*_}
+use mathlib.Core.Path.{_≡_, sym, _∙_, ap}
+use mathlib.Core.List.{List}
+use native.Mathlib.Omega.{arith}
+use lib.ListN.{length}
+use Rattle.table.specs.Table.{Table}
+use Rattle.table.specs.Slices.{Slices, tableOf, slicesFault}
+use Rattle.probe_frame.specs.Frame.{Frame, frameOf}
+use Rattle.probe_record.proofs.Bytes.{good-record}
+use Rattle.wake_log.specs.declared.Entry.{Entry}
+use Rattle.wake_log.specs.declared.Answer.the-variants.{Logged}
+use Rattle.wake_log.proofs.Answers.{logged-is}
+use Rattle.probe_rules.specs.declared.Event.the-variants.{Opening}
+use Rattle.probe_rules.specs.declared.Outcome.{Outcome}
+use Rattle.probe_rules.specs.Rules.{alter, entryOf}
+use Rattle.probe_rules.proofs.Befalls.{befell}
+use Rattle.probe_theory.specs.EndLaws.{OpensNothing}
+use Rattle.probe_theory.proofs.OpensNothing.{unaltered-says}
+use Rattle.fleet_theory.specs.Fleet.{own, fleetFault, eventLineFault, eventFault, outcomeOf}
+use Rattle.fleet_theory.proofs.Alone.{own-altered}
+use Rattle.fleet_theory.proofs.Events.{Says, an-opening, an-offer, a-refusal, says, NotUnsent, line-step}
+use Rattle.fleet_theory.proofs.Run.{slices-legal}
+use Rattle.fleet_state.proofs.CheckLaws.{fleet-good}
+use Rattle.fleet.specs.Answers.{Handled}
+use Rattle.fleet.proofs.Passing.{passed-line, passed-record, own-fault}
+
+module _ (x : Slices) (fine : slicesFault x ≡ 0) (used room : ℕ) (r : List ℕ) (l : List ℕ) where
+  abbrev t : Table
+  t = tableOf x
+
+  abbrev f : Frame
+  f = frameOf l
+
+  -- the end that opens, and its own bytes
+  abbrev p : ℕ
+  p = f .to
+
+  abbrev e : List ℕ
+  e = own t p r
+
+  abbrev o : Outcome
+  o = outcomeOf t r f
+
+  pub line-opens-nothing : (entry : Entry) (after : List ℕ) → Handled x used room l (Logged entry) r after → f .kind ≡ 0 → after ≡ r → OpensNothing t p e (entry .what)
+  line-opens-nothing entry after h kind same = go (logged-is (eventFault x r used room l) entry (entryOf t p o) (h .answer))
+    where
+      go : (eventFault x r used room l ≡ 0) × (entry ≡ entryOf t p o) → OpensNothing t p e (entry .what)
+      go (none, s) = rw s (opens (says t l (line .0)))
+        where
+          line : (eventLineFault t l ≡ 0) × NotUnsent t r f
+          line = passed-line x r used room l none
+
+          good : fleetFault t r ≡ 0
+          good = passed-record x r used room l none
+
+          long : length r ≡ 4 * t .links
+          long = fleet-good t r good .0
+
+          unaltered : alter o e ≡ e
+          unaltered =
+              sym (own-altered t p r long o (line-step t (slices-legal x fine) r long l (line .0) (line .1) .own-links))
+              ∙ ap (own t p) (sym (rw none at (h .record-after)) ∙ same)
+
+          opens : Says t f → OpensNothing t p e (entryOf t p o .what)
+          opens (an-opening k b v) =
+              rw v (unaltered-says t p e (good-record t p e (own-fault x fine r good p b)) (befell t (slices-legal x fine) p e Opening tt) (rw v at unaltered))
+          opens (an-offer i k b c v is) = absurd (omega arith)
+          opens (a-refusal i k b c v is) = absurd (omega arith)
