@@ -243,7 +243,7 @@ fn spare_standing_with_none_untried_is_enough() {
     case.says(What::Enough);
 }
 
-/// Such openings take entries of the log too.
+/// Openings of a probe that has tried every link take entries of the log too.
 #[test]
 fn log_full_of_all_tried() {
     let case = m5_refused();
