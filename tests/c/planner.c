@@ -1,6 +1,6 @@
 /* Document 01's site M2 through planner.h: read, planned by both methods, and its script M11 run by a fleet, by ends
- * alone and as a text. Prints the plan and the log as the programs do. Then M2 with a need above the links. The status
- * is 0 if all is as 01 and 02 have it. */
+ * alone and as a text. Prints the plan and the log as the programs do. Then openings that open nothing, and M2 with a
+ * need above the links. The status is 0 if all is as 01 and 02 have it. */
 #include "planner.h"
 
 #include <stdio.h>
@@ -225,6 +225,31 @@ static void script(void) {
     expect(done == strlen(printed) && memcmp(out, printed, done) == 0, "pieces", 0);
 }
 
+/* Whether the answer tells an opening of this kind, without a link and a displaced probe. */
+static int opened_nothing(uint64_t answer, unsigned probe, unsigned what) {
+    return !PLANNER_REFUSED(answer) && PLANNER_EVENT_PROBE(answer) == probe && PLANNER_EVENT_WHAT(answer) == what &&
+           PLANNER_EVENT_LINK(answer) == PLANNER_ABSENT && PLANNER_EVENT_DISPLACED(answer) == PLANNER_ABSENT;
+}
+
+/* After M11 probe 0 has tried its one link, and probe 1 has one offer standing, its spare. */
+static void quiet_openings(void) {
+    static const uint8_t after[4 * LINKS] = {2, 2, 0, 0, 1, 1, 1, 1, 0, 0, 2, 2};
+    static const uint8_t tried[2 * LINKS] = {2, 0, 0, 0, 0, 0};
+    uint8_t rec[4 * LINKS], own[2 * LINKS];
+    uint64_t log[3] = {0, 0, 0};
+
+    memcpy(rec, after, sizeof rec);
+    memcpy(own, tried, sizeof own);
+    planner_fleet_event_logged(TABLE, rec, sizeof rec, bytes(M11[0]), PLANNER_FRAME, log, 3, 0);
+    planner_fleet_event_logged(TABLE, rec, sizeof rec, bytes(M11[2]), PLANNER_FRAME, log, 3, 1);
+    planner_probe_open_logged(TABLE, 0, own, sizeof own, log, 3, 2);
+    expect(opened_nothing(planner_log_entry(log, 3, 3, 0), 0, 7), "all tried", 0);
+    expect(opened_nothing(planner_log_entry(log, 3, 3, 1), 1, 1), "enough", 1);
+    expect(opened_nothing(planner_log_entry(log, 3, 3, 2), 0, 7), "all tried by an end", 0);
+    expect(planner_probe_open(TABLE, 0, own, sizeof own, 1) == log[2], "the same without a log", 0);
+    expect(memcmp(rec, after, sizeof rec) == 0 && memcmp(own, tried, sizeof own) == 0, "records stay", 0);
+}
+
 /* M2 where probe 0 needs three links and has one: it opens nothing, and its line tells the two that are missing. */
 static void short_probe(void) {
     static const char printed[] = "000100020000000a\n000000010005\n000200030005\n00000002\nffff\n";
@@ -246,7 +271,7 @@ static void short_probe(void) {
     answer = planner_plan_text(bytes(text), sizeof M2 - 1, out, sizeof printed - 2);
     expect(answer == 8, "no room for the short line", 0);
     answer = planner_fleet_event(TABLE, rec, sizeof rec, bytes(M11[0]), PLANNER_FRAME, 0, 1);
-    expect(PLANNER_EVENT_WHAT(answer) == 1, "short probe opens nothing", 0);
+    expect(opened_nothing(answer, 0, 1), "short probe opens nothing", 0);
 }
 
 int main(void) {
@@ -257,6 +282,7 @@ int main(void) {
     one_end();
     one_end_logged();
     script();
+    quiet_openings();
     short_probe();
     return failures == 0 ? 0 : 1;
 }

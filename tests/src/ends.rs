@@ -7,35 +7,42 @@ use crate::reference::{counted_need, dearer, table_of_slices, Link, Slices};
 #[derive(Clone, Copy, Debug, PartialEq)]
 pub enum What {
     Opened(usize),
-    NothingToOpen,
+    /// Opened nothing: its offers standing equal its spare.
+    Enough,
     Taken(usize),
-    Displacing { link: usize, displaced: u16 },
+    Displacing {
+        link: usize,
+        displaced: u16,
+    },
     Refused(usize),
     Learnt(usize),
     NoChange(usize),
+    /// Opened nothing: fewer offers stand than its spare, and it has tried every link.
+    AllTried,
 }
 
 /// Stands for a link or probe that is absent.
 const ABSENT: u64 = 0xffff;
 
 impl What {
-    /// 01's code, the link and the displaced probe.
+    /// 01's or 02's code, the link and the displaced probe.
     pub fn numbers(self) -> [u64; 3] {
         match self {
             What::Opened(link) => [0, link as u64, ABSENT],
-            What::NothingToOpen => [1, ABSENT, ABSENT],
+            What::Enough => [1, ABSENT, ABSENT],
             What::Taken(link) => [2, link as u64, ABSENT],
             What::Displacing { link, displaced } => [3, link as u64, displaced.into()],
             What::Refused(link) => [4, link as u64, ABSENT],
             What::Learnt(link) => [5, link as u64, ABSENT],
             What::NoChange(link) => [6, link as u64, ABSENT],
+            What::AllTried => [7, ABSENT, ABSENT],
         }
     }
 
     /// How many record bytes it alters.
     pub fn changes(self) -> usize {
         match self {
-            What::NothingToOpen | What::NoChange(_) => 0,
+            What::Enough | What::AllTried | What::NoChange(_) => 0,
             What::Displacing { .. } => 2,
             _ => 1,
         }
@@ -186,15 +193,15 @@ impl End {
     }
 
     fn open(&mut self) -> What {
-        if self.standing() >= self.spare {
-            return What::NothingToOpen;
+        if self.standing() == self.spare {
+            return What::Enough;
         }
         match self.own.iter_mut().find(|own| own.outbound == 0) {
             Some(own) => {
                 own.outbound = 1;
                 What::Opened(own.place)
             }
-            None => What::NothingToOpen,
+            None => What::AllTried,
         }
     }
 

@@ -208,11 +208,12 @@ impl Site {
             }
         }
         match dearest {
-            Some((place, side)) if standing < self.spares[usize::from(probe)] => {
+            _ if standing == self.spares[usize::from(probe)] => What::Enough,
+            Some((place, side)) => {
                 record[BYTES * place + side.outbound()] = 1;
                 What::Opened(place)
             }
-            _ => What::NothingToOpen,
+            None => What::AllTried,
         }
     }
 

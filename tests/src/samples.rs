@@ -70,7 +70,7 @@ pub const VALLEY_PLANNED: [&str; 5] = [
     "ffff",
 ];
 
-/// Its script: probe 1 has nothing to open and refuses what it is offered.
+/// Its script: probe 1 has enough at once and refuses what it is offered.
 pub const VALLEY_SCRIPT: [&str; 12] = [
     "00000100000000",
     "01000100000002",

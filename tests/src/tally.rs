@@ -7,8 +7,8 @@ use crate::reference::WITHDRAWN;
 pub struct Tally {
     /// By the refusal's number.
     pub refused: [usize; 28],
-    /// By 01's code.
-    pub befell: [usize; 7],
+    /// By 01's or 02's code.
+    pub befell: [usize; 8],
 }
 
 impl Tally {

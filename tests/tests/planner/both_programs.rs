@@ -27,7 +27,8 @@ fn fuzz_plans() {
 #[test]
 fn fuzz_scripts() {
     let tally = reached(72, 350_000, fuzz::script);
-    tally.assert_share(&["00", "01", "02", "03", "04", "05", "06"], 1_000);
+    let codes = ["00", "01", "02", "03", "04", "05", "06", "07"];
+    tally.assert_share(&codes, 1_000);
     tally.assert_share(&["finished after changes", "not finished"], 1_000);
     tally.assert_share(&["finished from the start"], 300);
     let refusals = ["e001", "e002", "e009", "e023", "e024", "e027"];

@@ -148,6 +148,24 @@ fn names_in_prose() {
     assert!(names > 20, "{names}");
 }
 
+/// The README's table and the header's list have each code of what can befall a probe once.
+#[test]
+fn codes() {
+    let readme = document("README.md");
+    let (_, table) = readme.split_once("\n| What | |\n").expect("a table");
+    let cells = table.lines().take_while(|line| line.starts_with('|'));
+    let listed: Vec<&str> = cells.filter_map(|row| quoted(row).next()).collect();
+    assert_eq!(listed, ["00", "01", "02", "03", "04", "05", "06", "07"]);
+    let header = document("include/planner.h");
+    let (_, list) = header.split_once("What befell the probe:").expect("a list");
+    let (list, _) = list.split_once(". */").expect("its end");
+    let parts = list
+        .split(',')
+        .map(|part| part.trim_matches([' ', '\n', '*']));
+    let numbers = parts.filter_map(|part| part.split_once(' ')?.0.parse().ok());
+    assert_eq!(numbers.collect::<Vec<u8>>(), Vec::from_iter(0..8));
+}
+
 /// The refusals that calls make; 7 is withdrawn.
 const REFUSALS: [u8; 16] = [1, 2, 3, 4, 5, 6, 8, 9, 20, 21, 22, 23, 24, 25, 26, 27];
 

@@ -18,6 +18,7 @@ mod plan_slips;
 mod plan_small;
 mod plan_texts;
 mod programs;
+mod quiet_openings;
 mod random_slices;
 mod random_texts;
 mod script;

@@ -78,7 +78,7 @@ impl Program {
 }
 
 /// The whole output for an input in pieces of these sizes, again and again.
-fn run(name: &str, input: &[u8], sizes: &[usize]) -> Vec<u8> {
+pub(super) fn run(name: &str, input: &[u8], sizes: &[usize]) -> Vec<u8> {
     let mut program = Program::start(name);
     let mut rest = input;
     for &size in sizes.iter().cycle() {
@@ -92,7 +92,7 @@ fn run(name: &str, input: &[u8], sizes: &[usize]) -> Vec<u8> {
     program.finish()
 }
 
-const WHOLE: [usize; 1] = [usize::MAX];
+pub(super) const WHOLE: [usize; 1] = [usize::MAX];
 const ODD: [usize; 9] = [1, 3, 15, 7, 14, 16, 31, 4095, 4097];
 
 #[track_caller]

@@ -242,7 +242,7 @@ fn fleets_go_by_the_counted_needs() {
 #[test]
 fn short_end_alone() {
     let mut end = End::fresh(&valley(), 1);
-    assert_eq!(end.open(1), Ok(What::NothingToOpen));
+    assert_eq!(end.open(1), Ok(What::Enough));
     for (from, place) in [(0, 0), (2, 2)] {
         assert_eq!(end.hear(&offer(from, 1), 1), Ok(What::Refused(place)));
         assert_eq!(end.hear(&offer(from, 1), 1), Ok(What::NoChange(place)));
@@ -287,9 +287,9 @@ fn site_without_spare_is_finished_at_once() {
         let mut fleet = Fleet::fresh(&table);
         assert_eq!(fleet.finished(), Ok(true));
         for probe in [0, 1, probes - 1] {
-            let what = What::NothingToOpen;
-            let nothing = Ok(Entry { probe, what });
-            assert_eq!(fleet.event(&opening(probe), 0, 1), nothing);
+            let what = What::Enough;
+            let enough = Ok(Entry { probe, what });
+            assert_eq!(fleet.event(&opening(probe), 0, 1), enough);
         }
         assert_eq!(text(&table.text(), &mut Random::new(42)), b"0100000000\n");
         sites += usize::from(table.has_short());

@@ -207,7 +207,7 @@ fn full_log() {
     let mut end = m2_end();
     assert_eq!(end.open(0), Err(26));
     assert_eq!(end.open(usize::MAX), Ok(What::Opened(1)));
-    // Nothing to open and nothing to change take an entry too.
+    // An opening that opens nothing and a frame that changes nothing take an entry too.
     assert_eq!(end.open(0), Err(26));
     assert_eq!(end.hear(&offer(2, 1), 0), Err(26));
     assert_eq!(end.hear(&offer(2, 1), 1), Ok(What::Taken(1)));

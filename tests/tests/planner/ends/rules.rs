@@ -16,7 +16,7 @@ fn spare_0_refuses_every_offer() {
     assert_eq!(end.hear(&offer(0, 1), 1), Ok(What::Refused(0)));
     assert_eq!(end.hear(&offer(2, 1), 1), Ok(What::Refused(1)));
     assert_eq!(end.hear(&offer(2, 1), 1), Ok(What::NoChange(1)));
-    assert_eq!(end.open(1), Ok(What::NothingToOpen));
+    assert_eq!(end.open(1), Ok(What::Enough));
     assert_eq!(end.record, [0, 2, 0, 2, 0, 0]);
     for (link, to) in [(0, 0), (1, 2)] {
         let line = Some(refusal(1, to));
@@ -81,12 +81,13 @@ fn opening_takes_the_dearest_untried() {
                 continue;
             }
             // Two stand, its spare; a refusal makes room, and its link is not offered again.
-            assert_eq!(end.open(1), Ok(What::NothingToOpen));
+            assert_eq!(end.open(1), Ok(What::Enough));
             let from = [0, 1, 2, 4, 5][link];
             assert_eq!(end.hear(&refusal(from, 3), 1), Ok(What::Learnt(link)));
             assert_eq!(end.hear(&refusal(from, 3), 1), Ok(What::NoChange(link)));
         }
-        assert_eq!(end.open(1), Ok(What::NothingToOpen));
+        // One stands, and the other four are refused.
+        assert_eq!(end.open(1), Ok(What::AllTried));
     }
 }
 
@@ -314,7 +315,7 @@ fn hold_the_dearest(table: &Table, probe: u16) {
     for &place in &falling[..spare] {
         assert_eq!(end.open(1), Ok(What::Opened(place)));
     }
-    assert_eq!(end.open(1), Ok(What::NothingToOpen));
+    assert_eq!(end.open(1), Ok(What::Enough));
     for &place in &own {
         let from = other_end(table.links[place], probe).expect("an own link");
         assert!(end.hear(&offer(from, probe), 1).is_ok());

@@ -154,7 +154,7 @@ fn opening_of_no_such_probe_or_with_two_ends() {
         let opened = heard(&opening(probe));
         match probe {
             0 => assert_eq!(opened, befell(0, What::Opened(0))),
-            1 => assert_eq!(opened, befell(1, What::NothingToOpen)),
+            1 => assert_eq!(opened, befell(1, What::Enough)),
             2 => assert_eq!(opened, befell(2, What::Opened(1))),
             3 => assert_eq!(opened, befell(3, What::Opened(2))),
             _ => assert_eq!(opened, Err(24)),

@@ -86,8 +86,8 @@ fn finished_at_once() {
     for table in [marked(2), site(&[], &[0, 0, 0]), all_needed] {
         let mut fleet = Fleet::fresh(&table);
         assert_eq!(fleet.finished(), Ok(true));
-        let nothing = befell(0, What::NothingToOpen);
-        assert_eq!(fleet.event(&opening(0), 0, 1), nothing);
+        let enough = befell(0, What::Enough);
+        assert_eq!(fleet.event(&opening(0), 0, 1), enough);
         assert_eq!(fleet.finished(), Ok(true));
     }
     // M5: probe 0 needs its link, but probe 1 can open it.
@@ -125,9 +125,11 @@ fn late_and_repeated_frames() {
         assert_eq!(fleet.finished(), Ok(true));
         assert_eq!(fleet.event(&line(3 - kind, from, to), 0, 1), Err(27));
     }
-    for probe in 0..4 {
+    // The offers of the ends are refused; those in the middle have one standing, their spare.
+    let quiet = [What::AllTried, What::Enough, What::Enough, What::AllTried];
+    for (probe, what) in (0..4).zip(quiet) {
         let opened = fleet.event(&opening(probe), 0, 1);
-        assert_eq!(opened, befell(probe, What::NothingToOpen));
+        assert_eq!(opened, befell(probe, what));
     }
     assert_eq!(fleet.record(), end);
 }
@@ -155,6 +157,6 @@ fn refusal_of_an_untried_link() {
     let learnt = befell(0, What::Learnt(0));
     assert_eq!(fleet.event(&refusal(1, 0), 0, 1), learnt);
     assert_eq!(fleet.record(), [2, 2, 0, 0, 0, 0, 0, 0, 0, 0, 0, 0]);
-    let nothing = befell(0, What::NothingToOpen);
-    assert_eq!(fleet.event(&opening(0), 0, 1), nothing);
+    let all_tried = befell(0, What::AllTried);
+    assert_eq!(fleet.event(&opening(0), 0, 1), all_tried);
 }

@@ -75,6 +75,35 @@ struct Run<'a> {
     changes: Vec<usize>,
 }
 
+/// How many of each probe's links the plan keeps.
+fn awake(table: &Table) -> Vec<usize> {
+    let mut awake = vec![0; table.needs.len()];
+    for (link, kept) in table.links.iter().zip(plan(table).kept) {
+        for end in link.ends() {
+            awake[end] += usize::from(kept);
+        }
+    }
+    awake
+}
+
+/// What runs reached.
+#[derive(Debug, Default)]
+struct Reached {
+    events: usize,
+    /// Openings at the finish by probes that had enough, and by such that had tried every link.
+    quiet: [usize; 2],
+}
+
+impl Reached {
+    /// More than so many events, and more than so many openings of each kind at the finish.
+    #[track_caller]
+    fn assert_over(&self, events: usize, quiet: usize) {
+        let [enough, all_tried] = self.quiet;
+        let over = self.events > events && enough.min(all_tried) > quiet;
+        assert!(over, "{self:?}");
+    }
+}
+
 impl Run<'_> {
     fn fresh(table: &Table, order: Order) -> Run<'_> {
         Run {
@@ -159,16 +188,21 @@ impl Run<'_> {
         assert_eq!(self.fleet.finished(), Ok(true));
     }
 
-    /// Old frames and openings change nothing any more.
+    /// Old frames and openings change nothing any more. A probe has enough where the plan keeps no
+    /// more of its links than its counted need.
     #[track_caller]
-    fn late(&mut self, random: &mut Random) {
+    fn late(&mut self, quiet: &mut [usize; 2], random: &mut Random) {
         for _ in 0..self.sent.len().min(20) {
             let frame = random.pick(&self.sent);
             assert!(matches!(self.hear(frame), What::NoChange(_)));
         }
-        let probe = random.below(self.table.needs.len()) as u16;
-        let what = self.hear(opening(self.table, probe));
-        assert_eq!(what, What::NothingToOpen);
+        let awake = awake(self.table).into_iter();
+        for (probe, (awake, need)) in awake.zip(self.table.counted_needs()).enumerate() {
+            let opened = self.hear(opening(self.table, probe as u16));
+            let more = usize::from(awake > need);
+            assert_eq!(opened, [What::Enough, What::AllTried][more]);
+            quiet[more] += 1;
+        }
     }
 
     /// Both ends rest a link exactly when the plan does not keep it, and every counted need is met.
@@ -176,67 +210,74 @@ impl Run<'_> {
     fn assert_planned(&self) {
         let kept = slse(self.table).kept;
         assert_eq!(kept, plan(self.table).kept);
-        let mut awake = vec![0; self.table.needs.len()];
-        for (place, bytes) in self.fleet.record().chunks_exact(BYTES).enumerate() {
-            assert_eq!(rested(bytes), [!kept[place]; 2]);
-            if kept[place] {
-                let ends = self.table.links[place].ends();
-                ends.into_iter().for_each(|end| awake[end] += 1);
-            }
+        for (bytes, kept) in self.fleet.record().chunks_exact(BYTES).zip(kept) {
+            assert_eq!(rested(bytes), [!kept; 2]);
         }
         let met = |(awake, need): (&usize, usize)| *awake >= need;
+        let awake = awake(self.table);
         assert!(awake.iter().zip(self.table.counted_needs()).all(met));
         assert!(self.changes.iter().all(|&changes| changes <= 4));
     }
 }
 
-/// In each of the first orders; answers how many events there were.
+/// In each of the first orders.
 #[track_caller]
-fn run_all(table: &Table, orders: usize, random: &mut Random) -> usize {
-    let (mut records, mut events) = (Vec::new(), 0);
+fn run_all(table: &Table, orders: usize, reached: &mut Reached, random: &mut Random) {
+    let mut records = Vec::new();
     for place in 0..orders {
         let mut run = Run::fresh(table, order(place));
         if random.one_in(2) {
             run.openers.make_contiguous().reverse();
         }
         run.finish(random);
-        run.late(random);
+        run.late(&mut reached.quiet, random);
         run.assert_planned();
         records.push(run.fleet.record().to_vec());
-        events += run.used;
+        reached.events += run.used;
     }
     assert!(records.iter().all(|record| *record == records[0]));
-    events
 }
+
+/// For M1 to M8: at the finish so many probes have enough, and so many have tried every link.
+const QUIET: [[usize; 2]; 8] = [
+    [4, 0],
+    [2, 2],
+    [1, 0],
+    [2, 0],
+    [1, 1],
+    [2, 1],
+    [2, 1],
+    [4, 0],
+];
 
 #[test]
 fn marked_sites() {
     let random = &mut Random::new(46);
-    let events: Vec<usize> = (0..8)
-        .map(|place| run_all(&marked(place), ORDERS, random))
-        .collect();
-    assert!(events.iter().all(|&events| events >= ORDERS));
+    for (place, quiet) in QUIET.into_iter().enumerate() {
+        let mut reached = Reached::default();
+        run_all(&marked(place), ORDERS, &mut reached, random);
+        assert!(reached.events >= ORDERS);
+        assert_eq!(reached.quiet, quiet.map(|probes| ORDERS * probes));
+    }
 }
 
 #[test]
 fn small_sites() {
-    let (mut events, mut with_short) = (0, 0);
+    let (mut reached, mut with_short) = (Reached::default(), 0);
     each_seed(47, 600, |random| {
         let probes = 1 + random.below(9);
         let links = random.below(probes * (probes - 1) / 2 + 1);
         let table = legal_of_size(probes, links, random);
-        events += run_all(&table, ORDERS, random);
+        run_all(&table, ORDERS, &mut reached, random);
         with_short += usize::from(table.has_short());
     });
-    assert!(
-        events > 100_000 && with_short > 100,
-        "{events} {with_short}"
-    );
+    reached.assert_over(100_000, 5_000);
+    assert!(with_short > 100, "{with_short}");
 }
 
 #[test]
 fn sites_of_many_kinds() {
-    let mut events = 0;
+    let mut reached = Reached::default();
     for seed in 0..60 {
         let random = &mut Random::new(48 << 32 | seed);
         let table = match seed % 4 {
@@ -244,17 +285,18 @@ fn sites_of_many_kinds() {
             _ => any_table(random),
         };
         if table.links.len() <= 600 {
-            events += run_all(&table, ORDERS, random);
+            run_all(&table, ORDERS, &mut reached, random);
         }
     }
-    assert!(events > 100_000, "{events}");
+    reached.assert_over(100_000, 1_000);
 }
 
 #[track_caller]
 fn run_largest(table: Table, random: &mut Random) {
     assert_eq!([table.needs.len(), table.links.len()], [256, 2048]);
-    let events = run_all(&table, 10, random);
-    assert!(events > 10 * 4096, "{events}");
+    let mut reached = Reached::default();
+    run_all(&table, 10, &mut reached, random);
+    reached.assert_over(10 * 4096, 10);
 }
 
 #[test]

@@ -158,13 +158,12 @@ fn full_log() {
     }
 }
 
-/// Openings with nothing to open take entries too.
+/// Openings of a probe that has enough take entries too.
 #[test]
-fn log_full_of_nothing_to_open() {
+fn log_full_of_enough() {
     let lines = vec!["00000100000000"; 1100];
     let output = printed(&input(2, &lines));
-    let nothing = vec!["000001ffffffff"; 1024];
-    assert_eq!(output[..1024], nothing);
+    assert_eq!(output[..1024], vec!["000001ffffffff"; 1024]);
     assert_eq!(output[1024..1100], vec!["e026"; 76]);
     assert_eq!(output[1100..], ["0100000000"]);
 }

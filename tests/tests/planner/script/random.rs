@@ -33,7 +33,7 @@ impl Tally {
     }
 }
 
-const CODES: [&str; 7] = ["00", "01", "02", "03", "04", "05", "06"];
+const CODES: [&str; 8] = ["00", "01", "02", "03", "04", "05", "06", "07"];
 
 /// At most this many lines, mostly far fewer.
 fn any_length(most: usize, random: &mut Random) -> usize {
