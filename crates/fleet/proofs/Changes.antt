@@ -1,35 +1,27 @@
 -- How many bytes an event alters: as many as its entry says.
 use Prim.Native.Nat.{ℕ, zero, suc, _+_, _*_, _<_}
 use mathlib.Core.Path.{_≡_, refl, sym, _∙_, ap}
-use mathlib.Core.Logic.{_⊎_, inl, inr}
-use mathlib.Core.Bool.{Bool, true, false, cond, _&&_}
+use mathlib.Core.Bool.{cond}
 use mathlib.Core.List.{List}
-use native.Mathlib.Nat.{add-zero, le-refl}
+use native.Mathlib.Nat.{add-zero}
 use native.Mathlib.Omega.{arith}
 use native.Mathlib.Decide.{ℕ-discrete}
-use lib.Dec.{ltb, eqb}
+use lib.Dec.{eqb}
 use lib.ListN.{length, set, length-set}
 use lib.Seq.{getD-set-same, getD-set-other}
-use borrow.Author.Tests.{ltb-true, eqb-true, eqb-false, eq-eqb, ne-eqb}
+use borrow.Author.Tests.{eq-eqb, ne-eqb}
 use Rattle.range.specs.Sum.{sum}
-use Rattle.range.proofs.Bools.{and-left, and-right, decided}
-use Rattle.range.proofs.Choice.{Best, nobody, chosen, best-is}
 use Rattle.range.proofs.Sums.{sum-same, sum-add, sum-one}
-use Rattle.table.specs.Table.{Table, item, touches, spare, dearer, cheaper}
-use Rattle.table.specs.Legal.{Legal}
-use Rattle.plan_theory.proofs.Places.{reversed}
-use Rattle.plan_theory.proofs.Order.{dearer-order}
-use Rattle.table.proofs.LegalLaws.{legal-table}
-use Rattle.probe_record.specs.Record.{outbound, inbound, ownWith, standing, held, dearestUntried, cheapestHeld}
+use Rattle.table.specs.Table.{Table, item}
+use Rattle.probe_record.specs.Record.{outbound, inbound, held}
 use Rattle.probe_frame.specs.Frame.{Frame, frameOf}
 use Rattle.wake_log.specs.declared.Entry.{Entry}
 use Rattle.wake_log.specs.declared.Answer.{Answer}
 use Rattle.wake_log.specs.Entry.{answerOf}
 use Rattle.probe_rules.specs.declared.Event.{Event}
-use Rattle.probe_rules.specs.declared.Event.the-variants.{Opening, Offer, Refusal}
 use Rattle.probe_rules.specs.declared.Outcome.{Outcome}
 use Rattle.probe_rules.specs.declared.Outcome.the-variants.{Opened, Enough, Taken, TakenDisplacing, Refused, RefusalLearnt, NoChange, AllTried}
-use Rattle.probe_rules.specs.Rules.{befalls, offer, whatOf, entryOf}
+use Rattle.probe_rules.specs.Rules.{whatOf, entryOf}
 use Rattle.fleet_theory.specs.Fleet.{outAt, inAt, own, fleetFault, eventFault, eventOf, outcomeOf, alterFleet, alteredBy, differs, linkChanges}
 use Rattle.table.specs.Slices.{Slices, tableOf, slicesFault}
 use Rattle.fleet_theory.proofs.Own.{out-reads, in-reads}
@@ -37,7 +29,6 @@ use Rattle.fleet.proofs.Calls.{handled-answer}
 use Rattle.probe_rules.specs.Within.{OwnLink, OwnOutcome}
 use Rattle.probe_rules.proofs.Befalls.{Befell, opened, enough, all-tried, taken, displacing, refused, seen, learnt, known, befell}
 use Rattle.fleet.proofs.Checks.{line-within}
-use Rattle.probe_record.proofs.SearchLaws.{dearest}
 use Rattle.fleet_theory.proofs.Events.{line-step}
 use Rattle.fleet_theory.proofs.Changes.{no-changes}
 use Rattle.fleet_theory.proofs.Run.{slices-legal}

@@ -23,6 +23,7 @@ use Rattle.fleet_theory.proofs.Events.{Says, an-opening, an-offer, a-refusal, s
 use Rattle.fleet_theory.proofs.Run.{slices-legal}
 use Rattle.fleet_state.proofs.CheckLaws.{fleet-good}
 use Rattle.fleet.specs.Answers.{Handled}
+use Rattle.fleet.proofs.Calls.{handled-answer}
 use Rattle.fleet.proofs.Passing.{passed-line, passed-record, own-fault}
 
 module _ (x : Slices) (fine : slicesFault x ≡ 0) (used room : ℕ) (r : List ℕ) (l : List ℕ) where
@@ -43,10 +44,10 @@ module _ (x : Slices) (fine : slicesFault x ≡ 0) (used room : ℕ) (r : List �
   o = outcomeOf t r f
 
   pub line-opens-nothing : (entry : Entry) (after : List ℕ) → Handled x used room l (Logged entry) r after → f .kind ≡ 0 → after ≡ r → OpensNothing t p e (entry .what)
-  line-opens-nothing entry after h kind same = go (logged-is (eventFault x r used room l) entry (entryOf t p o) (h .answer))
+  line-opens-nothing entry after h kind same = go (logged-is (eventFault x r used room l) (entryOf t p o) entry (sym (handled-answer h)))
     where
-      go : (eventFault x r used room l ≡ 0) × (entry ≡ entryOf t p o) → OpensNothing t p e (entry .what)
-      go (none, s) = rw s (opens (says t l (line .0)))
+      go : (eventFault x r used room l ≡ 0) × (entryOf t p o ≡ entry) → OpensNothing t p e (entry .what)
+      go (none, s) = rw (← s) (opens (says t l (line .0)))
         where
           line : (eventLineFault t l ≡ 0) × NotUnsent t r f
           line = passed-line x r used room l none

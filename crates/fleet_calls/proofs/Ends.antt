@@ -5,7 +5,6 @@ use mathlib.Core.Logic.{_↔_, _⊎_, inl, inr}
 use mathlib.Core.Bool.{Bool, cond, _&&_}
 use mathlib.Core.List.{List, [], _∷_, _++_, append-nil}
 use native.Mathlib.Omega.{arith}
-use native.Mathlib.Decide.{ℕ-discrete}
 use lib.Dec.{ltb, eqb}
 use lib.ListN.{length}
 use lib.Seq.{sets}
@@ -24,7 +23,8 @@ use Rattle.probe_record.specs.Record.{byteFault, recordFault}
 use Rattle.wake_log.specs.declared.Entry.{Entry}
 use Rattle.wake_log.specs.declared.Answer.{Answer}
 use Rattle.wake_log.specs.declared.Answer.the-variants.{Logged}
-use Rattle.wake_log.specs.Entry.{answerOf, acceptedBy}
+use Rattle.wake_log.specs.Entry.{answerOf}
+use Rattle.wake_log.proofs.Answers.{logged-is}
 use Rattle.probe_rules.specs.declared.Event.{Event}
 use Rattle.probe_rules.specs.declared.Event.the-variants.{Opening}
 use Rattle.probe_rules.specs.declared.Outcome.{Outcome}
@@ -126,14 +126,6 @@ module _ (t u : Table) (same : Same t u) (p : ℕ) (l : p < t .probes) (e : List
             ∙ ap (λ (line : List ℕ). cond (eqb m 0 && may) (sets out 0 line) out) (same-asked k i b);
       }
 
--- an answer that is logged is of no fault
-logged-none : (n : ℕ) (e e′ : Entry) → answerOf n e ≡ Logged e′ → n ≡ 0
-logged-none n e e′ is = go (ℕ-discrete n 0)
-  where
-    go : Dec (n ≡ 0) → n ≡ 0
-    go (yes z) = z
-    go (no d) = let none = ap acceptedBy (rw (ne-eqb n 0 d) at is) in absurd (omega arith)
-
 module _ (x : Slices) (fine : slicesFault x ≡ 0) (log : List Entry) where
   abbrev t : Table
   t = tableOf x
@@ -168,7 +160,7 @@ module _ (x : Slices) (fine : slicesFault x ≡ 0) (log : List Entry) where
     stepped = step-follows x log s left c follows (kept-logs x fine left c (call-at x (freshLogged x log) before later c k))
 
     none : faultOf x room s l ≡ 0
-    none = logged-none (faultOf x room s l) (entryTo x s l) entry (sym (stepped .0) ∙ logged)
+    none = logged-is (faultOf x room s l) (entryTo x s l) entry (sym (stepped .0) ∙ logged) .0
 
     line : eventLineFault t l ≡ 0
     line = passed-line x (s .bytes) (length (s .log)) room l none .0

@@ -28,7 +28,7 @@ either n b x y f g = go (decided b)
 pub befalls-within : (t : Table) (p : ℕ) (event : Event) (e : List ℕ) → EventWithin (t .links) event → Within (t .links) (befalls t p event e)
 befalls-within t p Opening e w =
     let i = dearestUntried t p e in
-    either (t .links) (ltb (standing t p e) (spare t p)) _ Enough (λ f. either (t .links) (ltb i (t .links)) (Opened i) AllTried (ltb-true i (t .links)) tt) tt
+    either (t .links) (ltb (standing t p e) (spare t p)) _ _ (λ f. either (t .links) (ltb i (t .links)) _ _ (ltb-true i (t .links)) tt) tt
 befalls-within t p (Offer i) e w = either (t .links) (eqb (inbound e i) 0) (offer t p e i) (NoChange i) (λ f. heard) w
   where
     c : ℕ

@@ -1,18 +1,15 @@
 -- What an opening says that opens nothing: by cases of what befell the end, on a record that 22 lets pass.
-use Prim.Native.Nat.{ℕ, _*_, _<_}
+use Prim.Native.Nat.{ℕ, _*_}
 use mathlib.Core.Path.{_≡_, refl, sym, _∙_, ap}
 use mathlib.Core.Logic.{inl, inr}
 use mathlib.Core.List.{List}
 use native.Mathlib.Omega.{arith}
-use lib.ListN.{length}
 use lib.Seq.{getD-set-same}
 use Rattle.table.specs.Table.{Table, item}
 use Rattle.table.specs.Legal.{Legal}
-use Rattle.probe_record.specs.Record.{outbound}
 use Rattle.probe_record.proofs.Bytes.{GoodRecord, good-record}
 use Rattle.wake_log.specs.declared.Entry.{Entry}
 use Rattle.wake_log.specs.declared.Answer.the-variants.{Logged}
-use Rattle.wake_log.specs.Entry.{codeOf}
 use Rattle.wake_log.proofs.Answers.{logged-is}
 use Rattle.probe_rules.specs.declared.Event.the-variants.{Opening}
 use Rattle.probe_rules.specs.declared.Outcome.{Outcome}
@@ -22,6 +19,7 @@ use Rattle.probe_rules.proofs.Befalls.{Befell, opened, enough, all-tried, befel
 use Rattle.probe_checks.specs.Checks.{openFault}
 use Rattle.probe_checks.proofs.Accepted.{open-parts}
 use Rattle.probe.specs.Answers.{Befallen}
+use Rattle.probe.proofs.Answers.{befallen-answer}
 use Rattle.probe_theory.specs.EndLaws.{OpensNothing}
 
 pub unaltered-says : (t : Table) (p : ℕ) (e : List ℕ) → GoodRecord t p e → {o : Outcome} → Befell t p e Opening o → alter o e ≡ e → OpensNothing t p e (whatOf t p o)
@@ -49,13 +47,13 @@ unaltered-says t p e good (all-tried m h) s =
 
 pub opens-nothing : (t : Table) → Legal t → (p slices free : ℕ) (e e′ : List ℕ) (entry : Entry) → Befallen (openFault slices t p e free) t p Opening (Logged entry) e e′ → e′ ≡ e
     → OpensNothing t p e (entry .what)
-opens-nothing t legal p slices free e e′ entry b same = go (logged-is (openFault slices t p e free) entry (entryOf t p o) (b .answer))
+opens-nothing t legal p slices free e e′ entry b same = go (logged-is (openFault slices t p e free) (entryOf t p o) entry (sym (befallen-answer b)))
   where
     o : Outcome
     o = befalls t p Opening e
 
-    go : (openFault slices t p e free ≡ 0) × (entry ≡ entryOf t p o) → OpensNothing t p e (entry .what)
+    go : (openFault slices t p e free ≡ 0) × (entryOf t p o ≡ entry) → OpensNothing t p e (entry .what)
     go (none, s) =
         let good = good-record t p e (open-parts slices t p e free none .1) in
         let after : alter o e ≡ e = sym (rw none at (b .record-after)) ∙ same in
-        rw s (unaltered-says t p e good (befell t legal p e Opening tt) after)
+        rw (← s) (unaltered-says t p e good (befell t legal p e Opening tt) after)

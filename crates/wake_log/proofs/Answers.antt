@@ -13,7 +13,7 @@ use Rattle.wake_log.specs.declared.What.{What}
 use Rattle.wake_log.specs.declared.What.the-variants as what
 use Rattle.wake_log.specs.declared.Answer.{Answer}
 use Rattle.wake_log.specs.declared.Answer.the-variants.{Logged, Refused}
-use Rattle.wake_log.specs.Entry.{codeOf, linkOf, displacedOf, entryValues, answerReply, answerOf}
+use Rattle.wake_log.specs.Entry.{codeOf, linkOf, displacedOf, entryValues, answerReply, answerOf, acceptedBy}
 
 -- what befell, by its code, link and displaced probe
 abbrev fromCode : ℕ → ℕ → ℕ → What
@@ -62,12 +62,10 @@ answer-reply r fault e is = ap answerReply is ∙ go (eqb fault 0)
     go true = refl
     go false = refl
 
--- an entry is logged where there is no fault, and is the one promised
-pub logged-is : (fault : ℕ) (e e′ : Entry) → answerReply (Logged e) ≡ replyOf fault (entryValues e′) → (fault ≡ 0) × (e ≡ e′)
-logged-is fault e e′ s = go (decided (eqb fault 0))
+-- an answer that is logged is of no fault, and is the entry promised
+pub logged-is : (fault : ℕ) (e e′ : Entry) → answerOf fault e ≡ Logged e′ → (fault ≡ 0) × (e ≡ e′)
+logged-is fault e e′ is = go (decided (eqb fault 0))
   where
     go : (eqb fault 0 ≡ true) ⊎ (eqb fault 0 ≡ false) → (fault ≡ 0) × (e ≡ e′)
-    go (inl z) = let v = rw z at s in (eqb-true fault 0 z, entry-is e e′ (cc))
-    go (inr z) =
-        let v = rw z at s in
-        let apart : _≡_ {A = ℕ} 0 1 = cc in absurd (omega arith)
+    go (inl z) = let logged = rw z at is in (eqb-true fault 0 z, cc)
+    go (inr z) = let none = ap acceptedBy (rw z at is) in absurd (omega arith)
