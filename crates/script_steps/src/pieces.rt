@@ -239,7 +239,15 @@ pub fn put_end(
         return script_lines::answers::cap(end);
     }
     let next = script_lines::answers::put_unclosed(out, at, held);
-    let done = fleet_state::finishing::is_finished(probes, links, needs, degrees, lows, highs, rec);
+    let done = fleet_finishing::finishing::is_finished(
+        probes,
+        links,
+        needs,
+        degrees,
+        lows,
+        highs,
+        rec,
+    );
     script_lines::answers::put_last(out, next, done, changed);
     end
 }

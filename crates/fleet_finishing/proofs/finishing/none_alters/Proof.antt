@@ -1,8 +1,8 @@
--- `fleet_state::finishing::none_alters` meets its contract.
+-- `fleet_finishing::finishing::none_alters` meets its contract.
 -- Invariant: on no link before i would a frame alter a byte. Measure: the links that are left.
 use borrow.Author.Needs.{needs}
-use Rattle.fleet_state.proofs.finishing.none_alters.Statement.{statement}
-use Rattle.fleet_state.proofs.finishing.none_alters.Tie as tie
+use Rattle.fleet_finishing.proofs.finishing.none_alters.Statement.{statement}
+use Rattle.fleet_finishing.proofs.finishing.none_alters.Tie as tie
 use Prim.Native.Nat.{_-_, _≤_, _+_, _*_}
 use mathlib.Core.Path.{_≡_, refl, sym, _∙_}
 use native.Mathlib.Omega.{arith}
@@ -11,7 +11,7 @@ use Rattle.range.specs.Sum.{sum, count}
 use Rattle.range.proofs.Sums.{count-miss}
 use Rattle.range.proofs.Bools.{or-intro-left, or-intro-right}
 use Rattle.fleet_theory.specs.Fleet.{mayAlter}
-use Rattle.fleet_state.proofs.Finished.{some-counted, altersOf}
+use Rattle.fleet_finishing.proofs.Finished.{some-counted, altersOf}
 use Rattle.table.specs.Table.{item}
 
 abbrev Inv-loop : tie.InvT-loop

@@ -1,6 +1,6 @@
--- `fleet_state::finishing::may_alter` meets its contract.
-use Rattle.fleet_state.proofs.finishing.may_alter.Statement.{statement}
-use Rattle.fleet_state.proofs.finishing.may_alter.Tie as tie
+-- `fleet_finishing::finishing::may_alter` meets its contract.
+use Rattle.fleet_finishing.proofs.finishing.may_alter.Statement.{statement}
+use Rattle.fleet_finishing.proofs.finishing.may_alter.Tie as tie
 use mathlib.Core.Bool.{and-false, or-false}
 use lib.Dec.{eqb}
 use borrow.Author.Tests.{eq-eqb, ne-eqb}

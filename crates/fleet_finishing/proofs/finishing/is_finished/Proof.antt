@@ -1,7 +1,7 @@
--- `fleet_state::finishing::is_finished` meets its contract.
+-- `fleet_finishing::finishing::is_finished` meets its contract.
 use borrow.Author.Needs.{needs}
-use Rattle.fleet_state.proofs.finishing.is_finished.Statement.{statement}
-use Rattle.fleet_state.proofs.finishing.is_finished.Tie as tie
+use Rattle.fleet_finishing.proofs.finishing.is_finished.Statement.{statement}
+use Rattle.fleet_finishing.proofs.finishing.is_finished.Tie as tie
 use Prim.Native.Nat.{ℕ}
 use mathlib.Core.Path.{_≡_, _∙_, ap}
 use mathlib.Core.List.{[]}
@@ -14,8 +14,8 @@ use Rattle.range.proofs.Sums.{weigh-same}
 use Rattle.table.specs.Table.{Table, ofSlices}
 use Rattle.fleet_theory.specs.Fleet.{wouldOpen}
 use Rattle.table.proofs.LegalLaws.{legal-table}
 use Rattle.fleet_state.proofs.Legal.{fits-ends}
-use Rattle.fleet_state.proofs.Finished.{open-counted, not-finished, finished-counted}
+use Rattle.fleet_finishing.proofs.Finished.{open-counted, not-finished, finished-counted}
 
 none-alters-requires : tie.Need-none-alters-requires
 none-alters-requires c κs = search needs

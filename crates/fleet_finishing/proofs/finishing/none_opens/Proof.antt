@@ -1,8 +1,8 @@
--- `fleet_state::finishing::none_opens` meets its contract.
+-- `fleet_finishing::finishing::none_opens` meets its contract.
 -- Invariant: no probe before v would open a link. Measure: the probes that are left.
 use borrow.Author.Needs.{needs}
-use Rattle.fleet_state.proofs.finishing.none_opens.Statement.{statement}
-use Rattle.fleet_state.proofs.finishing.none_opens.Tie as tie
+use Rattle.fleet_finishing.proofs.finishing.none_opens.Statement.{statement}
+use Rattle.fleet_finishing.proofs.finishing.none_opens.Tie as tie
 use Prim.Native.Nat.{ℕ, _-_, _≤_}
 use mathlib.Core.Path.{_≡_, refl, sym, _∙_}
 use mathlib.Core.Bool.{Bool, and-false}
@@ -13,8 +13,8 @@ use borrow.Author.Tests.{lt-ltb, le-ltb, eq-eqb}
 use Rattle.range.specs.Sum.{sum, count}
 use Rattle.range.proofs.Sums.{count-miss}
 use Rattle.table.specs.Table.{item}
-use Rattle.fleet_state.specs.Opening.{mayOpen}
-use Rattle.fleet_state.proofs.Finished.{some-counted}
+use Rattle.fleet_finishing.specs.Opening.{mayOpen}
+use Rattle.fleet_finishing.proofs.Finished.{some-counted}
 
 abbrev may : List ℕ → List ℕ → List ℕ → List ℕ → ℕ → Bool
 may needs degrees standing untried v = mayOpen (item standing v) (item degrees v - item needs v) (item untried v)

@@ -8,8 +8,8 @@ ghost use lib.ListN.{length};
 ghost use Rattle.range.specs.Sum.{count};
 ghost use Rattle.table.specs.Table.{item, ofSlices, Degrees};
 ghost use Rattle.fleet_theory.specs.Fleet.{finished, mayAlter};
 ghost use Rattle.fleet_state.specs.Within.{LegalWithoutCosts};
-ghost use Rattle.fleet_state.specs.Opening.{mayOpen};
+ghost use Rattle.fleet_finishing.specs.Opening.{mayOpen};
 
 // Whether a frame that may be sent would alter a byte.
 fn may_alter(out: u8, into: u8) -> bool
@@ -88,7 +88,7 @@ pub fn is_finished(
     }
     let mut standing = [0u16; 256];
     let mut untried = [0u16; 256];
-    super::counts::count_bytes(&mut standing, rec, links, lows, highs, 0, 2, 1);
-    super::counts::count_bytes(&mut untried, rec, links, lows, highs, 0, 2, 0);
+    fleet_state::counts::count_bytes(&mut standing, rec, links, lows, highs, 0, 2, 1);
+    fleet_state::counts::count_bytes(&mut untried, rec, links, lows, highs, 0, 2, 0);
     none_opens(probes, needs, degrees, &standing, &untried)
 }

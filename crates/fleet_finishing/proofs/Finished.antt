@@ -20,8 +20,8 @@ use Rattle.table.proofs.Needs.{spare-given}
 use Rattle.probe_record.specs.Record.{outbound, ownWith}
 use Rattle.fleet_theory.specs.Fleet.{own, wouldOpen, alters, finished, mayAlter}
 use Rattle.fleet_theory.proofs.Bytes.{first-byte, second-byte, third-byte, fourth-byte}
-use Rattle.fleet_state.specs.Opening.{mayOpen}
+use Rattle.fleet_finishing.specs.Opening.{mayOpen}
 use Rattle.fleet_state.proofs.CountLaws.{countedAt, outs-counted}
 
 -- a set with a member is not empty
 pub some-counted : (n : ℕ) (p : ℕ → Bool) (i : ℕ) → i < n → p i ≡ true → false ≡ eqb (count n p) 0
