@@ -87,7 +87,7 @@ pub fn finished(
     if fault != 0 {
         return Finishing::Refused(fault);
     }
-    Finishing::Says(fleet_state::finishing::is_finished(
+    Finishing::Says(fleet_finishing::finishing::is_finished(
         probes as usize,
         links as usize,
         needs,

@@ -2,4 +2,3 @@ pub mod Legal
 pub mod CountLaws
 pub mod CheckLaws
 pub mod Spares
-pub mod Finished

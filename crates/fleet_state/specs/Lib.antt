@@ -1,3 +1,2 @@
 pub mod Within
 pub mod Faults
-pub mod Opening

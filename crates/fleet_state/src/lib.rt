@@ -1,5 +1,4 @@
-// What a fleet's record says as a whole: whether it is usable, and whether the fleet is finished.
+// Whether a fleet's record is usable, and the counts by probe that tell it.
 
 pub mod checks;
 pub mod counts;
-pub mod finishing;

@@ -24,7 +24,7 @@ use Rattle.fleet_calls.proofs.Same.{same-fleet}
 use Rattle.fleet_calls.proofs.Promises.{same-fine}
 use Rattle.script_theory.specs.Script.{Script, scriptText, afterPiece, begun, endText, together, carried, printedBy}
 use Rattle.script_theory.proofs.Pieces.{in-pieces, carried-piece, reached, any-pieces}
-use Rattle.script_steps.proofs.PieceLaws.{usable-piece}
+use Rattle.script_pieces.proofs.PieceLaws.{usable-piece}
 use Rattle.script_output.specs.Handling.{before, siteFault, Handles, pieceCallFault, endCallFault}
 use Rattle.script_output.specs.declared.Handling.{Handling}
 use Rattle.script_output.specs.declared.Handling.the-variants.{Printed, Refused}

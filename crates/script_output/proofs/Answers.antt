@@ -22,9 +22,9 @@ use Rattle.table.specs.Slices.{Slices, tableOf, slicesFault}
 use Rattle.script_lines.proofs.Fitting.{capped-below}
 use Rattle.script_theory.specs.Script.{Script, afterPiece}
 use Rattle.script_steps.specs.declared.Progress.{Progress}
-use Rattle.script_steps.specs.declared.pieces.Place.{Place}
+use Rattle.script_steps.specs.declared.Place.{Place}
 use Rattle.script_steps.specs.Within.{underWay, Buffered}
-use Rattle.script_steps.proofs.PieceLaws.{copied-part}
+use Rattle.script_pieces.proofs.PieceLaws.{copied-part}
 use Rattle.script_output.specs.declared.Handling.{Handling}
 use Rattle.script_output.specs.declared.Handling.the-variants as handling
 use Rattle.script_output.specs.Handling.{siteFault, pieceFault, before, handlingReply, pieceValues, Handles}

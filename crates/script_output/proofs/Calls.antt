@@ -11,7 +11,7 @@ use lib.Seq.{take-take, take-append-seam}
 use Rattle.range.proofs.Bools.{decided}
 use Rattle.table.specs.Slices.{Slices}
 use Rattle.script_theory.specs.Script.{Script, afterByte, afterPiece, carried}
-use Rattle.script_steps.proofs.PieceLaws.{short-take}
+use Rattle.script_pieces.proofs.PieceLaws.{short-take}
 use Rattle.script_output.specs.Handling.{before}
 
 module _ (x : Slices) (room : ℕ) where

@@ -76,7 +76,7 @@ fn piece_fault(
     if begun.held as usize + piece.len() <= room / 5 {
         return 0;
     }
-    let length = script_steps::pieces::count_piece(
+    let length = script_pieces::pieces::count_piece(
         number,
         probe_count,
         link_count,
@@ -135,8 +135,8 @@ pub fn script_piece(
         return Handling::Refused(fault);
     }
     let mut buffer = [0u8; 17];
-    script_steps::pieces::copy(&mut buffer, line, begun.held as usize);
-    let place = script_steps::pieces::take_piece(
+    script_pieces::pieces::copy(&mut buffer, line, begun.held as usize);
+    let place = script_pieces::pieces::take_piece(
         number,
         probes as usize,
         links as usize,
@@ -152,7 +152,7 @@ pub fn script_piece(
         out,
     );
     let p = place.progress;
-    script_steps::pieces::copy(line, &buffer, p.held as usize);
+    script_pieces::pieces::copy(line, &buffer, p.held as usize);
     Handling::Printed {
         length: place.at,
         progress: p,
@@ -176,7 +176,7 @@ pub fn script_end(
         let printed = endText x (now (rec .entry)) (progress .held) (progress .changed) in
         ⌜ Prints (endCallFault x (now (rec .entry)) printed (now (out .entry))) printed r (now (out .entry)) (now (out .exit)) ⌝ }
 {
-    if out.len() < script_steps::pieces::end_length(progress.held) {
+    if out.len() < script_pieces::ending::end_length(progress.held) {
         return Output::Refused(8);
     }
     let probe_count = probes as usize;
@@ -195,7 +195,7 @@ pub fn script_end(
     if fault != 0 {
         return Output::Refused(fault);
     }
-    let length = script_steps::pieces::put_end(
+    let length = script_pieces::ending::put_end(
         probe_count,
         link_count,
         needs,
@@ -227,7 +227,7 @@ pub fn script_text(text: &[u8], out: &mut [u8]) -> Output
             probes,
             links,
             rest,
-        } => script_steps::pieces::print_script(
+        } => script_pieces::whole::print_script(
             number,
             probes as usize,
             links as usize,

@@ -16,8 +16,8 @@ use Rattle.output.specs.declared.Output.the-variants as output
 use Rattle.output.proofs.Printing.{long-enough, prints-answer}
 use Rattle.script_theory.specs.Script.{Script, endText, afterPiece}
 use Rattle.script_steps.specs.declared.Progress.{Progress}
-use Rattle.script_steps.proofs.PieceLaws.{short-take, piece-short}
-use Rattle.script_steps.proofs.Ends.{length-end, end-most}
+use Rattle.script_pieces.proofs.PieceLaws.{short-take, piece-short}
+use Rattle.script_pieces.proofs.Ends.{length-end, end-most}
 use Rattle.script_output.specs.Handling.{before, siteFault, handlingReply, Handles, pieceCallFault, endCallFault}
 use Rattle.script_output.specs.declared.Handling.{Handling}
 use Rattle.script_output.specs.declared.Handling.the-variants.{Printed, Refused}

@@ -16,7 +16,7 @@ use Rattle.script_lines.proofs.Fitting.{capped-is}
 use Rattle.script_theory.specs.Script.{afterLine, afterByte}
 use Rattle.script_steps.specs.Within.{underWay, Buffered}
 use Rattle.script_steps.specs.declared.Progress.{Progress}
-use Rattle.script_steps.specs.declared.pieces.Place.{Place}
+use Rattle.script_steps.specs.declared.Place.{Place}
 
 -- one byte more behind the held ones
 pub stored-byte : (line : List ℕ) (held b : ℕ) → held < length line → take (held + 1) (set line held b) ≡ take held line ++ (b ∷ [])

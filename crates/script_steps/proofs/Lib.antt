@@ -1,4 +1,2 @@
 pub mod Printing
 pub mod Bytes
-pub mod PieceLaws
-pub mod Ends

@@ -1,4 +1,4 @@
--- What the functions of `pieces` promise: a byte, and the bytes of a piece, taken into buffers.
+-- What the steps promise: a script taken into buffers.
 use Prim.Native.Nat.{ℕ, _+_, _≤_}
 use mathlib.Core.Path.{_≡_}
 use mathlib.Core.List.{List, []}
@@ -7,7 +7,7 @@ use lib.Seq.{sets}
 use Rattle.script_lines.specs.Fitting.{capped}
 use Rattle.script_theory.specs.Script.{Script}
 use Rattle.script_steps.specs.declared.Progress.{Progress}
-use Rattle.script_steps.specs.declared.pieces.Place.{Place}
+use Rattle.script_steps.specs.declared.Place.{Place}
 
 -- a script under way, with nothing printed yet
 abbrev pub underWay : Progress → List ℕ → List ℕ → Script

@@ -9,7 +9,7 @@ use native.Mathlib.Omega.{arith}
 use lib.ListN.{replicate}
 use lib.Seq.{length-take-le}
 use Rattle.table.specs.Slices.{slicesOf}
-use Rattle.script_steps.proofs.Ends.{links-within, zeros-are}
+use Rattle.script_pieces.proofs.Ends.{links-within, zeros-are}
 use Rattle.script_reads.proofs.Chain.{handled-usable}
 use Rattle.script.proofs.Answered.{answered-by}
 

@@ -21,7 +21,7 @@ use Rattle.output.specs.Output.{outputFault}
 use Rattle.output.proofs.Printing.{prints-refused, prints-done, too-short, long-enough}
 use Rattle.script_lines.proofs.Fitting.{capped-below, stored-fits}
 use Rattle.script_theory.specs.Script.{endText}
-use Rattle.script_steps.proofs.Ends.{length-end, end-most}
+use Rattle.script_pieces.proofs.Ends.{length-end, end-most}
 use Rattle.script_output.specs.Handling.{siteFault, endCallFault}
 
 end-length-requires : tie.Need-end-length-requires

@@ -1,0 +1,3 @@
+// Whether a fleet is finished, by its record.
+
+pub mod finishing;
