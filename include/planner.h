@@ -49,8 +49,8 @@
 #define PLANNER_LENGTH(answer) ((size_t)((answer) - PLANNER_ANSWER_BASE))
 
 /* The entry of an event: planner_probe_open, _probe_hear and _fleet_event, their _logged forms, planner_log_entry.
- * What befell the probe: 0 opened, 1 opened nothing with enough standing, 2 taken, 3 taken with a displaced probe,
- * 4 refused, 5 refusal learnt, 6 heard with no change, 7 opened nothing with every link tried. */
+ * What befell the probe: 0 opened, 1 nothing opened: offers standing equal the spare, 2 taken, 3 taken with a displaced
+ * probe, 4 refused, 5 refusal learnt, 6 heard with no change, 7 nothing opened: every link tried. */
 #define PLANNER_EVENT_PROBE(answer) ((uint16_t)((answer) >> 40))
 #define PLANNER_EVENT_WHAT(answer) ((uint8_t)((answer) >> 32))
 #define PLANNER_EVENT_LINK(answer) ((uint16_t)((answer) >> 16))

@@ -13,7 +13,7 @@ use borrow.Author.Tests.{eq-eqb, ne-eqb}
 use Rattle.range.specs.Sum.{sum}
 use Rattle.range.proofs.Sums.{sum-same, sum-add, sum-one}
 use Rattle.table.specs.Table.{Table, item}
-use Rattle.probe_record.specs.Record.{outbound, inbound, held}
+use Rattle.probe_record.specs.Record.{outbound, inbound}
 use Rattle.probe_frame.specs.Frame.{Frame, frameOf}
 use Rattle.wake_log.specs.declared.Entry.{Entry}
 use Rattle.wake_log.specs.declared.Answer.{Answer}

@@ -24,9 +24,9 @@ use Rattle.fleet_theory.proofs.Run.{slices-legal}
 use Rattle.fleet_state.proofs.CheckLaws.{fleet-good}
 use Rattle.fleet.specs.Answers.{Handled}
 use Rattle.fleet.proofs.Calls.{handled-answer}
-use Rattle.fleet.proofs.Passing.{passed-line, passed-record, own-fault}
+use Rattle.fleet.proofs.Passing.{passed-slices, passed-record, passed-line, own-fault}
 
-module _ (x : Slices) (fine : slicesFault x ≡ 0) (used room : ℕ) (r : List ℕ) (l : List ℕ) where
+module _ (x : Slices) (used room : ℕ) (r l : List ℕ) where
   abbrev t : Table
   t = tableOf x
 
@@ -43,25 +43,28 @@ module _ (x : Slices) (fine : slicesFault x ≡ 0) (used room : ℕ) (r : List �
   abbrev o : Outcome
   o = outcomeOf t r f
 
-  pub line-opens-nothing : (entry : Entry) (after : List ℕ) → Handled x used room l (Logged entry) r after → f .kind ≡ 0 → after ≡ r → OpensNothing t p e (entry .what)
-  line-opens-nothing entry after h kind same = go (logged-is (eventFault x r used room l) (entryOf t p o) entry (sym (handled-answer h)))
+  -- an opening that is logged and leaves the record as it was
+  pub line-opens-nothing : (entry : Entry) → Handled x used room l (Logged entry) r r → f .kind ≡ 0 → OpensNothing t p e (entry .what)
+  line-opens-nothing entry h kind = go (logged-is (eventFault x r used room l) (entryOf t p o) entry (sym (handled-answer h)))
     where
       go : (eventFault x r used room l ≡ 0) × (entryOf t p o ≡ entry) → OpensNothing t p e (entry .what)
       go (none, s) = rw (← s) (opens (says t l (line .0)))
         where
-          line : (eventLineFault t l ≡ 0) × NotUnsent t r f
-          line = passed-line x r used room l none
+          fine : slicesFault x ≡ 0
+          fine = passed-slices x r used room l none
 
           good : fleetFault t r ≡ 0
           good = passed-record x r used room l none
+
+          line : (eventLineFault t l ≡ 0) × NotUnsent t r f
+          line = passed-line x r used room l none
 
           long : length r ≡ 4 * t .links
           long = fleet-good t r good .0
 
           unaltered : alter o e ≡ e
           unaltered =
-              sym (own-altered t p r long o (line-step t (slices-legal x fine) r long l (line .0) (line .1) .own-links))
-              ∙ ap (own t p) (sym (rw none at (h .record-after)) ∙ same)
+              sym (own-altered t p r long o (line-step t (slices-legal x fine) r long l (line .0) (line .1) .own-links)) ∙ ap (own t p) (sym (rw none at (h .record-after)))
 
           opens : Says t f → OpensNothing t p e (entryOf t p o .what)
           opens (an-opening k b v) =

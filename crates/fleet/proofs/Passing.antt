@@ -1,4 +1,4 @@
--- A fleet's record that 20, 21 and 22 let pass stays one.
+-- What an accepted line has passed; a fleet's record that 20, 21 and 22 let pass stays one.
 use Prim.Native.Nat.{ℕ, _*_, _<_, _≤_}
 use mathlib.Core.Path.{_≡_, _∙_}
 use mathlib.Core.Bool.{cond}
@@ -30,8 +30,7 @@ use Rattle.fleet_theory.proofs.Run.{slices-legal}
 use Rattle.fleet_theory.proofs.Alone.{own-altered, own-else}
 use Rattle.fleet_state.proofs.CheckLaws.{fleet-good, own-passes}
 
--- an accepted line has passed the checks before 27, and 27
--- what an accepted line has passed
+-- an accepted line
 module _ (x : Slices) (r : List ℕ) (used room : ℕ) (l : List ℕ) (e : eventFault x r used room l ≡ 0) where
   abbrev full : ℕ
   full = cond (ltb used room) 0 26
@@ -42,12 +41,17 @@ module _ (x : Slices) (r : List ℕ) (used room : ℕ) (l : List ℕ) (e : event
   abbrev rest : ℕ
   rest = orElse (eventLineFault (tableOf x) l) (orElse unsent full)
 
+  pub passed-slices : slicesFault x ≡ 0
+  passed-slices = or-left (slicesFault x) (orElse (fleetFault (tableOf x) r) rest) e
+
   past-slices : orElse (fleetFault (tableOf x) r) rest ≡ 0
   past-slices = or-right (slicesFault x) (orElse (fleetFault (tableOf x) r) rest) e
 
+  -- 20, 21 and 22
   pub passed-record : fleetFault (tableOf x) r ≡ 0
   passed-record = or-left (fleetFault (tableOf x) r) rest past-slices
 
+  -- the checks before 27, and 27
   pub passed-line : (eventLineFault (tableOf x) l ≡ 0) × NotUnsent (tableOf x) r (frameOf l)
   passed-line =
       let a = or-right (fleetFault (tableOf x) r) rest past-slices in

@@ -86,7 +86,7 @@ module _ (t : Table) (legal : Legal t) (r : List ℕ) where
   unfolding finished
   finished-quiet e =
       record {
-        opened = λ p i l at z. opened p i l at z (decLt (standing t p (own t p r)) (spare t p)) (dearest t legal p (own t p r));
+        opened = λ p i l at z. full-at p i l at z (decLt (standing t p (own t p r)) (spare t p)) (dearest t legal p (own t p r));
         heard = λ i p w l x a b. heard i p w a b (still i p w l x);
         told = λ i p w l x a. told i p w a (still i p w l x);
       }
@@ -100,11 +100,11 @@ module _ (t : Table) (legal : Legal t) (r : List ℕ) where
       below : (p i : ℕ) → i < t .links → touches t p i ≡ true → p < t .probes
       below p i l at = let a = legal-table 256 2048 t legal .ends i l in at-end t (λ v. v < t .probes) p i at (omega arith) (a .below)
 
-      opened : (p i : ℕ) → i < t .links → touches t p i ≡ true → outOf t r p i ≡ 0 → Dec (standing t p (own t p r) < spare t p)
+      full-at : (p i : ℕ) → i < t .links → touches t p i ≡ true → outOf t r p i ≡ 0 → Dec (standing t p (own t p r) < spare t p)
           → Best (dearer t) (ownWith t p (outbound (own t p r)) 0) (t .links) (t .links) (dearestUntried t p (own t p r)) → spare t p ≤ onesAt t (outOf t r) p
-      opened p i l at z (no d) b = omega arith
-      opened p i l at z (yes m) (nobody y h) = absurd (true≢false (sym (and-intro at (eq-eqb (outOf t r p i) 0 z)) ∙ h i l))
-      opened p i l at z (yes m) (chosen k y h) =
+      full-at p i l at z (no d) b = omega arith
+      full-at p i l at z (yes m) (nobody y h) = absurd (true≢false (sym (and-intro at (eq-eqb (outOf t r p i) 0 z)) ∙ h i l))
+      full-at p i l at z (yes m) (chosen k y h) =
           absurd (true≢false
           (sym (and-intro (lt-ltb (standing t p (own t p r)) (spare t p) m) (lt-ltb (dearestUntried t p (own t p r)) (t .links) k))
           ∙ count-none (t .probes) (wouldOpen t r) (eqb-true (count (t .probes) (wouldOpen t r)) 0 (and-left no-opens no-alters e)) p (below p i l at)))

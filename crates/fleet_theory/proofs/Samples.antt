@@ -21,8 +21,9 @@ samples =
       m1-to-m10 = sites;
       m2-table = refl;
       m11 = record { table-legal = refl; entries-logged = refl; says-finished = refl; changes-made = refl };
-      again = record { table-legal = refl; entries-logged = refl; says-finished = refl; changes-made = refl };
+      m11-openings = record { table-legal = refl; entries-logged = refl; says-finished = refl; changes-made = refl };
       spare-none = record { table-legal = refl; entries-logged = refl; says-finished = refl; changes-made = refl };
+      one-refused = record { table-legal = refl; entries-logged = refl; says-finished = refl; changes-made = refl };
       refusals = record {
         cut-line = refl;
         capital-digit = refl;

@@ -1,4 +1,4 @@
--- The marked sites M1 to M11, the script of M4 and lines that are turned down: document 01, "Sites to compare", "Programs" and "Turned down for the state".
+-- The marked sites M1 to M11, the script of M4, openings that open nothing (02, No. 3) and lines that are turned down: document 01, "Sites to compare", "Programs" and "Turned down for the state".
 use Prim.Native.Nat.{ℕ}
 use mathlib.Core.Path.{_≡_}
 use mathlib.Core.Bool.{true}
@@ -77,15 +77,33 @@ abbrev pub m4-entries : List Entry
 m4-entries = entry 0 (what.Opened 0) ∷ entry 1 (what.Taken 0) ∷ entry 1 (what.Opened 0) ∷ entry 0 (what.Taken 0) ∷ []
 
 -- 02, No. 3, after M11: the only links of 0 and 3 are refused, while 1 and 2 have as many standing as their spare, each 1
-abbrev pub again-lines : List (List ℕ)
-again-lines = m11-lines ++ (openingLine 0 ∷ openingLine 1 ∷ openingLine 2 ∷ openingLine 3 ∷ [])
+abbrev pub m11-openings-lines : List (List ℕ)
+m11-openings-lines = m11-lines ++ (openingLine 0 ∷ openingLine 1 ∷ openingLine 2 ∷ openingLine 3 ∷ [])
 
-abbrev pub again-entries : List Entry
-again-entries = m11-entries ++ (entry 0 what.AllTried ∷ entry 1 what.Enough ∷ entry 2 what.Enough ∷ entry 3 what.AllTried ∷ [])
+abbrev pub m11-openings-entries : List Entry
+m11-openings-entries = m11-entries ++ (entry 0 what.AllTried ∷ entry 1 what.Enough ∷ entry 2 what.Enough ∷ entry 3 what.AllTried ∷ [])
 
--- two probes that need their one link have spare 0
-abbrev pub needed : Slices
-needed = slices (1 ∷ 1 ∷ []) (0 ∷ []) (1 ∷ []) (7 ∷ [])
+-- two probes that both need their one link: spare 0
+abbrev pub bothNeedSlices : Slices
+bothNeedSlices = slices (1 ∷ 1 ∷ []) (0 ∷ []) (1 ∷ []) (7 ∷ [])
+
+-- probe 0 offers both its links; 1 takes and 2, which needs its link, refuses: one stands of spare 2
+abbrev pub oneRefusedSlices : Slices
+oneRefusedSlices = slices (0 ∷ 0 ∷ 1 ∷ []) (0 ∷ 0 ∷ []) (1 ∷ 2 ∷ []) (5 ∷ 6 ∷ [])
+
+abbrev pub one-refused-lines : List (List ℕ)
+one-refused-lines =
+    openingLine 0 ∷ offerLine 0 2 ∷ refusalFrame 2 0
+    ∷ openingLine 0 ∷ offerLine 0 1 ∷ openingLine 0
+    ∷ openingLine 1 ∷ offerLine 1 0 ∷ openingLine 1 ∷ openingLine 2
+    ∷ []
+
+abbrev pub one-refused-entries : List Entry
+one-refused-entries =
+    entry 0 (what.Opened 1) ∷ entry 2 (what.Refused 1) ∷ entry 0 (what.RefusalLearnt 1)
+    ∷ entry 0 (what.Opened 0) ∷ entry 1 (what.Taken 0) ∷ entry 0 what.AllTried
+    ∷ entry 1 (what.Opened 0) ∷ entry 0 (what.Taken 0) ∷ entry 1 what.Enough ∷ entry 2 what.Enough
+    ∷ []
 
 -- lines turned down by their refusal alone, on M2: fresh, or after M11
 pub record LineRefusals : Type 0 where
@@ -105,8 +123,9 @@ pub record Samples : Type 0 where
   pub m1-to-m10 : Sites
   pub m2-table : tableOf m2InSlices ≡ row (5 ∷ 6 ∷ 5 ∷ [])
   pub m11 : SampleScript m2InSlices m11-lines m11-entries 11
-  pub again : SampleScript m2InSlices again-lines again-entries 11
-  pub spare-none : SampleScript needed (openingLine 0 ∷ []) (entry 0 what.Enough ∷ []) 0
+  pub m11-openings : SampleScript m2InSlices m11-openings-lines m11-openings-entries 11
+  pub spare-none : SampleScript bothNeedSlices (openingLine 0 ∷ []) (entry 0 what.Enough ∷ []) 0
+  pub one-refused : SampleScript oneRefusedSlices one-refused-lines one-refused-entries 7
   pub refusals : LineRefusals
   pub m4-table : tableOf m4InSlices ≡ site (0 ∷ 0 ∷ []) (0 ∷ []) (1 ∷ []) (7 ∷ [])
   pub m4-script : SampleScript m4InSlices m4-lines m4-entries 4

@@ -53,7 +53,7 @@ module _ (t : Table) (legal : Legal t) (p : ℕ) (e : List ℕ) where
       some : Bool
       some = ltb i (t .links)
 
-      -- what is found dearest
+      -- i is the dearest untried own link, or there is none
       IsDearest : Type 0
       IsDearest = Best (dearer t) (ownWith t p (outbound e) 0) (t .links) (t .links) i
 

@@ -1,6 +1,6 @@
 -- What an opening says that opens nothing: by cases of what befell the end, on a record that 22 lets pass.
 use Prim.Native.Nat.{ℕ, _*_}
-use mathlib.Core.Path.{_≡_, refl, sym, _∙_, ap}
+use mathlib.Core.Path.{_≡_, refl, sym, ap}
 use mathlib.Core.Logic.{inl, inr}
 use mathlib.Core.List.{List}
 use native.Mathlib.Omega.{arith}
@@ -32,22 +32,22 @@ unaltered-says t p e good (opened i a z m h) s =
 unaltered-says t p e good (enough m) s =
     let f = good .standing-fits in
     record {
-      either = inl refl;
-      enough = (λ c. omega arith, λ c. refl);
-      fewer = (λ c. absurd (omega arith), λ l. absurd (omega arith));
-      all-tried = λ c. absurd (omega arith);
+      one-of-two = inl refl;
+      says-01 = (λ c. omega arith, λ c. refl);
+      says-07 = (λ c. absurd (omega arith), λ l. absurd (omega arith));
+      none-untried = λ c. absurd (omega arith);
     }
 unaltered-says t p e good (all-tried m h) s =
     record {
-      either = inr refl;
-      enough = (λ c. absurd (omega arith), λ c. absurd (omega arith));
-      fewer = (λ c. m, λ l. refl);
-      all-tried = λ c. h;
+      one-of-two = inr refl;
+      says-01 = (λ c. absurd (omega arith), λ c. absurd (omega arith));
+      says-07 = (λ c. m, λ l. refl);
+      none-untried = λ c. h;
     }
 
-pub opens-nothing : (t : Table) → Legal t → (p slices free : ℕ) (e e′ : List ℕ) (entry : Entry) → Befallen (openFault slices t p e free) t p Opening (Logged entry) e e′ → e′ ≡ e
+pub opens-nothing : (t : Table) → Legal t → (p slices free : ℕ) (e : List ℕ) (entry : Entry) → Befallen (openFault slices t p e free) t p Opening (Logged entry) e e
     → OpensNothing t p e (entry .what)
-opens-nothing t legal p slices free e e′ entry b same = go (logged-is (openFault slices t p e free) (entryOf t p o) entry (sym (befallen-answer b)))
+opens-nothing t legal p slices free e entry b = go (logged-is (openFault slices t p e free) (entryOf t p o) entry (sym (befallen-answer b)))
   where
     o : Outcome
     o = befalls t p Opening e
@@ -55,5 +55,5 @@ opens-nothing t legal p slices free e e′ entry b same = go (logged-is (openFau
     go : (openFault slices t p e free ≡ 0) × (entryOf t p o ≡ entry) → OpensNothing t p e (entry .what)
     go (none, s) =
         let good = good-record t p e (open-parts slices t p e free none .1) in
-        let after : alter o e ≡ e = sym (rw none at (b .record-after)) ∙ same in
+        let after : alter o e ≡ e = sym (rw none at (b .record-after)) in
         rw (← s) (unaltered-says t p e good (befell t legal p e Opening tt) after)

@@ -42,12 +42,12 @@ pub record FewChanges (n : ℕ) (e e′ : List ℕ) : Type 0 where
   pub in-two : inChanges n e e′ ≤ 2
   pub one-side : (outChanges n e e′ ≡ 0) ⊎ (inChanges n e e′ ≡ 0)
 
--- 02, No. 3: "An opening that opens nothing says 01 when the offers standing equal the spare, otherwise 07, every link tried": said of the end p with the record e
+-- 02, No. 3: "An opening that opens nothing says 01 when the offers standing equal the spare, otherwise 07, every link tried": what the end p says, with e its record
 pub record OpensNothing (t : Table) (p : ℕ) (e : List ℕ) (said : What) : Type 0 where
-  pub either : (codeOf said ≡ 1) ⊎ (codeOf said ≡ 7)
-  pub enough : (codeOf said ≡ 1) ↔ (standing t p e ≡ spare t p)
-  pub fewer : (codeOf said ≡ 7) ↔ (standing t p e < spare t p)
-  pub all-tried : codeOf said ≡ 7 → (i : ℕ) → OwnLink t p i → outbound e i ≡ 0 → ⊥
+  pub one-of-two : (codeOf said ≡ 1) ⊎ (codeOf said ≡ 7)
+  pub says-01 : (codeOf said ≡ 1) ↔ (standing t p e ≡ spare t p)
+  pub says-07 : (codeOf said ≡ 7) ↔ (standing t p e < spare t p)
+  pub none-untried : codeOf said ≡ 7 → (i : ℕ) → OwnLink t p i → outbound e i ≡ 0 → ⊥
 
 -- the end p of a legal table
 module _ (t : Table) (p : ℕ) where
@@ -65,8 +65,7 @@ module _ (t : Table) (p : ℕ) where
     pub fresh-usable : recordFault t p (fresh t) ≡ 0
     pub stays-usable : (event : Event) (e : List ℕ) → recordFault t p e ≡ 0 → OwnEvent t p event → recordFault t p (recordAfter event e) ≡ 0
     -- an opening that is logged and leaves the record as it was
-    pub opens-nothing : (slices free : ℕ) (e e′ : List ℕ) (entry : Entry) → Befallen (openFault slices t p e free) t p Opening (Logged entry) e e′ → e′ ≡ e
-        → OpensNothing t p e (entry .what)
+    pub opens-nothing : (slices free : ℕ) (e : List ℕ) (entry : Entry) → Befallen (openFault slices t p e free) t p Opening (Logged entry) e e → OpensNothing t p e (entry .what)
     -- "as often as wished": asked again, an end answers and writes the same
     pub asked-again : (k : Kind) (i slices : ℕ) (e : List ℕ) (r r′ : Asked) (out out′ out″ : List ℕ)
         → Asks (orElse (lentFault (length out) 15) (linkCallFault slices t p e i)) t p k i e r out out′

@@ -2,7 +2,9 @@
 use borrow.Author.Needs.{needs}
 use Rattle.probe_rules.proofs.decisions.decide_opening.Statement.{statement}
 use Rattle.probe_rules.proofs.decisions.decide_opening.Tie as tie
+use Prim.Native.Nat.{_≤_}
 use mathlib.Core.Path.{sym, _∙_}
+use native.Mathlib.Omega.{arith}
 use borrow.Author.Tests.{lt-ltb, le-ltb}
 use Rattle.table.specs.Table.{Table, ofSlices}
 use Rattle.probe_record.proofs.Bytes.{ones-standing}
@@ -19,7 +21,8 @@ returns c =
     let at-start = c .before .before .before .before .before .before .before .before in
     let a = at-start .args in
     let t : Table = ofSlices 0 0 (a .links) (a .needs .now) (a .lows .now) (a .highs .now) (a .costs .now) in
-    rw (← ones-standing t (a .probe) (a .rec .now) (at-start .pre .1 .bytes), ← c .before .ones .ensures .0, ← c .before .before .spare .ensures, le-ltb _ _ (c .if1 .taken))
+    let enough : c .before .before .spare .result ≤ c .before .ones .result = (let m = c .if1 .taken in omega arith) in
+    rw (← ones-standing t (a .probe) (a .rec .now) (at-start .pre .1 .bytes), ← c .before .ones .ensures .0, ← c .before .before .spare .ensures, le-ltb _ _ enough)
 
 best-own-requires : tie.Need-best-own-requires
 best-own-requires c κs = search needs
