@@ -225,29 +225,30 @@ static void script(void) {
     expect(done == strlen(printed) && memcmp(out, printed, done) == 0, "pieces", 0);
 }
 
-/* Whether the answer tells an opening of this kind, without a link and a displaced probe. */
+/* Whether the answer is the probe's entry with this code, and has no link and no displaced probe. */
 static int opened_nothing(uint64_t answer, unsigned probe, unsigned what) {
     return !PLANNER_REFUSED(answer) && PLANNER_EVENT_PROBE(answer) == probe && PLANNER_EVENT_WHAT(answer) == what &&
            PLANNER_EVENT_LINK(answer) == PLANNER_ABSENT && PLANNER_EVENT_DISPLACED(answer) == PLANNER_ABSENT;
 }
 
 /* After M11 probe 0 has tried its one link, and probe 1 has one offer standing, its spare. */
-static void quiet_openings(void) {
+static void open_nothing(void) {
     static const uint8_t after[4 * LINKS] = {2, 2, 0, 0, 1, 1, 1, 1, 0, 0, 2, 2};
-    static const uint8_t tried[2 * LINKS] = {2, 0, 0, 0, 0, 0};
-    uint8_t rec[4 * LINKS], own[2 * LINKS];
+    static const uint8_t alone[2][2 * LINKS] = {{2, 0, 0, 0, 0, 0}, {0, 2, 1, 1, 0, 0}};
+    uint8_t rec[4 * LINKS], own[2][2 * LINKS];
     uint64_t log[3] = {0, 0, 0};
 
     memcpy(rec, after, sizeof rec);
-    memcpy(own, tried, sizeof own);
+    memcpy(own, alone, sizeof own);
     planner_fleet_event_logged(TABLE, rec, sizeof rec, bytes(M11[0]), PLANNER_FRAME, log, 3, 0);
     planner_fleet_event_logged(TABLE, rec, sizeof rec, bytes(M11[2]), PLANNER_FRAME, log, 3, 1);
-    planner_probe_open_logged(TABLE, 0, own, sizeof own, log, 3, 2);
+    planner_probe_open_logged(TABLE, 0, own[0], sizeof own[0], log, 3, 2);
     expect(opened_nothing(planner_log_entry(log, 3, 3, 0), 0, 7), "all tried", 0);
     expect(opened_nothing(planner_log_entry(log, 3, 3, 1), 1, 1), "enough", 1);
     expect(opened_nothing(planner_log_entry(log, 3, 3, 2), 0, 7), "all tried by an end", 0);
-    expect(planner_probe_open(TABLE, 0, own, sizeof own, 1) == log[2], "the same without a log", 0);
-    expect(memcmp(rec, after, sizeof rec) == 0 && memcmp(own, tried, sizeof own) == 0, "records stay", 0);
+    expect(planner_probe_open(TABLE, 0, own[0], sizeof own[0], 1) == log[2], "the same without a log", 0);
+    expect(opened_nothing(planner_probe_open(TABLE, 1, own[1], sizeof own[1], 1), 1, 1), "enough by an end", 1);
+    expect(memcmp(rec, after, sizeof rec) == 0 && memcmp(own, alone, sizeof own) == 0, "records stay", 0);
 }
 
 /* M2 where probe 0 needs three links and has one: it opens nothing, and its line tells the two that are missing. */
@@ -282,7 +283,7 @@ int main(void) {
     one_end();
     one_end_logged();
     script();
-    quiet_openings();
+    open_nothing();
     short_probe();
     return failures == 0 ? 0 : 1;
 }

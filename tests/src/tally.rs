@@ -3,12 +3,15 @@
 use crate::ends::What;
 use crate::reference::WITHDRAWN;
 
+/// 01's and 02's codes of what can befall a probe, as they are printed.
+pub const CODES: [&str; 8] = ["00", "01", "02", "03", "04", "05", "06", "07"];
+
 #[derive(Debug, Default)]
 pub struct Tally {
     /// By the refusal's number.
     pub refused: [usize; 28],
-    /// By 01's or 02's code.
-    pub befell: [usize; 8],
+    /// By the code.
+    pub befell: [usize; CODES.len()],
 }
 
 impl Tally {

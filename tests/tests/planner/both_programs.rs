@@ -2,6 +2,7 @@
 
 use planner_tests::fuzz::{self, Tally};
 use planner_tests::random::Random;
+use planner_tests::tally::CODES;
 
 /// Compares so many inputs. The shares asserted below are at most half of those reached.
 fn reached(seed: u64, inputs: usize, more: fn(&mut Random, &mut Tally)) -> Tally {
@@ -27,8 +28,7 @@ fn fuzz_plans() {
 #[test]
 fn fuzz_scripts() {
     let tally = reached(72, 350_000, fuzz::script);
-    let codes = ["00", "01", "02", "03", "04", "05", "06", "07"];
-    tally.assert_share(&codes, 1_000);
+    tally.assert_share(&CODES, 1_000);
     tally.assert_share(&["finished after changes", "not finished"], 1_000);
     tally.assert_share(&["finished from the start"], 300);
     let refusals = ["e001", "e002", "e009", "e023", "e024", "e027"];

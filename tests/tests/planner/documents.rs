@@ -1,6 +1,7 @@
 //! The documents say what stands in the repository: imports, layers, claims, must-fail edits.
 
 use planner_tests::repository::{document, files, quoted, rows, text, top};
+use planner_tests::tally::CODES;
 use std::collections::{BTreeMap, BTreeSet};
 use std::path::Path;
 
@@ -155,7 +156,7 @@ fn codes() {
     let (_, table) = readme.split_once("\n| What | |\n").expect("a table");
     let cells = table.lines().take_while(|line| line.starts_with('|'));
     let listed: Vec<&str> = cells.filter_map(|row| quoted(row).next()).collect();
-    assert_eq!(listed, ["00", "01", "02", "03", "04", "05", "06", "07"]);
+    assert_eq!(listed, CODES);
     let header = document("include/planner.h");
     let (_, list) = header.split_once("What befell the probe:").expect("a list");
     let (list, _) = list.split_once(". */").expect("its end");
@@ -163,7 +164,8 @@ fn codes() {
         .split(',')
         .map(|part| part.trim_matches([' ', '\n', '*']));
     let numbers = parts.filter_map(|part| part.split_once(' ')?.0.parse().ok());
-    assert_eq!(numbers.collect::<Vec<u8>>(), Vec::from_iter(0..8));
+    let numbers: Vec<usize> = numbers.collect();
+    assert_eq!(numbers, Vec::from_iter(0..CODES.len()));
 }
 
 /// The refusals that calls make; 7 is withdrawn.

@@ -209,7 +209,7 @@ fn full_log() {
         fleet.event(&opening(1), most - 1, most),
         befell(1, What::Opened(1))
     );
-    // Nothing to open and nothing to change take an entry too.
+    // An opening that opens nothing and a frame that changes nothing take an entry too.
     assert_eq!(fleet.event(&opening(1), 1, 1), Err(26));
     assert_eq!(fleet.event(&offer(1, 2), 1, 1), Err(26));
     assert_eq!(fleet.event(&offer(1, 2), 1, 2), befell(2, What::Taken(1)));

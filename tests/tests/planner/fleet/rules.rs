@@ -70,6 +70,7 @@ fn answers_as_numbers() {
     assert_eq!(hear(b"01000100020001\n"), 0x8000_0103_0001_0000);
     assert_eq!(hear(b"01000100030002\n"), 0x8000_0204_0002_ffff);
     assert_eq!(hear(b"02000100020003\n"), 0x8000_0305_0002_ffff);
+    assert_eq!(hear(b"00000100030003\n"), 0x8000_0307_ffff_ffff);
     assert_eq!(hear(b"02000100010000\n"), 0x8000_0006_0000_ffff);
     assert_eq!(hear(b"02000100030002\n"), 27);
     assert_eq!(record, [2, 2, 0, 0, 1, 1, 1, 1, 0, 0, 2, 2]);
@@ -126,8 +127,8 @@ fn late_and_repeated_frames() {
         assert_eq!(fleet.event(&line(3 - kind, from, to), 0, 1), Err(27));
     }
     // The offers of the ends are refused; those in the middle have one standing, their spare.
-    let quiet = [What::AllTried, What::Enough, What::Enough, What::AllTried];
-    for (probe, what) in (0..4).zip(quiet) {
+    let said = [What::AllTried, What::Enough, What::Enough, What::AllTried];
+    for (probe, what) in (0..4).zip(said) {
         let opened = fleet.event(&opening(probe), 0, 1);
         assert_eq!(opened, befell(probe, what));
     }

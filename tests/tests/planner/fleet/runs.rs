@@ -75,10 +75,10 @@ struct Run<'a> {
     changes: Vec<usize>,
 }
 
-/// How many of each probe's links the plan keeps.
-fn awake(table: &Table) -> Vec<usize> {
+/// How many of each probe's links are kept.
+fn awake(table: &Table, kept: &[bool]) -> Vec<usize> {
     let mut awake = vec![0; table.needs.len()];
-    for (link, kept) in table.links.iter().zip(plan(table).kept) {
+    for (link, &kept) in table.links.iter().zip(kept) {
         for end in link.ends() {
             awake[end] += usize::from(kept);
         }
@@ -89,18 +89,19 @@ fn awake(table: &Table) -> Vec<usize> {
 /// What runs reached.
 #[derive(Debug, Default)]
 struct Reached {
+    /// Up to the finish.
     events: usize,
-    /// Openings at the finish by probes that had enough, and by such that had tried every link.
-    quiet: [usize; 2],
+    /// Openings at the finish by probes that had enough, and by those that had tried every link.
+    enough: usize,
+    all_tried: usize,
 }
 
 impl Reached {
     /// More than so many events, and more than so many openings of each kind at the finish.
     #[track_caller]
-    fn assert_over(&self, events: usize, quiet: usize) {
-        let [enough, all_tried] = self.quiet;
-        let over = self.events > events && enough.min(all_tried) > quiet;
-        assert!(over, "{self:?}");
+    fn assert_over(&self, events: usize, openings: usize) {
+        let fewer = self.enough.min(self.all_tried);
+        assert!(self.events > events && fewer > openings, "{self:?}");
     }
 }
 
@@ -191,30 +192,32 @@ impl Run<'_> {
     /// Old frames and openings change nothing any more. A probe has enough where the plan keeps no
     /// more of its links than its counted need.
     #[track_caller]
-    fn late(&mut self, quiet: &mut [usize; 2], random: &mut Random) {
+    fn late(&mut self, kept: &[bool], reached: &mut Reached, random: &mut Random) {
         for _ in 0..self.sent.len().min(20) {
             let frame = random.pick(&self.sent);
             assert!(matches!(self.hear(frame), What::NoChange(_)));
         }
-        let awake = awake(self.table).into_iter();
+        let awake = awake(self.table, kept).into_iter();
         for (probe, (awake, need)) in awake.zip(self.table.counted_needs()).enumerate() {
             let opened = self.hear(opening(self.table, probe as u16));
-            let more = usize::from(awake > need);
-            assert_eq!(opened, [What::Enough, What::AllTried][more]);
-            quiet[more] += 1;
+            if awake > need {
+                assert_eq!(opened, What::AllTried);
+                reached.all_tried += 1;
+            } else {
+                assert_eq!(opened, What::Enough);
+                reached.enough += 1;
+            }
         }
     }
 
     /// Both ends rest a link exactly when the plan does not keep it, and every counted need is met.
     #[track_caller]
-    fn assert_planned(&self) {
-        let kept = slse(self.table).kept;
-        assert_eq!(kept, plan(self.table).kept);
+    fn assert_planned(&self, kept: &[bool]) {
         for (bytes, kept) in self.fleet.record().chunks_exact(BYTES).zip(kept) {
             assert_eq!(rested(bytes), [!kept; 2]);
         }
         let met = |(awake, need): (&usize, usize)| *awake >= need;
-        let awake = awake(self.table);
+        let awake = awake(self.table, kept);
         assert!(awake.iter().zip(self.table.counted_needs()).all(met));
         assert!(self.changes.iter().all(|&changes| changes <= 4));
     }
@@ -223,6 +226,8 @@ impl Run<'_> {
 /// In each of the first orders.
 #[track_caller]
 fn run_all(table: &Table, orders: usize, reached: &mut Reached, random: &mut Random) {
+    let kept = plan(table).kept;
+    assert_eq!(slse(table).kept, kept);
     let mut records = Vec::new();
     for place in 0..orders {
         let mut run = Run::fresh(table, order(place));
@@ -230,16 +235,16 @@ fn run_all(table: &Table, orders: usize, reached: &mut Reached, random: &mut Ran
             run.openers.make_contiguous().reverse();
         }
         run.finish(random);
-        run.late(&mut reached.quiet, random);
-        run.assert_planned();
-        records.push(run.fleet.record().to_vec());
         reached.events += run.used;
+        run.late(&kept, reached, random);
+        run.assert_planned(&kept);
+        records.push(run.fleet.record().to_vec());
     }
     assert!(records.iter().all(|record| *record == records[0]));
 }
 
 /// For M1 to M8: at the finish so many probes have enough, and so many have tried every link.
-const QUIET: [[usize; 2]; 8] = [
+const AT_THE_FINISH: [[usize; 2]; 8] = [
     [4, 0],
     [2, 2],
     [1, 0],
@@ -253,11 +258,12 @@ const QUIET: [[usize; 2]; 8] = [
 #[test]
 fn marked_sites() {
     let random = &mut Random::new(46);
-    for (place, quiet) in QUIET.into_iter().enumerate() {
+    for (place, probes) in AT_THE_FINISH.into_iter().enumerate() {
         let mut reached = Reached::default();
         run_all(&marked(place), ORDERS, &mut reached, random);
         assert!(reached.events >= ORDERS);
-        assert_eq!(reached.quiet, quiet.map(|probes| ORDERS * probes));
+        let said = [reached.enough, reached.all_tried];
+        assert_eq!(said, probes.map(|count| ORDERS * count));
     }
 }
 

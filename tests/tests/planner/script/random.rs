@@ -6,6 +6,7 @@ use planner_tests::events::each_table;
 use planner_tests::random::{each_seed, Random};
 use planner_tests::reference::Table;
 use planner_tests::sites::{damage_text, legal, legal_of_size};
+use planner_tests::tally::CODES;
 use std::collections::BTreeMap;
 
 /// How often each refusal, code (as its two digits) and last line's first two digits came.
@@ -32,8 +33,6 @@ impl Tally {
         assert!(all.iter().all(often), "{:?}", self.0);
     }
 }
-
-const CODES: [&str; 8] = ["00", "01", "02", "03", "04", "05", "06", "07"];
 
 /// At most this many lines, mostly far fewer.
 fn any_length(most: usize, random: &mut Random) -> usize {

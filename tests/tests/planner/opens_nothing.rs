@@ -1,5 +1,5 @@
-//! 02's two kinds of quiet: an opening that opens nothing says 01 where the offers standing equal the
-//! spare, and otherwise 07, every link tried.
+//! 02's "Two kinds of quiet": an opening that opens nothing says 01 where the offers standing equal
+//! the spare, and otherwise 07, every link tried.
 
 use crate::programs::{run, WHOLE};
 use planner_tests::buffer::Buffer;
@@ -16,7 +16,7 @@ use planner_tests::random::Random;
 use planner_tests::reference::{table_of_text, Behind, Table};
 use planner_tests::samples::{self, VALLEY};
 use planner_tests::script::{Script, LOG};
-use planner_tests::sites::{every_table, marked, site, Numbers};
+use planner_tests::sites::{every_table, marked, site};
 
 /// A site, the lines of a script for it, and a probe that opens behind them.
 struct Case {
@@ -26,14 +26,6 @@ struct Case {
 }
 
 impl Case {
-    fn of(table: Table, lines: Vec<Vec<u8>>, probe: u16) -> Case {
-        Case {
-            table,
-            lines,
-            probe,
-        }
-    }
-
     /// The fleet's record behind the lines, each of which is accepted.
     fn record(&self) -> Vec<u8> {
         let mut script = Script::fresh(self.table.clone());
@@ -59,19 +51,14 @@ impl Case {
     }
 }
 
-/// The answer by 01's and 02's numbers alone.
-fn packed(entry: Entry) -> u64 {
-    let code = match entry.what {
-        What::Enough => 0x01,
-        What::AllTried => 0x07,
-        other => panic!("{other:?} is not quiet"),
-    };
-    (1 << 63) + (u64::from(entry.probe) << 40) + (code << 32) + 0xffff_ffff
-}
-
+/// The entry's line by 01 and 02 alone.
 fn printed(entry: Entry) -> String {
-    let code = (packed(entry) >> 32) as u8;
-    format!("{:04x}{code:02x}ffffffff", entry.probe)
+    let code = match entry.what {
+        What::Enough => "01",
+        What::AllTried => "07",
+        other => panic!("{other:?} is not an opening that opens nothing"),
+    };
+    format!("{:04x}{code}ffffffff", entry.probe)
 }
 
 /// An end alone, without a log and with one.
@@ -82,15 +69,12 @@ fn end_says(table: &Table, own: &[u8], entry: Entry) {
     assert_eq!(end.open(0), Err(26));
     assert_eq!(end.open(1), Ok(entry.what));
     assert_eq!(end.record, own);
-    let (numbers, mut record) = (Numbers::of(table), own.to_vec());
-    let answer = ffi::probe_open(numbers.slices(), entry.probe, &mut record, 1);
-    assert_eq!((answer, &record[..]), (packed(entry), own));
     let mut log = Log::of(5, 2, &mut Random::new(110));
     log.lend(Ok(entry), |log, used| {
-        ffi::probe_open_logged(numbers.slices(), entry.probe, &mut record, log, used)
+        ffi::probe_open_logged(end.numbers.slices(), end.probe, &mut end.record, log, used)
     });
     log.read();
-    assert_eq!(record, own);
+    assert_eq!(end.record, own);
 }
 
 /// A fleet, without a log and with one; whether it is finished stays.
@@ -103,12 +87,9 @@ fn fleet_says(table: &Table, record: &[u8], entry: Entry) {
     assert_eq!(fleet.event(&line, 0, 1), Ok(entry));
     assert_eq!(fleet.record(), record);
     assert_eq!(fleet.finished(), finished);
-    let (numbers, mut after) = (Numbers::of(table), record.to_vec());
-    let answer = ffi::fleet_event(numbers.slices(), &mut after, &line, 0, 1);
-    assert_eq!((answer, &after[..]), (packed(entry), record));
-    let mut log = Log::of(5, 2, &mut Random::new(111));
+    let (mut log, mut after) = (Log::of(5, 2, &mut Random::new(111)), record.to_vec());
     log.lend(Ok(entry), |log, used| {
-        ffi::fleet_event_logged(numbers.slices(), &mut after, &line, log, used)
+        ffi::fleet_event_logged(fleet.numbers.slices(), &mut after, &line, log, used)
     });
     log.read();
     assert_eq!(after, record);
@@ -150,21 +131,35 @@ fn script_says(case: &Case, entry: Entry) {
     assert_eq!(run("script", &input, &WHOLE), expected);
 }
 
-/// Probe 0 of a site with the links 0-1 at 5 and 0-2 at 6; probe 2 needs its link.
-fn forked(need: u16, lines: Vec<Vec<u8>>) -> Case {
-    let table = site(&[[0, 1, 5], [0, 2, 6]], &[need, 0, 1]);
-    Case::of(table, lines, 0)
+/// Probe 0 of a site with the links 0-1 at 5 and 0-2 at 6. A neighbour with a need refuses its offer.
+fn forked(needs: [u16; 3], lines: Vec<Vec<u8>>) -> Case {
+    Case {
+        table: site(&[[0, 1, 5], [0, 2, 6]], &needs),
+        lines,
+        probe: 0,
+    }
 }
 
-/// Probe 0 offers 0-2, which is refused, then 0-1.
+/// Probe 0 of that site offers 0-2, which is refused, then 0-1.
 fn one_refused() -> Vec<Vec<u8>> {
     vec![opening(0), offer(0, 2), refusal(2, 0), opening(0)]
 }
 
 /// Probe 1 of M5 offers its one link, and learns that it is refused.
 fn m5_refused() -> Case {
-    let lines = vec![opening(1), offer(1, 0), refusal(0, 1)];
-    Case::of(marked(4), lines, 1)
+    Case {
+        table: marked(4),
+        lines: vec![opening(1), offer(1, 0), refusal(0, 1)],
+        probe: 1,
+    }
+}
+
+fn after_m11(probe: u16) -> Case {
+    Case {
+        table: marked(1),
+        lines: samples::M11.map(|line| samples::text(&[line])).to_vec(),
+        probe,
+    }
 }
 
 /// All links needed, no link, no link and a need of 2, and short probes.
@@ -182,13 +177,18 @@ fn spare_0_is_enough() {
         (valley, 1),
     ] {
         assert_eq!(table.spares()[usize::from(probe)], 0);
-        Case::of(table, Vec::new(), probe).says(What::Enough);
+        let case = Case {
+            table,
+            lines: Vec::new(),
+            probe,
+        };
+        case.says(What::Enough);
     }
 }
 
 /// No list of events leads there, but 20 to 22 let the record pass.
 #[test]
-fn spare_0_with_every_link_refused_is_enough() {
+fn every_link_refused_goes_by_the_spare() {
     for (probe, what) in [(0, What::AllTried), (1, What::Enough), (2, What::AllTried)] {
         for need in [2, 3, 65_535] {
             let table = site(&[[0, 1, 5], [1, 2, 6]], &[0, need, 0]);
@@ -205,40 +205,48 @@ fn spare_0_with_every_link_refused_is_enough() {
 fn all_refused_is_all_tried() {
     m5_refused().says(What::AllTried);
     // Both links of a probe with spare 2.
-    let table = site(&[[0, 1, 5], [0, 2, 6]], &[0, 1, 1]);
     let lines = [one_refused(), vec![offer(0, 1), refusal(1, 0)]].concat();
-    Case::of(table, lines, 0).says(What::AllTried);
+    forked([0, 1, 1], lines).says(What::AllTried);
+    // Each has one link.
+    for probe in [0, 3] {
+        after_m11(probe).says(What::AllTried);
+    }
 }
 
 /// One stands, of a spare of 2.
 #[test]
 fn fewer_standing_and_the_rest_refused_is_all_tried() {
-    let case = forked(0, one_refused());
+    let case = forked([0, 0, 1], one_refused());
     assert_eq!(case.record(), [1, 0, 0, 0, 2, 2, 0, 0]);
     case.says(What::AllTried);
 }
 
-/// M2's probe 1 has offered 1-2 and not 0-1; after M11 so has its probe 2.
+/// M2's probe 1 has offered 1-2 and not 0-1. After M11 that still holds, and probe 2 has offered 1-2
+/// and not 2-3.
 #[test]
 fn spare_standing_with_a_link_untried_is_enough() {
-    Case::of(marked(1), vec![opening(1)], 1).says(What::Enough);
-    let m11 = samples::M11.map(|line| samples::text(&[line]));
-    for (probe, what) in [
-        (0, What::AllTried),
-        (1, What::Enough),
-        (2, What::Enough),
-        (3, What::AllTried),
-    ] {
-        Case::of(marked(1), m11.to_vec(), probe).says(what);
+    let case = Case {
+        table: marked(1),
+        lines: vec![opening(1)],
+        probe: 1,
+    };
+    case.says(What::Enough);
+    for probe in [1, 2] {
+        after_m11(probe).says(What::Enough);
     }
 }
 
 /// Every link stands, or all but the refused ones do.
 #[test]
 fn spare_standing_with_none_untried_is_enough() {
-    Case::of(marked(3), vec![opening(0)], 0).says(What::Enough);
-    forked(0, vec![opening(0), opening(0)]).says(What::Enough);
-    let case = forked(1, one_refused());
+    let m4 = Case {
+        table: marked(3),
+        lines: vec![opening(0)],
+        probe: 0,
+    };
+    m4.says(What::Enough);
+    forked([0, 0, 1], vec![opening(0), opening(0)]).says(What::Enough);
+    let case = forked([1, 0, 1], one_refused());
     assert_eq!(case.record(), [1, 0, 0, 0, 2, 2, 0, 0]);
     case.says(What::Enough);
 }
@@ -268,13 +276,13 @@ fn every_choice(length: usize) -> impl Iterator<Item = Vec<u8>> {
 
 /// How many openings opened, and said 01, and 07.
 #[derive(Debug, Default, PartialEq)]
-struct Openings {
+struct Counted {
     opened: usize,
     enough: usize,
     all_tried: usize,
 }
 
-impl Openings {
+impl Counted {
     /// Holds an answer to 02's sentence, by the probe's outbound bytes before; whether the record
     /// changed comes with it.
     #[track_caller]
@@ -300,7 +308,7 @@ impl Openings {
 /// 1 and needs up to two above the links.
 #[test]
 fn every_record_of_an_end() {
-    let mut openings = Openings::default();
+    let mut counted = Counted::default();
     every_table(3, 2, |table| {
         for (probe, spare) in (0..3).zip(table.spares()) {
             let own = own_links(table, probe);
@@ -315,19 +323,19 @@ fn every_record_of_an_end() {
                 match end.open(1) {
                     Ok(what) => {
                         let changed = end.record != before;
-                        openings.count(what, &outbound, spare, changed);
+                        counted.count(what, &outbound, spare, changed);
                     }
                     refused => assert_eq!(refused, Err(22)),
                 }
             }
         }
     });
-    let expected = Openings {
+    let expected = Counted {
         opened: 56_520,
         enough: 80_217,
         all_tried: 29_592,
     };
-    assert_eq!(openings, expected);
+    assert_eq!(counted, expected);
 }
 
 /// Every record of a fleet that 20 to 22 let pass, on three probes with three links and spares of 2,
@@ -339,7 +347,7 @@ fn every_record_of_a_fleet() {
     assert_eq!(table.spares(), [2, 1, 0]);
     let checks = Site::of_legal(table.clone());
     let mut fleet = Fleet::fresh(&table);
-    let (mut records, mut openings) = (0, Openings::default());
+    let (mut records, mut counted) = (0, Counted::default());
     for record in every_choice(BYTES * table.links.len()) {
         if checks.check_record(&record).is_err() {
             continue;
@@ -354,14 +362,14 @@ fn every_record_of_a_fleet() {
                 .into_iter()
                 .map(|place| own[2 * place]);
             let outbound: Vec<u8> = outbound.collect();
-            openings.count(entry.what, &outbound, spare, fleet.record() != record);
+            counted.count(entry.what, &outbound, spare, fleet.record() != record);
         }
     }
     assert_eq!(records, 82_944);
-    let expected = Openings {
+    let expected = Counted {
         opened: 77_184,
         enough: 133_632,
         all_tried: 38_016,
     };
-    assert_eq!(openings, expected);
+    assert_eq!(counted, expected);
 }
