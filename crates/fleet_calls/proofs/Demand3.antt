@@ -197,6 +197,7 @@ module _ (x : Slices) (fine : slicesFault x ≡ 0) (digits : x .number < 65536) 
         short-keeps = rw (same .bytes) (claimed .short-keeps);
         needs-met = λ e. rw (same .bytes) (claimed .needs-met (rw (same .bytes) at e));
         cost-twice = λ e. rw (same .bytes) (claimed .cost-twice (rw (same .bytes) at e));
+        none-for-nothing = λ e. rw (same .bytes) (claimed .none-for-nothing (rw (same .bytes) at e));
       }
     where
       claimed : ClaimsOfRun x room (loggedLines cs)

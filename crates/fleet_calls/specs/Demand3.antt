@@ -8,6 +8,7 @@ use lib.ListN.{length, take}
 use Rattle.table.specs.Table.{Table, item, touches, countedNeed, isShort}
 use Rattle.table.specs.Slices.{Slices, tableOf}
 use Rattle.plan_theory.specs.Plan.{rested, kept, linksAt, costOf, Meets}
+use Rattle.plan_theory.specs.Bounds.{NoneForNothing}
 use Rattle.probe_frame.specs.Frame.{frameOf}
 use Rattle.wake_log.specs.declared.Entry.{Entry}
 use Rattle.wake_log.specs.declared.Answer.the-variants.{Logged, Refused}
@@ -108,3 +109,5 @@ module _ (x : Slices) (log : List Entry) (cs : List LoggedCall) where
     pub needs-met : finished t bytes ≡ true → (v : ℕ) → v < x .probes → countedNeed t v ≤ linksAt t (λ i. not (endRests t bytes v i)) v
     pub cost-twice : finished t bytes ≡ true → (choice : ℕ → Bool) → Meets t choice
         → costOf t (λ i. not (endRests t bytes (t .low i) i)) ≤ 2 * costOf t choice
+    -- 02, No. 14, of the links that a finished fleet keeps
+    pub none-for-nothing : finished t bytes ≡ true → NoneForNothing t (λ i. not (endRests t bytes (t .low i) i))

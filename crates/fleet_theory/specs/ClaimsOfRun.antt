@@ -8,6 +8,7 @@ use lib.ListN.{length}
 use Rattle.table.specs.Table.{Table, item, touches, countedNeed, isShort}
 use Rattle.table.specs.Slices.{Slices, tableOf}
 use Rattle.plan_theory.specs.Plan.{rested, kept, linksAt, costOf, Meets}
+use Rattle.plan_theory.specs.Bounds.{NoneForNothing}
 use Rattle.probe_frame.specs.Frame.{frameOf}
 use Rattle.wake_log.specs.declared.Entry.{Entry}
 use Rattle.wake_log.specs.declared.Answer.the-variants.{Logged, Refused}
@@ -75,3 +76,5 @@ module _ (x : Slices) (room : ℕ) (ls : List (List ℕ)) where
     pub needs-met : finished t (after .bytes) ≡ true → (v : ℕ) → v < x .probes → countedNeed t v ≤ linksAt t (λ i. not (endRests t (after .bytes) v i)) v
     pub cost-twice : finished t (after .bytes) ≡ true → (choice : ℕ → Bool) → Meets t choice
         → costOf t (λ i. not (endRests t (after .bytes) (t .low i) i)) ≤ 2 * costOf t choice
+    -- 02, No. 14, of the links that a finished fleet keeps
+    pub none-for-nothing : finished t (after .bytes) ≡ true → NoneForNothing t (λ i. not (endRests t (after .bytes) (t .low i) i))

@@ -10,19 +10,20 @@ use borrow.Author.Tests.{le-ltb, lt-ltb}
 use Rattle.range.specs.First.{orElse}
 use Rattle.range.specs.Lists.{stored}
 use Rattle.range.proofs.Lists.{length-stored, stored-at, stored-beyond}
-use Rattle.table.specs.Table.{Table}
+use Rattle.table.specs.Table.{Table, item}
 use Rattle.table.specs.Slices.{Slices, tableOf, slicesFault}
 use Rattle.table.specs.Text.{textEnd}
 use Rattle.table.specs.Same.{FourDigits}
+use Rattle.table.specs.Legal.{Legal}
 use Rattle.table.proofs.LegalLaws.{legal-table}
 use Rattle.table.proofs.Slices.{legal-slices}
 use Rattle.table_write.specs.Writing.{writeFault}
 use Rattle.table_write.specs.declared.Writing.the-variants.{Length}
 use Rattle.table_laws.proofs.Functions.{read-then-write, write-then-read}
-use Rattle.plan_theory.specs.Plan.{kept, keptCount, costOf, planByte}
+use Rattle.plan_theory.specs.Plan.{kept, keptCount, costOf, planByte, isKept}
 use Rattle.plan_theory.proofs.Plan.{plan-rule, only-by-rule, plan-criterion, plan-unique}
 use Rattle.plan_theory.proofs.Settled.{settled-is-plan}
-use Rattle.plan_theory.proofs.Bound.{short-keeps}
+use Rattle.plan_theory.proofs.Bound.{short-keeps, none-of-same}
 use Rattle.plan_theory.proofs.Slse.{slse-is-plan}
 use Rattle.plan_methods.specs.Planning.{planFault, turnsFault, Plans}
 use Rattle.plan_methods.specs.declared.Planning.{Planning}
@@ -31,20 +32,26 @@ use Rattle.plan_methods.proofs.Answers.{plans-answer}
 use Rattle.table_write.proofs.Answers.{writes-answer}
 use Rattle.plan_laws.specs.Demand2.{LeavesPlan, Demand2}
 
+byte-kept : (b : Bool) → eqb (planByte b) 1 ≡ b
+byte-kept true = refl
+byte-kept false = refl
+
 -- what a call leaves, by its fault
 module _ (fault : ℕ) (t : Table) (r : Planning) (before after : List ℕ) (p : Plans fault t r before after) where
   answered : r ≡ cond (eqb fault 0) (Plan (keptCount t) (costOf t (kept t))) (Refused fault)
   answered = plans-answer p
 
-  plans-none : fault ≡ 0 → t .links ≤ length before → LeavesPlan t r before after
-  plans-none z room =
+  plans-none : fault ≡ 0 → Legal t → t .links ≤ length before → LeavesPlan t r before after
+  plans-none z legal room =
       let byte : ℕ → ℕ = λ i. planByte (kept t i) in
       let e : after ≡ stored byte (t .links) before = rw z at (p .plan) in
+      let bytes : (i : ℕ) → i < t .links → item after i ≡ byte i = λ i l. rw e (stored-at byte (t .links) before i room l) in
       record {
         answer = answered ∙ rw z;
-        bytes = λ i l. rw e (stored-at byte (t .links) before i room l);
+        bytes = bytes;
         beyond = λ i l. rw e (stored-beyond byte (t .links) before i l);
         long = rw e (length-stored byte (t .links) before);
+        none-for-nothing = none-of-same t legal (isKept after) (λ i l. rw (bytes i l) (byte-kept (kept t i)));
       }
 
   plans-short : fault ≡ 8 → (r ≡ Refused 8) × (after ≡ before)
@@ -85,13 +92,13 @@ demand-2 x fine fits =
       by-slse = slse-is-plan t order;
       turns-call = λ r before after work work′ p room bytes.
           let z = turns-none x fine (length before) (length work) room bytes in
-          (plans-none (turnsFault 256 2048 x (length before) (length work)) t r before after (p .plans) z room, p .cleared ∙ rw z);
+          (plans-none (turnsFault 256 2048 x (length before) (length work)) t r before after (p .plans) z legal room, p .cleared ∙ rw z);
       turns-no-room = λ r before after work work′ p short.
           let z = turns-eight x fine (length before) (length work) short in
           let left = plans-short (turnsFault 256 2048 x (length before) (length work)) t r before after (p .plans) z in
           (left .0, left .1, p .cleared ∙ rw z);
       slse-call = λ r before after p room.
-          plans-none (planFault 256 2048 x (length before)) t r before after p (slse-none x fine (length before) room) room;
+          plans-none (planFault 256 2048 x (length before)) t r before after p (slse-none x fine (length before) room) legal room;
       slse-no-room = λ r before after p short.
           plans-short (planFault 256 2048 x (length before)) t r before after p (slse-eight x fine (length before) short);
       both-same = λ r r′ before after after′ work work′ p q bytes.

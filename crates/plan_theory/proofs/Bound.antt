@@ -6,20 +6,20 @@ use mathlib.Core.Bool.{Bool, true, false, cond, _&&_, _||_, not, and-comm, true�
 use native.Mathlib.Omega.{arith}
 use native.Mathlib.Decide.{decLt}
 use lib.Dec.{leb, eqb}
-use borrow.Author.Tests.{leb-true, le-leb, not-true}
+use borrow.Author.Tests.{leb-true, le-leb, lt-ltb, not-true, eq-eqb}
 use Rattle.range.specs.Sum.{sum, weigh, count}
-use Rattle.range.proofs.Bools.{and-left, and-right, and-intro, and-skip, decided}
-use Rattle.range.proofs.Sums.{sum-le, sum-add, sum-swap, sum-one, sum-at, weigh-le, weigh-same, weigh-split, weigh-dominated, count-none}
-use Rattle.table.specs.Table.{Table, touches, spare, isShort, dearer}
-use Rattle.plan_theory.specs.Plan.{linksAt, rested, kept, costOf, without, Meets}
+use Rattle.range.proofs.Bools.{and-left, and-right, and-intro, or-intro-left, or-intro-right, and-skip, decided}
+use Rattle.range.proofs.Sums.{sum-le, sum-add, sum-swap, sum-one, sum-at, weigh-le, weigh-same, weigh-split, weigh-dominated, count-none, count-less}
+use Rattle.table.specs.Table.{Table, touches, countedNeed, spare, isShort, dearer}
+use Rattle.plan_theory.specs.Plan.{linksAt, rested, kept, costOf, hasFewer, without, Meets}
 use Rattle.plan_theory.proofs.Places.{Order, reversed, Last, last, all-before}
 use Rattle.plan_theory.proofs.Order.{dearer-order, Dear, dear, on-dear}
 use Rattle.table.specs.Legal.{Legal, LegalTable}
 use Rattle.table.proofs.LegalLaws.{legal-table}
 use Rattle.table.proofs.Needs.{short-spare}
 use Rattle.plan_theory.proofs.Plan.{at-split, at-both, touches-low, touches-high, plan-criterion, rested-at, rested-fits, plan-meets}
-use Rattle.plan_theory.specs.Criterion.{dearerAt, UnderSpare}
-use Rattle.plan_theory.specs.Bounds.{ShortKeeps, PlanBounds}
+use Rattle.plan_theory.specs.Criterion.{dearerIn, dearerAt, UnderSpare}
+use Rattle.plan_theory.specs.Bounds.{ShortKeeps, PlanBounds, NoneForNothing}
 
 -- outside the choice, no probe has more links than its spare
 abbrev pub WithinSpare : Table → (ℕ → Bool) → Type 0
@@ -207,3 +207,50 @@ short-keeps t legal = record { no-spare = short-spare t; keeps-all = λ v i e l 
         let none = short-spare t v e in
         absurd (omega arith)
     go v i e l at (inr r) = rw r
+
+-- a kept link has an end whose rested links are as many as its spare: without the link it has fewer than it needs
+pub none-for-nothing : (t : Table) → Legal t → NoneForNothing t (kept t)
+none-for-nothing t legal = record { each-needed = needed; apart-twice = bound-apart t s }
+  where
+    s : LegalTable 256 2048 t
+    s = legal-table 256 2048 t legal
+
+    fewer : (i v : ℕ) → i < t .links → kept t i ≡ true → touches t v i ≡ true → spare t v ≤ dearerAt t (rested t) i v
+        → hasFewer t (without (kept t) (eqb i)) v ≡ true
+    fewer i v l k at full =
+        let one-less = count-less (t .links) (λ g. touches t v g && without (kept t) (eqb i) g) (λ g. touches t v g && kept t g) i
+        (λ g b e. and-intro (and-left (touches t v g) _ e) (and-left (kept t g) _ (and-right (touches t v g) (without (kept t) (eqb i) g) e))) l
+        (rw (eq-eqb i i refl, k, at)) (and-intro at k) in
+        let dearer-ones = weigh-le (t .links) (λ g. touches t v g && dearerIn t (rested t) i g) (λ g. touches t v g && rested t g) (λ g. 1)
+        (λ g b e. and-intro (and-left (touches t v g) _ e) (and-right (dearer t g i) _ (and-right (touches t v g) (dearerIn t (rested t) i g) e))) in
+        let split = at-split t (rested t) v in
+        lt-ltb (linksAt t (without (kept t) (eqb i)) v) (countedNeed t v) (omega arith)
+
+    needed : (i : ℕ) → i < t .links → kept t i ≡ true
+        → (hasFewer t (without (kept t) (eqb i)) (t .low i) || hasFewer t (without (kept t) (eqb i)) (t .high i)) ≡ true
+    needed i l k = go (decLt (dearerAt t (rested t) i (t .low i)) (spare t (t .low i))) (decLt (dearerAt t (rested t) i (t .high i)) (spare t (t .high i)))
+      where
+        go : Dec (UnderSpare t (rested t) i (t .low i)) → Dec (UnderSpare t (rested t) i (t .high i))
+            → (hasFewer t (without (kept t) (eqb i)) (t .low i) || hasFewer t (without (kept t) (eqb i)) (t .high i)) ≡ true
+        go (yes a) (yes b) = absurd (true≢false (sym (plan-criterion t (s .order) i l .1 (a, b)) ∙ not-true (rested t i) k))
+        go (yes a) (no b) = or-intro-right (hasFewer t (without (kept t) (eqb i)) (t .low i)) _ (fewer i (t .high i) l k (touches-high t i) (omega arith))
+        go (no a) b = or-intro-left _ (hasFewer t (without (kept t) (eqb i)) (t .high i)) (fewer i (t .low i) l k (touches-low t i) (omega arith))
+
+-- the same of every set with the plan's links
+pub none-of-same : (t : Table) → Legal t → (plan : ℕ → Bool) → ((i : ℕ) → i < t .links → plan i ≡ kept t i) → NoneForNothing t plan
+none-of-same t legal plan same =
+    record {
+      each-needed = λ i l k. rw (at i (t .low i), at i (t .high i)) (none .each-needed i l (sym (same i l) ∙ k));
+      apart-twice = λ choice meets.
+          rw (
+            weigh-same (t .links) (without plan choice) (without (kept t) choice) (t .cost) (λ g b. rw (same g b)),
+            weigh-same (t .links) (without choice plan) (without choice (kept t)) (t .cost) (λ g b. rw (same g b)),
+          )
+          (none .apart-twice choice meets);
+    }
+  where
+    none : NoneForNothing t (kept t)
+    none = none-for-nothing t legal
+
+    at : (i v : ℕ) → linksAt t (without plan (eqb i)) v ≡ linksAt t (without (kept t) (eqb i)) v
+    at i v = weigh-same (t .links) (λ g. touches t v g && without plan (eqb i) g) (λ g. touches t v g && without (kept t) (eqb i) g) (λ g. 1) (λ g b. rw (same g b))

@@ -39,7 +39,7 @@ keptCount t = count (t .links) (kept t)
 abbrev pub costOf : Table → (ℕ → Bool) → ℕ
 costOf t s = weigh (t .links) s (t .cost)
 
--- with the links of s added, v is "short of its need"
+-- with the links of s alone, v is "short of its need"; 02, No. 14: it has "less than its counted need"
 abbrev pub hasFewer : Table → (ℕ → Bool) → ℕ → Bool
 hasFewer t s v = ltb (linksAt t s v) (countedNeed t v)
 

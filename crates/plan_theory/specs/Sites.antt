@@ -1,11 +1,13 @@
--- The marked sites M1 to M10: document 01, "Sites to compare"; and a site with a short probe.
-use Prim.Native.Nat.{ℕ, zero, suc}
+-- The marked sites M1 to M10: document 01, "Sites to compare"; a site with a short probe; a site that a cheaper choice serves.
+use Prim.Native.Nat.{ℕ, zero, suc, _≤_}
 use mathlib.Core.Path.{_≡_}
-use mathlib.Core.Bool.{Bool, true, cond}
+use mathlib.Core.Bool.{Bool, true, false, cond}
 use mathlib.Core.List.{List, [], _∷_, _++_}
+use lib.Dec.{eqb}
 use lib.ListN.{length}
 use Rattle.table.specs.Table.{Table, ofSlices, spare, isShort, missing}
-use Rattle.plan_theory.specs.Plan.{kept, keptCount, costOf, added, removed}
+use Rattle.table.specs.Legal.{Legal}
+use Rattle.plan_theory.specs.Plan.{kept, keptCount, costOf, hasFewer, added, removed, Meets, without}
 
 -- a site by its needs and its links' low ends, high ends and costs
 abbrev pub site : List ℕ → List ℕ → List ℕ → List ℕ → Table
@@ -55,3 +57,20 @@ pub record Valley : Type 0 where
   pub missing-one : missing valley 1 ≡ 1
   pub no-spare : spare valley 1 ≡ 0
   pub keeps-both : SitePlan valley ((0, 1) ∷ (1, 2) ∷ []) 12
+
+-- 02, No. 14: a row 0-2-3-1 of links that cost 1, of which the plan keeps the outer two and another choice the middle one
+abbrev pub outer : Table
+outer = site (0 ∷ 0 ∷ 1 ∷ 1 ∷ []) (0 ∷ 1 ∷ 2 ∷ []) (2 ∷ 3 ∷ 3 ∷ []) (1 ∷ 1 ∷ 1 ∷ [])
+
+pub record Outer : Type 0 where
+  pub legal : Legal outer
+  pub keeps-two : SitePlan outer ((0, 2) ∷ (1, 3) ∷ []) 2
+  -- without the link 0-2, probe 2 has less than it needs, and probe 0 has not: "an end" is not "both ends"
+  pub high-end : hasFewer outer (without (kept outer) (eqb 0)) 2 ≡ true
+  pub low-end : hasFewer outer (without (kept outer) (eqb 0)) 0 ≡ false
+  -- the middle link alone is a choice that meets the needs, and none costs less
+  pub middle-meets : Meets outer (eqb 2)
+  pub middle-best : (choice : ℕ → Bool) → Meets outer choice → costOf outer (eqb 2) ≤ costOf outer choice
+  -- against it, what only the plan keeps costs just twice what only the choice keeps: no factor below 2 would do
+  pub only-plan : costOf outer (without (kept outer) (eqb 2)) ≡ 2
+  pub only-middle : costOf outer (without (eqb 2) (kept outer)) ≡ 1

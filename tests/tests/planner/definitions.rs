@@ -1,7 +1,7 @@
 //! The second implementation's own definitions, against the words of 01 and 02.
 
 use planner_tests::random::Random;
-use planner_tests::reference::{dearer, falling, plan, Link, Table};
+use planner_tests::reference::{dearer, falling, plan, Link, Plan, Table};
 use planner_tests::sites::{banded, crowded, every_table, legal, marked, site};
 
 #[test]
@@ -147,28 +147,39 @@ fn counted_needs_are_met() {
     assert!(short > 500_000, "{short}");
 }
 
-/// What the cheapest choice that meets the counted needs costs.
-fn least_cost(table: &Table) -> u64 {
-    let counted = table.counted_needs();
-    let choices = 0..1_u32 << table.links.len();
-    let meeting = choices.filter(|&choice| meets(table, &counted, |place| has(choice, place)));
-    let cost = |choice: u32| {
-        let links = table.links.iter().enumerate();
-        let chosen = links.filter(|&(place, _)| has(choice, place));
-        chosen.map(|(_, link)| u64::from(link.cost)).sum()
-    };
-    meeting.map(cost).min().expect("all links meet them")
+/// What the chosen links cost together.
+fn cost_of(table: &Table, chosen: impl Fn(usize) -> bool) -> u64 {
+    let links = table.links.iter().enumerate();
+    let chosen = links.filter(|&(place, _)| chosen(place));
+    chosen.map(|(_, link)| u64::from(link.cost)).sum()
 }
 
-/// The plan costs at most twice as much as any choice that meets the counted needs; on some sites
-/// it costs just that, also with a short probe.
+/// Every choice of links that meets the counted needs.
+fn choices_that_meet(table: &Table) -> impl Iterator<Item = u32> + '_ {
+    let counted = table.counted_needs();
+    let choices = 0..1_u32 << table.links.len();
+    choices.filter(move |&choice| meets(table, &counted, |place| has(choice, place)))
+}
+
+/// The plan costs at most twice as much as any choice that meets the counted needs, and what only
+/// the plan keeps at most twice as much as what only the choice keeps; on some sites just that,
+/// also with a short probe.
 #[test]
 fn plan_costs_at_most_twice_any_choice() {
-    let (mut dearer, mut twice, mut short) = (0, 0, 0);
+    let (mut dearer, mut twice, mut short, mut apart) = (0, 0, 0, 0);
     for probes in 1..=4 {
         every_table(probes, 3, |table| {
-            let (cost, least) = (plan(table).cost, least_cost(table));
-            assert!(cost <= 2 * least, "{table:?}");
+            let Plan { kept, cost, .. } = plan(table);
+            let mut least = u64::MAX;
+            for choice in choices_that_meet(table) {
+                let chosen = cost_of(table, |place| has(choice, place));
+                let only_plan = cost_of(table, |place| kept[place] && !has(choice, place));
+                let only_choice = cost_of(table, |place| !kept[place] && has(choice, place));
+                assert!(cost <= 2 * chosen, "{table:?} {choice}");
+                assert!(only_plan <= 2 * only_choice, "{table:?} {choice}");
+                apart += usize::from(only_choice > 0 && only_plan == 2 * only_choice);
+                least = least.min(chosen);
+            }
             dearer += usize::from(cost > least);
             if cost > least && cost == 2 * least {
                 twice += 1;
@@ -177,9 +188,57 @@ fn plan_costs_at_most_twice_any_choice() {
         });
     }
     assert!(
-        dearer > 1_000 && twice > 100 && short > 0,
-        "{dearer} {twice} {short}"
+        dearer > 1_000 && twice > 100 && short > 0 && apart > 1_000,
+        "{dearer} {twice} {short} {apart}"
     );
+}
+
+/// Without any one of the links that the plan keeps, an end of that link has less than its counted
+/// need. Answers at how many links one end has, and at how many both have.
+#[track_caller]
+fn assert_each_needed(table: &Table) -> [usize; 2] {
+    let (kept, counted) = (plan(table).kept, table.counted_needs());
+    let mut reached = [0; 2];
+    for (rested, link) in table.links.iter().enumerate().filter(|&(place, _)| kept[place]) {
+        let has_less = |&end: &usize| {
+            let links = table.links.iter().enumerate();
+            let awake = links.filter(|&(place, other)| {
+                kept[place] && place != rested && other.ends().contains(&end)
+            });
+            awake.count() < counted[end]
+        };
+        let ends = link.ends().iter().filter(|end| has_less(end)).count();
+        assert!(ends > 0, "{table:?} {rested}");
+        reached[ends - 1] += 1;
+    }
+    reached
+}
+
+#[test]
+fn no_link_is_awake_for_nothing() {
+    let (mut random, mut one, mut both) = (Random::new(115), 0, 0);
+    let mut count = |table: &Table| {
+        let reached = assert_each_needed(table);
+        (one, both) = (one + reached[0], both + reached[1]);
+    };
+    for probes in 1..=4 {
+        every_table(probes, 3, &mut count);
+    }
+    for _ in 0..300 {
+        count(&legal(&mut random));
+        count(&crowded(&mut random));
+        count(&banded(&mut random));
+    }
+    assert!(one > 100_000 && both > 100_000, "{one} {both}");
+}
+
+/// A row of links that cost 1 each: the plan keeps the outer two, the middle one alone would do.
+#[test]
+fn what_only_the_plan_keeps_costs_twice() {
+    let row = site(&[[0, 2, 1], [1, 3, 1], [2, 3, 1]], &[0, 0, 1, 1]);
+    assert_eq!(plan(&row).kept, [true, true, false]);
+    assert!(choices_that_meet(&row).any(|choice| choice == 0b100));
+    assert_eq!(assert_each_needed(&row), [2, 0]);
 }
 
 #[test]
