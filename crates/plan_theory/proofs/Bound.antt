@@ -11,7 +11,7 @@ use Rattle.range.specs.Sum.{sum, weigh, count}
 use Rattle.range.proofs.Bools.{and-left, and-right, and-intro, or-intro-left, or-intro-right, and-skip, decided}
 use Rattle.range.proofs.Sums.{sum-le, sum-add, sum-swap, sum-one, sum-at, weigh-le, weigh-same, weigh-split, weigh-dominated, count-none, count-less}
 use Rattle.table.specs.Table.{Table, touches, countedNeed, spare, isShort, dearer}
-use Rattle.plan_theory.specs.Plan.{linksAt, rested, kept, costOf, hasFewer, without, Meets}
+use Rattle.plan_theory.specs.Plan.{linksAt, rested, kept, costOf, hasFewer, without, isNeeded, Meets}
 use Rattle.plan_theory.proofs.Places.{Order, reversed, Last, last, all-before}
 use Rattle.plan_theory.proofs.Order.{dearer-order, Dear, dear, on-dear}
 use Rattle.table.specs.Legal.{Legal, LegalTable}
@@ -226,12 +226,10 @@ none-for-nothing t legal = record { each-needed = needed; apart-twice = bound-ap
         let split = at-split t (rested t) v in
         lt-ltb (linksAt t (without (kept t) (eqb i)) v) (countedNeed t v) (omega arith)
 
-    needed : (i : ℕ) → i < t .links → kept t i ≡ true
-        → (hasFewer t (without (kept t) (eqb i)) (t .low i) || hasFewer t (without (kept t) (eqb i)) (t .high i)) ≡ true
+    needed : (i : ℕ) → i < t .links → kept t i ≡ true → isNeeded t (kept t) i ≡ true
     needed i l k = go (decLt (dearerAt t (rested t) i (t .low i)) (spare t (t .low i))) (decLt (dearerAt t (rested t) i (t .high i)) (spare t (t .high i)))
       where
-        go : Dec (UnderSpare t (rested t) i (t .low i)) → Dec (UnderSpare t (rested t) i (t .high i))
-            → (hasFewer t (without (kept t) (eqb i)) (t .low i) || hasFewer t (without (kept t) (eqb i)) (t .high i)) ≡ true
+        go : Dec (UnderSpare t (rested t) i (t .low i)) → Dec (UnderSpare t (rested t) i (t .high i)) → isNeeded t (kept t) i ≡ true
         go (yes a) (yes b) = absurd (true≢false (sym (plan-criterion t (s .order) i l .1 (a, b)) ∙ not-true (rested t i) k))
         go (yes a) (no b) = or-intro-right (hasFewer t (without (kept t) (eqb i)) (t .low i)) _ (fewer i (t .high i) l k (touches-high t i) (omega arith))
         go (no a) b = or-intro-left _ (hasFewer t (without (kept t) (eqb i)) (t .high i)) (fewer i (t .low i) l k (touches-low t i) (omega arith))

@@ -1,10 +1,9 @@
 -- What the plan keeps of a short probe, demand 3 on its needs and cost, and what it keeps that another choice does not; the theorems are `short-keeps`, `plan-bounds` and `none-for-nothing`.
 use Prim.Native.Nat.{ℕ, _*_, _≤_, _<_}
 use mathlib.Core.Path.{_≡_}
-use mathlib.Core.Bool.{Bool, true, _||_}
-use lib.Dec.{eqb}
+use mathlib.Core.Bool.{Bool, true}
 use Rattle.table.specs.Table.{Table, touches, spare, isShort}
-use Rattle.plan_theory.specs.Plan.{kept, costOf, hasFewer, Meets, without}
+use Rattle.plan_theory.specs.Plan.{kept, costOf, Meets, without, isNeeded}
 
 -- 02, No. 1: "Such a probe has spare 0, keeps all its links, and is called short."
 pub record ShortKeeps (t : Table) : Type 0 where
@@ -19,7 +18,6 @@ pub record PlanBounds (t : Table) : Type 0 where
 -- 02, No. 14, "No link awake for nothing", of a plan as a set of links: the definition's own (`none-for-nothing`), what a call left in a lent plan (`LeavesPlan`), what a finished fleet keeps (`Demand3`)
 pub record NoneForNothing (t : Table) (plan : ℕ → Bool) : Type 0 where
   -- "resting one more kept link always leaves an end with less than its counted need"
-  pub each-needed : (i : ℕ) → i < t .links → plan i ≡ true
-      → (hasFewer t (without plan (eqb i)) (t .low i) || hasFewer t (without plan (eqb i)) (t .high i)) ≡ true
+  pub each-needed : (i : ℕ) → i < t .links → plan i ≡ true → isNeeded t plan i ≡ true
   -- "against any choice meeting the counted needs: the links that only our plan keeps cost together at most twice those that only the other keeps"
   pub apart-twice : (choice : ℕ → Bool) → Meets t choice → costOf t (without plan choice) ≤ 2 * costOf t (without choice plan)

@@ -39,7 +39,7 @@ keptCount t = count (t .links) (kept t)
 abbrev pub costOf : Table → (ℕ → Bool) → ℕ
 costOf t s = weigh (t .links) s (t .cost)
 
--- with the links of s alone, v is "short of its need"; 02, No. 14: it has "less than its counted need"
+-- with the links of s alone, v is "short of its need"
 abbrev pub hasFewer : Table → (ℕ → Bool) → ℕ → Bool
 hasFewer t s v = ltb (linksAt t s v) (countedNeed t v)
 
@@ -66,3 +66,7 @@ Meets t s = (v : ℕ) → v < t .probes → countedNeed t v ≤ linksAt t s v
 -- the links of one set that are not in another
 abbrev pub without : (ℕ → Bool) → (ℕ → Bool) → ℕ → Bool
 without p q i = p i && not (q i)
+
+-- 02, No. 14: "resting one more kept link", i, "leaves an end with less than its counted need"
+abbrev pub isNeeded : Table → (ℕ → Bool) → ℕ → Bool
+isNeeded t plan i = hasFewer t (without plan (eqb i)) (t .low i) || hasFewer t (without plan (eqb i)) (t .high i)
