@@ -12,7 +12,7 @@ use Rattle.fleet_theory.proofs.Events.{truly-sent-passes}
 use Rattle.fleet_theory.proofs.Run.{HoldsAfter, start-holds, fleet-passes, run-holds}
 use Rattle.fleet_theory.proofs.Changes.{changes-four}
 use Rattle.fleet_theory.proofs.Sent.{refused-is-kept, two-is-refused, by-27, unsent-turned-down, logged-usable}
-use Rattle.fleet_theory.proofs.Finish.{run-sent, finished-unaltered, unaltered-finished, short-rests-none, ends-plan, needs-kept, cost-kept, none-kept, leads}
+use Rattle.fleet_theory.proofs.Finish.{run-sent, finished-unaltered, unaltered-finished, short-rests-none, ends-plan, needs-kept, cost-kept, kept-none-for-nothing, leads}
 
 pub claims-of-run : (x : Slices) → slicesFault x ≡ 0 → x .number < 65536 → (room : ℕ) (ls : List (List ℕ)) → ClaimsOfRun x room ls
 claims-of-run x fine digits room ls =
@@ -35,7 +35,7 @@ claims-of-run x fine digits room ls =
       short-keeps = short-rests-none x fine after holds;
       needs-met = needs-kept x fine after holds;
       cost-twice = cost-kept x fine after holds;
-      none-for-nothing = none-kept x fine after holds;
+      none-for-nothing = kept-none-for-nothing x fine after holds;
     }
   where
     t : Table

@@ -15,7 +15,7 @@ use Rattle.table.specs.Legal.{Legal}
 use Rattle.plan_theory.specs.Plan.{rested, kept, linksAt, costOf, Meets}
 use Rattle.plan_theory.specs.Bounds.{NoneForNothing}
 use Rattle.plan_theory.proofs.Plan.{touches-low, plan-meets}
-use Rattle.plan_theory.proofs.Bound.{bound, short-keeps, none-of-same}
+use Rattle.plan_theory.proofs.Bound.{bound, short-keeps, same-none-for-nothing}
 use Rattle.probe_frame.specs.Frame.{Frame, frameOf}
 use Rattle.probe_rules.specs.Rules.{entryOf}
 use Rattle.fleet_theory.proofs.EndState.{SameBytes, Sent, Denied, Quiet, Live, total}
@@ -123,8 +123,8 @@ module _ (x : Slices) (fine : slicesFault x ≡ 0) where
           let b = weigh-same (x .links) (λ i. not (endRests t r (t .low i) i)) (kept t) (t .cost) (λ i k. rw (ends-plan i (t .low i) k (touches-low t i))) in
           omega arith
 
-      pub none-kept : NoneForNothing t (λ i. not (endRests t r (t .low i) i))
-      none-kept = none-of-same t legal (λ i. not (endRests t r (t .low i) i)) (λ i k. rw (ends-plan i (t .low i) k (touches-low t i)))
+      pub kept-none-for-nothing : NoneForNothing t (λ i. not (endRests t r (t .low i) i))
+      kept-none-for-nothing = same-none-for-nothing t legal (λ i. not (endRests t r (t .low i) i)) (λ i k. rw (ends-plan i (t .low i) k (touches-low t i)))
 
   -- the sum of all bytes of a record
   abbrev totalOf : List ℕ → ℕ

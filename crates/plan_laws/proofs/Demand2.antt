@@ -21,9 +21,9 @@ use Rattle.table_write.specs.Writing.{writeFault}
 use Rattle.table_write.specs.declared.Writing.the-variants.{Length}
 use Rattle.table_laws.proofs.Functions.{read-then-write, write-then-read}
 use Rattle.plan_theory.specs.Plan.{kept, keptCount, costOf, planByte, isKept}
-use Rattle.plan_theory.proofs.Plan.{plan-rule, only-by-rule, plan-criterion, plan-unique}
+use Rattle.plan_theory.proofs.Plan.{byte-kept, at-same, plan-rule, only-by-rule, plan-criterion, plan-unique, plan-meets}
 use Rattle.plan_theory.proofs.Settled.{settled-is-plan}
-use Rattle.plan_theory.proofs.Bound.{short-keeps, none-of-same}
+use Rattle.plan_theory.proofs.Bound.{short-keeps, same-none-for-nothing}
 use Rattle.plan_theory.proofs.Slse.{slse-is-plan}
 use Rattle.plan_methods.specs.Planning.{planFault, turnsFault, Plans}
 use Rattle.plan_methods.specs.declared.Planning.{Planning}
@@ -31,10 +31,6 @@ use Rattle.plan_methods.specs.declared.Planning.the-variants.{Plan, Refused}
 use Rattle.plan_methods.proofs.Answers.{plans-answer}
 use Rattle.table_write.proofs.Answers.{writes-answer}
 use Rattle.plan_laws.specs.Demand2.{LeavesPlan, Demand2}
-
-byte-kept : (b : Bool) → eqb (planByte b) 1 ≡ b
-byte-kept true = refl
-byte-kept false = refl
 
 -- what a call leaves, by its fault
 module _ (fault : ℕ) (t : Table) (r : Planning) (before after : List ℕ) (p : Plans fault t r before after) where
@@ -46,12 +42,14 @@ module _ (fault : ℕ) (t : Table) (r : Planning) (before after : List ℕ) (p :
       let byte : ℕ → ℕ = λ i. planByte (kept t i) in
       let e : after ≡ stored byte (t .links) before = rw z at (p .plan) in
       let bytes : (i : ℕ) → i < t .links → item after i ≡ byte i = λ i l. rw e (stored-at byte (t .links) before i room l) in
+      let same : (i : ℕ) → i < t .links → isKept after i ≡ kept t i = λ i l. rw (bytes i l) (byte-kept (kept t i)) in
       record {
         answer = answered ∙ rw z;
         bytes = bytes;
         beyond = λ i l. rw e (stored-beyond byte (t .links) before i l);
         long = rw e (length-stored byte (t .links) before);
-        none-for-nothing = none-of-same t legal (isKept after) (λ i l. rw (bytes i l) (byte-kept (kept t i)));
+        needs-met = λ v l. rw (at-same t (isKept after) (kept t) same v) (plan-meets t legal v l);
+        none-for-nothing = same-none-for-nothing t legal (isKept after) same;
       }
 
   plans-short : fault ≡ 8 → (r ≡ Refused 8) × (after ≡ before)

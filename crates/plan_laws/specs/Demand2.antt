@@ -15,7 +15,7 @@ use Rattle.table_read.specs.declared.Reading.the-variants.{Table as Read}
 use Rattle.table_write.specs.declared.Writing.{Writing}
 use Rattle.table_write.specs.declared.Writing.the-variants.{Length}
 use Rattle.table_laws.specs.Functions.{lentSlices, HoldsTable, ReadTable, WriteTable, ReadThenWrite}
-use Rattle.plan_theory.specs.Plan.{rested, kept, keptCount, costOf, planByte, isKept, slse}
+use Rattle.plan_theory.specs.Plan.{rested, kept, keptCount, costOf, planByte, isKept, slse, Meets}
 use Rattle.plan_theory.specs.Criterion.{PlanRule, Criterion, Settled}
 use Rattle.plan_theory.specs.Bounds.{ShortKeeps, NoneForNothing}
 use Rattle.plan_methods.specs.Planning.{PlansBySlse, PlansByTurns}
@@ -30,7 +30,8 @@ pub record LeavesPlan (t : Table) (r : Planning) (before after : List ℕ) : Typ
   pub bytes : (i : ℕ) → i < t .links → item after i ≡ planByte (kept t i)
   pub beyond : (i : ℕ) → t .links ≤ i → item after i ≡ item before i
   pub long : length after ≡ length before
-  -- 02, No. 14, of the bytes that it left
+  -- the links that these bytes keep meet the counted needs, and none of them is awake for nothing (02, No. 14)
+  pub needs-met : Meets t (isKept after)
   pub none-for-nothing : NoneForNothing t (isKept after)
 
 module _ (x : Slices) where

@@ -14,6 +14,7 @@ use Rattle.range.proofs.Sums.{weigh-same}
 use Rattle.range.proofs.Lists.{stored-at}
 use Rattle.table.specs.Table.{Table, item, ofSlices, dearer}
 use Rattle.plan_theory.specs.Plan.{kept, rested, keptCount, costOf, planByte}
+use Rattle.plan_theory.proofs.Plan.{byte-kept}
 use Rattle.plan_methods.specs.Planning.{planningReply, planValues, Plans, PlansAndClears}
 use Rattle.plan_methods.specs.declared.Planning.{Planning}
 use Rattle.plan_methods.specs.declared.Planning.the-variants.{Plan, Refused}
@@ -35,15 +36,11 @@ plans-made fault t r plan plan′ z room p e =
       plan = rw z p;
     }
   where
-    byte : (b : Bool) → eqb (planByte b) 1 ≡ b
-    byte true = refl
-    byte false = refl
-
     same : (i : ℕ) → i < t .links → eqb (item plan′ i) 1 ≡ kept t i
     same i l =
         ap (λ (x : List ℕ). eqb (item x i) 1) p
         ∙ ap (λ (x : ℕ). eqb x 1) (stored-at (λ i. planByte (kept t i)) (t .links) plan i room l)
-        ∙ byte (kept t i)
+        ∙ byte-kept (kept t i)
 
 -- the plan does not depend on the table's number
 pub numbered : (number probes links : ℕ) (needs lows highs costs plan plan′ : List ℕ) → plan′ ≡ stored (λ i. planByte (kept (ofSlices 0 probes links needs lows highs costs) i)) links plan

@@ -15,6 +15,7 @@ use Rattle.table.specs.Table.{Table, item, degree, Degrees, isShort}
 use Rattle.table.specs.Text.{closingLine}
 use Rattle.range.proofs.Sets.{sets-then}
 use Rattle.plan_theory.specs.Plan.{kept, keptCount, costOf, planByte}
+use Rattle.plan_theory.proofs.Plan.{byte-kept}
 use Rattle.plan_lines.specs.Lines.{headLine, keptStart, shortStart}
 use Rattle.plan_lines.proofs.Lengths.{length-head, keptLineAt, shortLineAt, length-kept, length-shorts}
 use Rattle.plan_output.specs.Output.{keptLines, shortLines, planText}
@@ -30,10 +31,6 @@ length-plan t =
     let s = length-shorts (degree t) (t .need) (t .probes) in
     omega arith
 
-byte-back : (b : Bool) → eqb (planByte b) 1 ≡ b
-byte-back true = refl
-byte-back false = refl
-
 -- What is printed by the bytes of a plan and the numbers of links.
 module _ (t : Table) (plan plan′ degrees : List ℕ) (room : t .links ≤ length plan) (p : plan′ ≡ stored (λ i. planByte (kept t i)) (t .links) plan) (d : Degrees t degrees) where
   abbrev says : ℕ → Bool
@@ -46,7 +43,7 @@ module _ (t : Table) (plan plan′ degrees : List ℕ) (room : t .links ≤ leng
   byte-says i l =
       ap (λ (x : List ℕ). eqb (item x i) 1) p
       ∙ ap (λ (x : ℕ). eqb x 1) (stored-at (λ i. planByte (kept t i)) (t .links) plan i room l)
-      ∙ byte-back (kept t i)
+      ∙ byte-kept (kept t i)
 
   -- where the closing line ends, by the counts of both
   pub end-says : (n k : ℕ) → n ≡ count (t .links) says → k ≡ count (t .probes) tells → shortStart n k + 5 ≡ length (planText t)

@@ -22,7 +22,7 @@ use Rattle.plan_theory.proofs.Places.{Order, reversed, place-opposite}
 use Rattle.plan_theory.proofs.Order.{dearer-order}
 use Rattle.table.proofs.LegalLaws.{legal-table}
 use Rattle.table.proofs.Needs.{over-given, under-given}
-use Rattle.plan_theory.proofs.Plan.{at-same, at-split, touches-low, touches-high}
+use Rattle.plan_theory.proofs.Plan.{byte-kept, at-same, at-split, touches-low, touches-high}
 use Rattle.plan_theory.proofs.Slse.{slse-is-plan}
 use Rattle.plan_theory.proofs.Pass.{early, pass-step}
 use Rattle.plan_slse.specs.FromDearest.{InOrder, OrderFits}
@@ -173,11 +173,7 @@ module _ (probes links : ℕ) (needs lows highs costs : List ℕ) where
     added-byte was at =
         let e = early links (dearer t) (dearer-order t rises) (λ r g. added t g && (hasMoreAdded t r (t .low g) && hasMoreAdded t r (t .high g))) k i (omega arith) in
         ap (λ (x : ℕ). eqb x 1) (ap (λ (x : List ℕ). item x i) (was .plans) ∙ stored-at (λ j. planByte (added t j && not (down k j))) links plan₀ i room l)
-        ∙ rw (e, and-true (added t i)) (go (added t i))
-      where
-        go : (b : Bool) → eqb (planByte b) 1 ≡ b
-        go true = refl
-        go false = refl
+        ∙ rw (e, and-true (added t i)) (byte-kept (added t i))
 
     pub down-step : (plan′ counts′ : List ℕ) → Down k plan₀ plan counts → place links (dearer t) i ≡ k
         → plan′ ≡ cond (eqb (item plan i) 1 && bothOver counts needs (item lows i) (item highs i)) (set plan i 0) plan

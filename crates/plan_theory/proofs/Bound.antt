@@ -1,4 +1,4 @@
--- The cost bound: the plan against any choice that meets the needs. With it what demand 3 says of the plan, and what it keeps of a short probe.
+-- The cost bound: the plan against any choice that meets the needs. With it what demand 3 says of the plan, what it keeps of a short probe, and 02, No. 14.
 use Prim.Native.Nat.{ℕ, _+_, _*_, _≤_, _<_}
 use mathlib.Core.Path.{_≡_, refl, sym, _∙_}
 use mathlib.Core.Logic.{_⊎_, inl, inr}
@@ -14,10 +14,10 @@ use Rattle.table.specs.Table.{Table, touches, countedNeed, spare, isShort, dear
 use Rattle.plan_theory.specs.Plan.{linksAt, rested, kept, costOf, hasFewer, without, isNeeded, Meets}
 use Rattle.plan_theory.proofs.Places.{Order, reversed, Last, last, all-before}
 use Rattle.plan_theory.proofs.Order.{dearer-order, Dear, dear, on-dear}
-use Rattle.table.specs.Legal.{Legal, LegalTable}
+use Rattle.table.specs.Legal.{Legal, RisingLinks, LegalTable}
 use Rattle.table.proofs.LegalLaws.{legal-table}
 use Rattle.table.proofs.Needs.{short-spare}
-use Rattle.plan_theory.proofs.Plan.{at-split, at-both, touches-low, touches-high, plan-criterion, rested-at, rested-fits, plan-meets}
+use Rattle.plan_theory.proofs.Plan.{at-same, at-split, at-both, touches-low, touches-high, plan-criterion, rested-at, rested-fits, plan-meets}
 use Rattle.plan_theory.specs.Criterion.{dearerIn, dearerAt, UnderSpare}
 use Rattle.plan_theory.specs.Bounds.{ShortKeeps, PlanBounds, NoneForNothing}
 
@@ -45,6 +45,17 @@ rests : (a r c : Bool) → (a && (c && not (not r))) ≡ true → (a && r) ≡ t
 rests true true c h = refl
 rests true false c h = and-right c false h
 rests false r c h = h
+
+-- a kept link has an end that rests its spare of dearer ones
+kept-end : (t : Table) → RisingLinks t → (i : ℕ) → i < t .links → kept t i ≡ true
+    → (spare t (t .low i) ≤ dearerAt t (rested t) i (t .low i)) ⊎ (spare t (t .high i) ≤ dearerAt t (rested t) i (t .high i))
+kept-end t order i l k = go (decLt (dearerAt t (rested t) i (t .low i)) (spare t (t .low i))) (decLt (dearerAt t (rested t) i (t .high i)) (spare t (t .high i)))
+  where
+    go : Dec (UnderSpare t (rested t) i (t .low i)) → Dec (UnderSpare t (rested t) i (t .high i))
+        → (spare t (t .low i) ≤ dearerAt t (rested t) i (t .low i)) ⊎ (spare t (t .high i) ≤ dearerAt t (rested t) i (t .high i))
+    go (yes a) (yes b) = absurd (true≢false (sym (plan-criterion t order i l .1 (a, b)) ∙ not-true (rested t i) k))
+    go (yes a) (no b) = inr (omega arith)
+    go (no a) b = inl (omega arith)
 
 module _ (t : Table) (s : LegalTable 256 2048 t) (choice : ℕ → Bool) (within : WithinSpare t choice) where
   abbrev order : Order (t .links) (dearer t)
@@ -127,8 +138,7 @@ module _ (t : Table) (s : LegalTable 256 2048 t) (choice : ℕ → Bool) (within
   one-end : (i : ℕ) → i < t .links → cond (without (kept t) choice i) (t .cost i) 0 ≤ sum (t .probes) (λ x. cond (onlyPlanAt x i) (t .cost i) 0)
   one-end i l =
       part (without (kept t) choice i) (t .cost i) (sum (t .probes) (λ x. cond (onlyPlanAt x i) (t .cost i) 0))
-      (λ only.
-      either only (decLt (dearerAt t (rested t) i (t .low i)) (spare t (t .low i))) (decLt (dearerAt t (rested t) i (t .high i)) (spare t (t .high i))))
+      (λ only. either only (kept-end t (s .order) i l (and-left (kept t i) (not (choice i)) only)))
     where
       part : (b : Bool) (k n : ℕ) → (b ≡ true → k ≤ n) → cond b k 0 ≤ n
       part true k n h = h refl
@@ -140,12 +150,11 @@ module _ (t : Table) (s : LegalTable 256 2048 t) (choice : ℕ → Bool) (within
           rw (and-intro at (and-intro (le-leb (spare t x) (dearerAt t (rested t) i x) full) only))
           at (sum-at (t .probes) (λ y. cond (onlyPlanAt y i) (t .cost i) 0) x lx)
 
-      either : without (kept t) choice i ≡ true → Dec (UnderSpare t (rested t) i (t .low i)) → Dec (UnderSpare t (rested t) i (t .high i))
+      either : without (kept t) choice i ≡ true
+          → (spare t (t .low i) ≤ dearerAt t (rested t) i (t .low i)) ⊎ (spare t (t .high i) ≤ dearerAt t (rested t) i (t .high i))
           → t .cost i ≤ sum (t .probes) (λ y. cond (onlyPlanAt y i) (t .cost i) 0)
-      either only (yes a) (yes b) =
-          absurd (true≢false (sym (plan-criterion t (s .order) i l .1 (a, b)) ∙ not-true (rested t i) (and-left (kept t i) (not (choice i)) only)))
-      either only (yes a) (no b) = by (t .high i) (s .ends i l .below) (touches-high t i) (omega arith) only
-      either only (no a) b = let e = s .ends i l in by (t .low i) (omega arith) (touches-low t i) (omega arith) only
+      either only (inl enough) = let e = s .ends i l in by (t .low i) (omega arith) (touches-low t i) enough only
+      either only (inr enough) = by (t .high i) (s .ends i l .below) (touches-high t i) enough only
 
   -- a link has two ends
   two-ends : (i : ℕ) → i < t .links
@@ -195,7 +204,11 @@ module _ (t : Table) (s : LegalTable 256 2048 t) (choice : ℕ → Bool) (meets 
       omega arith
 
 pub plan-bounds : (t : Table) → Legal t → PlanBounds t
-plan-bounds t legal = record { needs-met = plan-meets t legal; cost-twice = bound t (legal-table 256 2048 t legal) }
+plan-bounds t legal =
+    record {
+      needs-met = plan-meets t legal;
+      cost-twice = λ choice meets. let b = bound t (legal-table 256 2048 t legal) choice meets in omega arith;
+    }
 
 -- no link at a probe with spare 0 has fewer rested dearer ones than the spare
 pub short-keeps : (t : Table) → Legal t → ShortKeeps t
@@ -208,35 +221,36 @@ short-keeps t legal = record { no-spare = short-spare t; keeps-all = λ v i e l 
         absurd (omega arith)
     go v i e l at (inr r) = rw r
 
--- a kept link has an end whose rested links are as many as its spare: without the link it has fewer than it needs
+-- without a kept link, the end that rests its spare has fewer than it needs
 pub none-for-nothing : (t : Table) → Legal t → NoneForNothing t (kept t)
-none-for-nothing t legal = record { each-needed = needed; apart-twice = bound-apart t s }
+none-for-nothing t legal =
+    record {
+      each-needed = λ i l k. needed i l k (kept-end t (s .order) i l k);
+      apart-twice = λ choice meets. let b = bound-apart t s choice meets in omega arith;
+    }
   where
     s : LegalTable 256 2048 t
     s = legal-table 256 2048 t legal
 
     fewer : (i v : ℕ) → i < t .links → kept t i ≡ true → touches t v i ≡ true → spare t v ≤ dearerAt t (rested t) i v
         → hasFewer t (without (kept t) (eqb i)) v ≡ true
-    fewer i v l k at full =
+    fewer i v l k at enough =
         let one-less = count-less (t .links) (λ g. touches t v g && without (kept t) (eqb i) g) (λ g. touches t v g && kept t g) i
         (λ g b e. and-intro (and-left (touches t v g) _ e) (and-left (kept t g) _ (and-right (touches t v g) (without (kept t) (eqb i) g) e))) l
         (rw (eq-eqb i i refl, k, at)) (and-intro at k) in
         let dearer-ones = weigh-le (t .links) (λ g. touches t v g && dearerIn t (rested t) i g) (λ g. touches t v g && rested t g) (λ g. 1)
-        (λ g b e. and-intro (and-left (touches t v g) _ e) (and-right (dearer t g i) _ (and-right (touches t v g) (dearerIn t (rested t) i g) e))) in
+        (λ g b. and-skip (touches t v g) (dearer t g i) (rested t g)) in
         let split = at-split t (rested t) v in
         lt-ltb (linksAt t (without (kept t) (eqb i)) v) (countedNeed t v) (omega arith)
 
-    needed : (i : ℕ) → i < t .links → kept t i ≡ true → isNeeded t (kept t) i ≡ true
-    needed i l k = go (decLt (dearerAt t (rested t) i (t .low i)) (spare t (t .low i))) (decLt (dearerAt t (rested t) i (t .high i)) (spare t (t .high i)))
-      where
-        go : Dec (UnderSpare t (rested t) i (t .low i)) → Dec (UnderSpare t (rested t) i (t .high i)) → isNeeded t (kept t) i ≡ true
-        go (yes a) (yes b) = absurd (true≢false (sym (plan-criterion t (s .order) i l .1 (a, b)) ∙ not-true (rested t i) k))
-        go (yes a) (no b) = or-intro-right (hasFewer t (without (kept t) (eqb i)) (t .low i)) _ (fewer i (t .high i) l k (touches-high t i) (omega arith))
-        go (no a) b = or-intro-left _ (hasFewer t (without (kept t) (eqb i)) (t .high i)) (fewer i (t .low i) l k (touches-low t i) (omega arith))
+    needed : (i : ℕ) → i < t .links → kept t i ≡ true
+        → (spare t (t .low i) ≤ dearerAt t (rested t) i (t .low i)) ⊎ (spare t (t .high i) ≤ dearerAt t (rested t) i (t .high i)) → isNeeded t (kept t) i ≡ true
+    needed i l k (inl enough) = or-intro-left _ (hasFewer t (without (kept t) (eqb i)) (t .high i)) (fewer i (t .low i) l k (touches-low t i) enough)
+    needed i l k (inr enough) = or-intro-right (hasFewer t (without (kept t) (eqb i)) (t .low i)) _ (fewer i (t .high i) l k (touches-high t i) enough)
 
 -- the same of every set with the plan's links
-pub none-of-same : (t : Table) → Legal t → (plan : ℕ → Bool) → ((i : ℕ) → i < t .links → plan i ≡ kept t i) → NoneForNothing t plan
-none-of-same t legal plan same =
+pub same-none-for-nothing : (t : Table) → Legal t → (plan : ℕ → Bool) → ((i : ℕ) → i < t .links → plan i ≡ kept t i) → NoneForNothing t plan
+same-none-for-nothing t legal plan same =
     record {
       each-needed = λ i l k. rw (at i (t .low i), at i (t .high i)) (none .each-needed i l (sym (same i l) ∙ k));
       apart-twice = λ choice meets.
@@ -251,4 +265,4 @@ none-of-same t legal plan same =
     none = none-for-nothing t legal
 
     at : (i v : ℕ) → linksAt t (without plan (eqb i)) v ≡ linksAt t (without (kept t) (eqb i)) v
-    at i v = weigh-same (t .links) (λ g. touches t v g && without plan (eqb i) g) (λ g. touches t v g && without (kept t) (eqb i) g) (λ g. 1) (λ g b. rw (same g b))
+    at i = at-same t (without plan (eqb i)) (without (kept t) (eqb i)) (λ g b. rw (same g b))

@@ -2,7 +2,7 @@
 use Prim.Native.Nat.{ℕ, _+_, _-_, _≤_, _<_}
 use mathlib.Core.Path.{_≡_, refl, sym, _∙_}
 use mathlib.Core.Logic.{_↔_, _⊎_, inl, inr}
-use mathlib.Core.Bool.{Bool, true, _&&_, not}
+use mathlib.Core.Bool.{Bool, true, false, _&&_, not}
 use native.Mathlib.Nat.{min-le-right}
 use native.Mathlib.Omega.{arith}
 use lib.Dec.{eqb}
@@ -12,12 +12,16 @@ use Rattle.range.proofs.Bools.{and-left, and-right, and-intro, and-swap, or-int
 use Rattle.range.proofs.Sums.{weigh-same, weigh-split}
 use Rattle.table.specs.Table.{Table, touches, degree, countedNeed, spare, dearer}
 use Rattle.table.specs.Legal.{Legal, RisingLinks}
-use Rattle.plan_theory.specs.Plan.{linksAt, hasMore, rested, kept, Meets}
+use Rattle.plan_theory.specs.Plan.{linksAt, hasMore, rested, kept, planByte, Meets}
 use Rattle.plan_theory.proofs.Places.{bounded}
 use Rattle.plan_theory.proofs.Pass.{OnlyBelow, criterion, only-pass}
 use Rattle.plan_theory.proofs.Order.{dearer-order}
 use Rattle.table.proofs.LegalLaws.{legal-table}
 use Rattle.plan_theory.specs.Criterion.{dearerIn, PlanRule, UnderSpare, Criterion}
+
+pub byte-kept : (b : Bool) → eqb (planByte b) 1 ≡ b
+byte-kept true = refl
+byte-kept false = refl
 
 module _ (t : Table) where
   -- sets with the same links have as many at v

@@ -1,16 +1,15 @@
--- The marked sites M1 to M10, the site with a short probe and the site that a cheaper choice serves, by computing.
+-- The marked sites M1 to M10, the site with a short probe and the site where another choice costs less, by computing; that none costs less still, by the cost bound.
 use Prim.Native.Nat.{ℕ, zero, suc, _≤_}
 use mathlib.Core.Path.{refl}
 use mathlib.Core.Bool.{Bool}
 use native.Mathlib.Omega.{arith}
-use lib.Dec.{eqb}
 use Rattle.range.specs.First.{first}
 use Rattle.range.specs.Sum.{sum}
 use Rattle.table.specs.Table.{dearer}
 use Rattle.table.specs.Legal.{linkFault}
 use Rattle.plan_theory.specs.Pass.{passAfter}
 use Rattle.plan_theory.specs.Plan.{rested, costOf, added, removed, Meets}
-use Rattle.plan_theory.specs.Sites.{endsIn, Sites, Valley, outer, Outer}
+use Rattle.plan_theory.specs.Sites.{endsIn, Sites, Valley, tailed, lastTwo, Tailed}
 use Rattle.plan_theory.proofs.Bound.{plan-bounds}
 
 pub sites : Sites
@@ -34,21 +33,21 @@ unfolding sum dearer passAfter rested endsIn
 valley =
     record { short = refl; missing-one = refl; no-spare = refl; keeps-both = record { links-kept = refl; count-kept = refl; cost-kept = refl } }
 
-pub outer-links : Outer
+pub tailed-site : Tailed
 unfolding sum dearer passAfter rested endsIn first linkFault
-outer-links =
+tailed-site =
     record {
       legal = refl;
-      keeps-two = record { links-kept = refl; count-kept = refl; cost-kept = refl };
-      high-end = refl;
-      low-end = refl;
-      middle-meets = meets;
-      middle-best = best;
+      keeps-three = record { links-kept = refl; count-kept = refl; cost-kept = refl };
+      high-has-less = refl;
+      low-has-enough = refl;
+      other-meets = meets;
+      other-best = best;
       only-plan = refl;
-      only-middle = refl;
+      only-other = refl;
     }
   where
-    meets : Meets outer (eqb 2)
+    meets : Meets tailed lastTwo
     meets zero l = omega arith
     meets (suc zero) l = omega arith
     meets (suc (suc zero)) l = omega arith
@@ -56,5 +55,5 @@ outer-links =
     meets (suc (suc (suc (suc v)))) l = absurd (omega arith)
 
     -- else the plan would cost more than twice as much
-    best : (choice : ℕ → Bool) → Meets outer choice → costOf outer (eqb 2) ≤ costOf outer choice
-    best choice enough = let plan = plan-bounds outer refl .cost-twice choice enough in omega arith
+    best : (choice : ℕ → Bool) → Meets tailed choice → costOf tailed lastTwo ≤ costOf tailed choice
+    best choice enough = let plan = plan-bounds tailed refl .cost-twice choice enough in omega arith

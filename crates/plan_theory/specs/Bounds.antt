@@ -1,4 +1,4 @@
--- What the plan keeps of a short probe, demand 3 on its needs and cost, and what it keeps that another choice does not; the theorems are `short-keeps`, `plan-bounds` and `none-for-nothing`.
+-- What the plan keeps of a short probe, demand 3 on its needs and cost, and 02, No. 14; the theorems are `short-keeps`, `plan-bounds` and `none-for-nothing`.
 use Prim.Native.Nat.{ℕ, _*_, _≤_, _<_}
 use mathlib.Core.Path.{_≡_}
 use mathlib.Core.Bool.{Bool, true}
@@ -15,7 +15,7 @@ pub record PlanBounds (t : Table) : Type 0 where
   pub needs-met : Meets t (kept t)
   pub cost-twice : (choice : ℕ → Bool) → Meets t choice → costOf t (kept t) ≤ 2 * costOf t choice
 
--- 02, No. 14, "No link awake for nothing", of a plan as a set of links: the definition's own (`none-for-nothing`), what a call left in a lent plan (`LeavesPlan`), what a finished fleet keeps (`Demand3`)
+-- 02, No. 14, "No link awake for nothing", of a plan as a set of links
 pub record NoneForNothing (t : Table) (plan : ℕ → Bool) : Type 0 where
   -- "resting one more kept link always leaves an end with less than its counted need"
   pub each-needed : (i : ℕ) → i < t .links → plan i ≡ true → isNeeded t plan i ≡ true

@@ -1,4 +1,4 @@
--- The plan, S-LSE, and what a choice of links meets and costs. The sentences are those of demand 2 and of document 01; a need is everywhere the counted one (02, No. 1). A set of links is a function ℕ → Bool.
+-- The plan, S-LSE, and what a choice of links meets and costs. The sentences are those of demand 2, of document 01 and of 02, No. 14; a need is everywhere the counted one (02, No. 1). A set of links is a function ℕ → Bool.
 use Prim.Native.Nat.{ℕ, _-_, _≤_, _<_}
 use mathlib.Core.Bool.{Bool, _&&_, _||_, not, cond}
 use lib.Dec.{ltb, eqb}
@@ -39,7 +39,7 @@ keptCount t = count (t .links) (kept t)
 abbrev pub costOf : Table → (ℕ → Bool) → ℕ
 costOf t s = weigh (t .links) s (t .cost)
 
--- with the links of s alone, v is "short of its need"
+-- with the links of s alone, v is "short of its need"; 02, No. 14: has "less than its counted need"
 abbrev pub hasFewer : Table → (ℕ → Bool) → ℕ → Bool
 hasFewer t s v = ltb (linksAt t s v) (countedNeed t v)
 

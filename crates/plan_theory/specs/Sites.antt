@@ -1,7 +1,7 @@
--- The marked sites M1 to M10: document 01, "Sites to compare"; a site with a short probe; a site that a cheaper choice serves.
+-- The marked sites M1 to M10: document 01, "Sites to compare"; a site with a short probe; a site where another choice costs less.
 use Prim.Native.Nat.{ℕ, zero, suc, _≤_}
 use mathlib.Core.Path.{_≡_}
-use mathlib.Core.Bool.{Bool, true, false, cond}
+use mathlib.Core.Bool.{Bool, true, false, _||_, cond}
 use mathlib.Core.List.{List, [], _∷_, _++_}
 use lib.Dec.{eqb}
 use lib.ListN.{length}
@@ -58,19 +58,22 @@ pub record Valley : Type 0 where
   pub no-spare : spare valley 1 ≡ 0
   pub keeps-both : SitePlan valley ((0, 1) ∷ (1, 2) ∷ []) 12
 
--- 02, No. 14: a row 0-2-3-1 of links that cost 1, of which the plan keeps the outer two and another choice the middle one
-abbrev pub outer : Table
-outer = site (0 ∷ 0 ∷ 1 ∷ 1 ∷ []) (0 ∷ 1 ∷ 2 ∷ []) (2 ∷ 3 ∷ 3 ∷ []) (1 ∷ 1 ∷ 1 ∷ [])
+-- 02, No. 14: a triangle 0-1-2 and the link 1-3, each at cost 1; the plan and the best choice share 1-3, beside it the plan has 0-1 and 0-2, the choice 1-2
+abbrev pub tailed : Table
+tailed = site (0 ∷ 2 ∷ 1 ∷ 1 ∷ []) (0 ∷ 0 ∷ 1 ∷ 1 ∷ []) (1 ∷ 2 ∷ 2 ∷ 3 ∷ []) (1 ∷ 1 ∷ 1 ∷ 1 ∷ [])
 
-pub record Outer : Type 0 where
-  pub legal : Legal outer
-  pub keeps-two : SitePlan outer ((0, 2) ∷ (1, 3) ∷ []) 2
-  -- without the link 0-2, probe 2 has less than it needs, and probe 0 has not: "an end" is not "both ends"
-  pub high-end : hasFewer outer (without (kept outer) (eqb 0)) 2 ≡ true
-  pub low-end : hasFewer outer (without (kept outer) (eqb 0)) 0 ≡ false
-  -- the middle link alone is a choice that meets the needs, and none costs less
-  pub middle-meets : Meets outer (eqb 2)
-  pub middle-best : (choice : ℕ → Bool) → Meets outer choice → costOf outer (eqb 2) ≤ costOf outer choice
-  -- against it, what only the plan keeps costs just twice what only the choice keeps: no factor below 2 would do
-  pub only-plan : costOf outer (without (kept outer) (eqb 2)) ≡ 2
-  pub only-middle : costOf outer (without (eqb 2) (kept outer)) ≡ 1
+abbrev pub lastTwo : ℕ → Bool
+lastTwo i = eqb i 2 || eqb i 3
+
+pub record Tailed : Type 0 where
+  pub legal : Legal tailed
+  pub keeps-three : SitePlan tailed ((0, 1) ∷ (0, 2) ∷ (1, 3) ∷ []) 3
+  -- without the link 0-1 its high end has less than its counted need, and its low end has not: "an end" is not "both ends"
+  pub high-has-less : hasFewer tailed (without (kept tailed) (eqb 0)) (tailed .high 0) ≡ true
+  pub low-has-enough : hasFewer tailed (without (kept tailed) (eqb 0)) (tailed .low 0) ≡ false
+  -- the other choice meets the needs, and none that does costs less
+  pub other-meets : Meets tailed lastTwo
+  pub other-best : (choice : ℕ → Bool) → Meets tailed choice → costOf tailed lastTwo ≤ costOf tailed choice
+  -- what only the plan keeps costs just twice what only the other keeps: no factor below 2 would do
+  pub only-plan : costOf tailed (without (kept tailed) lastTwo) ≡ 2
+  pub only-other : costOf tailed (without lastTwo (kept tailed)) ≡ 1

@@ -2,7 +2,7 @@
 
 use planner_tests::random::Random;
 use planner_tests::reference::{dearer, falling, plan, Link, Plan, Table};
-use planner_tests::sites::{banded, crowded, every_table, legal, marked, site};
+use planner_tests::sites::{banded, crowded, every_table, legal, legal_of_size, marked, site};
 
 #[test]
 fn dearer_by_cost_then_low_then_high() {
@@ -161,53 +161,79 @@ fn choices_that_meet(table: &Table) -> impl Iterator<Item = u32> + '_ {
     choices.filter(move |&choice| meets(table, &counted, |place| has(choice, place)))
 }
 
-/// The plan costs at most twice as much as any choice that meets the counted needs, and what only
-/// the plan keeps at most twice as much as what only the choice keeps; on some sites just that,
-/// also with a short probe.
-#[test]
-fn plan_costs_at_most_twice_any_choice() {
-    let (mut dearer, mut twice, mut short, mut apart) = (0, 0, 0, 0);
-    for probes in 1..=4 {
-        every_table(probes, 3, |table| {
-            let Plan { kept, cost, .. } = plan(table);
-            let mut least = u64::MAX;
-            for choice in choices_that_meet(table) {
-                let chosen = cost_of(table, |place| has(choice, place));
-                let only_plan = cost_of(table, |place| kept[place] && !has(choice, place));
-                let only_choice = cost_of(table, |place| !kept[place] && has(choice, place));
-                assert!(cost <= 2 * chosen, "{table:?} {choice}");
-                assert!(only_plan <= 2 * only_choice, "{table:?} {choice}");
-                apart += usize::from(only_choice > 0 && only_plan == 2 * only_choice);
-                least = least.min(chosen);
-            }
-            dearer += usize::from(cost > least);
-            if cost > least && cost == 2 * least {
-                twice += 1;
-                short += usize::from(table.has_short());
-            }
-        });
-    }
-    assert!(
-        dearer > 1_000 && twice > 100 && short > 0 && apart > 1_000,
-        "{dearer} {twice} {short} {apart}"
-    );
+/// What all choices that meet the counted needs of some tables have shown of their plans.
+#[derive(Default)]
+struct Bounds {
+    /// Tables whose plan costs more than the best choice, just twice as much, and that with a
+    /// short probe.
+    dearer: usize,
+    twice: usize,
+    twice_with_short: usize,
+    /// Choices with a cost of their own: what only the plan keeps costs just twice as much, though
+    /// the plan does not.
+    apart: usize,
 }
 
-/// Without any one of the links that the plan keeps, an end of that link has less than its counted
-/// need. Answers at how many links one end has, and at how many both have.
+impl Bounds {
+    /// By demand 3, the plan costs at most twice as much as any choice that meets the counted
+    /// needs; by 02, so do the links that only the plan keeps against those that only the choice
+    /// keeps.
+    #[track_caller]
+    fn assert(&mut self, table: &Table) {
+        let Plan { kept, cost, .. } = plan(table);
+        let mut least = u64::MAX;
+        for choice in choices_that_meet(table) {
+            let chosen = cost_of(table, |place| has(choice, place));
+            let only_plan = cost_of(table, |place| kept[place] && !has(choice, place));
+            let only_choice = cost_of(table, |place| !kept[place] && has(choice, place));
+            assert!(cost <= 2 * chosen, "{table:?} {choice}");
+            assert!(only_plan <= 2 * only_choice, "{table:?} {choice}");
+            let twice_apart = only_choice > 0 && only_plan == 2 * only_choice;
+            self.apart += usize::from(twice_apart && cost < 2 * chosen);
+            least = least.min(chosen);
+        }
+        assert!(least <= cost, "the plan is such a choice: {table:?}");
+        self.dearer += usize::from(cost > least);
+        if cost > least && cost == 2 * least {
+            self.twice += 1;
+            self.twice_with_short += usize::from(table.has_short());
+        }
+    }
+}
+
+#[test]
+fn plan_costs_at_most_twice_any_choice() {
+    let mut small = Bounds::default();
+    for probes in 1..=4 {
+        every_table(probes, 3, |table| small.assert(table));
+    }
+    assert!(small.dearer > 1_000 && small.twice > 100);
+    assert!(small.twice_with_short > 0 && small.apart > 1_000);
+    let (mut random, mut larger) = (Random::new(115), Bounds::default());
+    for _ in 0..2_000 {
+        let (probes, links) = (5 + random.below(2), 4 + random.below(7));
+        larger.assert(&legal_of_size(probes, links, &mut random));
+    }
+    assert!(larger.dearer > 100 && larger.twice > 0 && larger.apart > 0);
+}
+
+/// By 02, without any one of the links that the plan keeps, an end of that link has less than its
+/// counted need. Answers at how many links one end has, and at how many both have.
 #[track_caller]
 fn assert_each_needed(table: &Table) -> [usize; 2] {
     let (kept, counted) = (plan(table).kept, table.counted_needs());
     let mut reached = [0; 2];
-    for (rested, link) in table.links.iter().enumerate().filter(|&(place, _)| kept[place]) {
-        let has_less = |&end: &usize| {
+    let links = table.links.iter().enumerate();
+    for (rested, link) in links.filter(|&(place, _)| kept[place]) {
+        let has_less = |end: usize| {
             let links = table.links.iter().enumerate();
-            let awake = links.filter(|&(place, other)| {
-                kept[place] && place != rested && other.ends().contains(&end)
-            });
-            awake.count() < counted[end]
+            let others = links.filter(|&(place, _)| kept[place] && place != rested);
+            others
+                .filter(|(_, other)| other.ends().contains(&end))
+                .count()
+                < counted[end]
         };
-        let ends = link.ends().iter().filter(|end| has_less(end)).count();
+        let ends = link.ends().into_iter().filter(|&end| has_less(end)).count();
         assert!(ends > 0, "{table:?} {rested}");
         reached[ends - 1] += 1;
     }
@@ -216,29 +242,39 @@ fn assert_each_needed(table: &Table) -> [usize; 2] {
 
 #[test]
 fn no_link_is_awake_for_nothing() {
-    let (mut random, mut one, mut both) = (Random::new(115), 0, 0);
-    let mut count = |table: &Table| {
-        let reached = assert_each_needed(table);
-        (one, both) = (one + reached[0], both + reached[1]);
-    };
+    let mut small = [0; 2];
     for probes in 1..=4 {
-        every_table(probes, 3, &mut count);
+        every_table(probes, 3, |table| {
+            add(&mut small, assert_each_needed(table))
+        });
     }
+    assert!(small[0] > 100_000 && small[1] > 100_000, "{small:?}");
+    let (mut random, mut larger) = (Random::new(116), [0; 2]);
     for _ in 0..300 {
-        count(&legal(&mut random));
-        count(&crowded(&mut random));
-        count(&banded(&mut random));
+        add(&mut larger, assert_each_needed(&legal(&mut random)));
+        add(&mut larger, assert_each_needed(&crowded(&mut random)));
+        add(&mut larger, assert_each_needed(&banded(&mut random)));
     }
-    assert!(one > 100_000 && both > 100_000, "{one} {both}");
+    assert!(larger[0] > 1_000 && larger[1] > 1_000, "{larger:?}");
 }
 
-/// A row of links that cost 1 each: the plan keeps the outer two, the middle one alone would do.
+fn add(sums: &mut [usize; 2], reached: [usize; 2]) {
+    for (sum, reached) in sums.iter_mut().zip(reached) {
+        *sum += reached;
+    }
+}
+
+/// A triangle 0-1-2 and the link 1-3, each at cost 1: the plan and the best choice share 1-3.
 #[test]
 fn what_only_the_plan_keeps_costs_twice() {
-    let row = site(&[[0, 2, 1], [1, 3, 1], [2, 3, 1]], &[0, 0, 1, 1]);
-    assert_eq!(plan(&row).kept, [true, true, false]);
-    assert!(choices_that_meet(&row).any(|choice| choice == 0b100));
-    assert_eq!(assert_each_needed(&row), [2, 0]);
+    let table = site(&[[0, 1, 1], [0, 2, 1], [1, 2, 1], [1, 3, 1]], &[0, 2, 1, 1]);
+    let (kept, other) = (plan(&table).kept, 0b1100);
+    assert_eq!(kept, [true, true, false, true]);
+    assert!(choices_that_meet(&table).any(|choice| choice == other));
+    let only_plan = cost_of(&table, |place| kept[place] && !has(other, place));
+    let only_other = cost_of(&table, |place| !kept[place] && has(other, place));
+    assert_eq!([only_plan, only_other], [2, 1]);
+    assert_eq!(assert_each_needed(&table), [2, 1]);
 }
 
 #[test]
