@@ -162,7 +162,7 @@ fn choices_that_meet(table: &Table) -> impl Iterator<Item = u32> + '_ {
 }
 
 /// What all choices that meet the counted needs of some tables have shown of their plans.
-#[derive(Default)]
+#[derive(Debug, Default)]
 struct Bounds {
     /// Tables whose plan costs more than the best choice, just twice as much, and that with a
     /// short probe.
@@ -207,14 +207,16 @@ fn plan_costs_at_most_twice_any_choice() {
     for probes in 1..=4 {
         every_table(probes, 3, |table| small.assert(table));
     }
-    assert!(small.dearer > 1_000 && small.twice > 100);
-    assert!(small.twice_with_short > 0 && small.apart > 1_000);
+    assert!(small.dearer > 1_000 && small.twice > 100, "{small:?}");
+    assert!(small.twice_with_short > 0, "{small:?}");
+    assert!(small.apart > 1_000, "{small:?}");
     let (mut random, mut larger) = (Random::new(115), Bounds::default());
-    for _ in 0..2_000 {
+    for _ in 0..5_000 {
         let (probes, links) = (5 + random.below(2), 4 + random.below(7));
         larger.assert(&legal_of_size(probes, links, &mut random));
     }
-    assert!(larger.dearer > 100 && larger.twice > 0 && larger.apart > 0);
+    assert!(larger.dearer > 50 && larger.twice > 0, "{larger:?}");
+    assert!(larger.apart > 20, "{larger:?}");
 }
 
 /// By 02, without any one of the links that the plan keeps, an end of that link has less than its
