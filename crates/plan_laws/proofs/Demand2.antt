@@ -10,7 +10,7 @@ use borrow.Author.Tests.{le-ltb, lt-ltb}
 use Rattle.range.specs.First.{orElse}
 use Rattle.range.specs.Lists.{stored}
 use Rattle.range.proofs.Lists.{length-stored, stored-at, stored-beyond}
-use Rattle.table.specs.Table.{Table, item}
+use Rattle.table.specs.Table.{Table}
 use Rattle.table.specs.Slices.{Slices, tableOf, slicesFault}
 use Rattle.table.specs.Text.{textEnd}
 use Rattle.table.specs.Same.{FourDigits}
@@ -21,7 +21,7 @@ use Rattle.table_write.specs.Writing.{writeFault}
 use Rattle.table_write.specs.declared.Writing.the-variants.{Length}
 use Rattle.table_laws.proofs.Functions.{read-then-write, write-then-read}
 use Rattle.plan_theory.specs.Plan.{kept, keptCount, costOf, planByte, isKept}
-use Rattle.plan_theory.proofs.Plan.{byte-kept, at-same, plan-rule, only-by-rule, plan-criterion, plan-unique, plan-meets}
+use Rattle.plan_theory.proofs.Plan.{stored-kept, at-same, plan-rule, only-by-rule, plan-criterion, plan-unique, plan-meets}
 use Rattle.plan_theory.proofs.Settled.{settled-is-plan}
 use Rattle.plan_theory.proofs.Bound.{short-keeps, same-none-for-nothing}
 use Rattle.plan_theory.proofs.Slse.{slse-is-plan}
@@ -41,11 +41,10 @@ module _ (fault : ℕ) (t : Table) (r : Planning) (before after : List ℕ) (p :
   plans-none z legal room =
       let byte : ℕ → ℕ = λ i. planByte (kept t i) in
       let e : after ≡ stored byte (t .links) before = rw z at (p .plan) in
-      let bytes : (i : ℕ) → i < t .links → item after i ≡ byte i = λ i l. rw e (stored-at byte (t .links) before i room l) in
-      let same : (i : ℕ) → i < t .links → isKept after i ≡ kept t i = λ i l. rw (bytes i l) (byte-kept (kept t i)) in
+      let same = stored-kept (kept t) (t .links) before after room e in
       record {
         answer = answered ∙ rw z;
-        bytes = bytes;
+        bytes = λ i l. rw e (stored-at byte (t .links) before i room l);
         beyond = λ i l. rw e (stored-beyond byte (t .links) before i l);
         long = rw e (length-stored byte (t .links) before);
         needs-met = λ v l. rw (at-same t (isKept after) (kept t) same v) (plan-meets t legal v l);

@@ -11,10 +11,9 @@ use Rattle.range.specs.Sum.{weigh, count}
 use Rattle.range.specs.Lists.{stored}
 use Rattle.range.specs.Reply.{refusal, values}
 use Rattle.range.proofs.Sums.{weigh-same}
-use Rattle.range.proofs.Lists.{stored-at}
-use Rattle.table.specs.Table.{Table, item, ofSlices, dearer}
-use Rattle.plan_theory.specs.Plan.{kept, rested, keptCount, costOf, planByte}
-use Rattle.plan_theory.proofs.Plan.{byte-kept}
+use Rattle.table.specs.Table.{Table, ofSlices, dearer}
+use Rattle.plan_theory.specs.Plan.{kept, rested, keptCount, costOf, planByte, isKept}
+use Rattle.plan_theory.proofs.Plan.{stored-kept}
 use Rattle.plan_methods.specs.Planning.{planningReply, planValues, Plans, PlansAndClears}
 use Rattle.plan_methods.specs.declared.Planning.{Planning}
 use Rattle.plan_methods.specs.declared.Planning.the-variants.{Plan, Refused}
@@ -26,21 +25,18 @@ plans-refused fault r t plan e n =
 
 pub plans-made : (fault : ℕ) (t : Table) (r : Planning) (plan plan′ : List ℕ) → fault ≡ 0 → t .links ≤ length plan
     → plan′ ≡ stored (λ i. planByte (kept t i)) (t .links) plan
-    → r ≡ Plan (count (t .links) (λ i. eqb (item plan′ i) 1)) (weigh (t .links) (λ i. eqb (item plan′ i) 1) (t .cost))
+    → r ≡ Plan (count (t .links) (isKept plan′)) (weigh (t .links) (isKept plan′) (t .cost))
     → Plans fault t r plan plan′
 plans-made fault t r plan plan′ z room p e =
     record {
       answer =
           ap planningReply e
-          ∙ rw (z, weigh-same (t .links) (λ i. eqb (item plan′ i) 1) (kept t) (λ i. 1) same, weigh-same (t .links) (λ i. eqb (item plan′ i) 1) (kept t) (t .cost) same);
+          ∙ rw (z, weigh-same (t .links) (isKept plan′) (kept t) (λ i. 1) same, weigh-same (t .links) (isKept plan′) (kept t) (t .cost) same);
       plan = rw z p;
     }
   where
-    same : (i : ℕ) → i < t .links → eqb (item plan′ i) 1 ≡ kept t i
-    same i l =
-        ap (λ (x : List ℕ). eqb (item x i) 1) p
-        ∙ ap (λ (x : ℕ). eqb x 1) (stored-at (λ i. planByte (kept t i)) (t .links) plan i room l)
-        ∙ byte-kept (kept t i)
+    same : (i : ℕ) → i < t .links → isKept plan′ i ≡ kept t i
+    same = stored-kept (kept t) (t .links) plan plan′ room p
 
 -- the plan does not depend on the table's number
 pub numbered : (number probes links : ℕ) (needs lows highs costs plan plan′ : List ℕ) → plan′ ≡ stored (λ i. planByte (kept (ofSlices 0 probes links needs lows highs costs) i)) links plan

@@ -3,4 +3,5 @@ pub mod Same
 pub mod Reading
 pub mod Most
 pub mod Long
+pub mod Claims
 pub mod Samples

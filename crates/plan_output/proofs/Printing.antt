@@ -1,21 +1,21 @@
 -- How the code comes to what is printed.
 use Prim.Native.Nat.{ℕ, _+_, _≤_, _<_}
-use mathlib.Core.Path.{_≡_, _∙_, ap}
+use mathlib.Core.Path.{_≡_, _∙_}
 use mathlib.Core.Bool.{Bool}
 use mathlib.Core.List.{List, _++_}
 use native.Mathlib.Omega.{arith}
-use lib.Dec.{ltb, eqb}
+use lib.Dec.{ltb}
 use lib.ListN.{length, length-append}
 use lib.Seq.{sets}
 use Rattle.range.specs.Sum.{count, weigh}
 use Rattle.range.specs.Lists.{joined, stored}
 use Rattle.range.proofs.Sums.{weigh-same}
-use Rattle.range.proofs.Lists.{joined-same, stored-at}
+use Rattle.range.proofs.Lists.{joined-same}
 use Rattle.table.specs.Table.{Table, item, degree, Degrees, isShort}
 use Rattle.table.specs.Text.{closingLine}
 use Rattle.range.proofs.Sets.{sets-then}
-use Rattle.plan_theory.specs.Plan.{kept, keptCount, costOf, planByte}
-use Rattle.plan_theory.proofs.Plan.{byte-kept}
+use Rattle.plan_theory.specs.Plan.{kept, keptCount, costOf, planByte, isKept}
+use Rattle.plan_theory.proofs.Plan.{stored-kept}
 use Rattle.plan_lines.specs.Lines.{headLine, keptStart, shortStart}
 use Rattle.plan_lines.proofs.Lengths.{length-head, keptLineAt, shortLineAt, length-kept, length-shorts}
 use Rattle.plan_output.specs.Output.{keptLines, shortLines, planText}
@@ -34,16 +34,13 @@ length-plan t =
 -- What is printed by the bytes of a plan and the numbers of links.
 module _ (t : Table) (plan plan′ degrees : List ℕ) (room : t .links ≤ length plan) (p : plan′ ≡ stored (λ i. planByte (kept t i)) (t .links) plan) (d : Degrees t degrees) where
   abbrev says : ℕ → Bool
-  says i = eqb (item plan′ i) 1
+  says = isKept plan′
 
   abbrev tells : ℕ → Bool
   tells v = ltb (item degrees v) (t .need v)
 
   byte-says : (i : ℕ) → i < t .links → says i ≡ kept t i
-  byte-says i l =
-      ap (λ (x : List ℕ). eqb (item x i) 1) p
-      ∙ ap (λ (x : ℕ). eqb x 1) (stored-at (λ i. planByte (kept t i)) (t .links) plan i room l)
-      ∙ byte-kept (kept t i)
+  byte-says = stored-kept (kept t) (t .links) plan plan′ room p
 
   -- where the closing line ends, by the counts of both
   pub end-says : (n k : ℕ) → n ≡ count (t .links) says → k ≡ count (t .probes) tells → shortStart n k + 5 ≡ length (planText t)

@@ -1,5 +1,6 @@
--- What the plan program prints: document 01, "Programs", and 02, No. 1. Every printed line is closed by a line feed.
+-- What the plan program prints: document 01, "Programs", and 02, No. 1 and No. 14. Every printed line is closed by a line feed.
 use Prim.Native.Nat.{ℕ}
+use mathlib.Core.Path.{_≡_}
 use mathlib.Core.Bool.{false, cond}
 use mathlib.Core.List.{List, _++_}
 use lib.Dec.{eqb}
@@ -7,6 +8,7 @@ use Rattle.range.specs.Lists.{joined}
 use Rattle.table.specs.Table.{Table, isShort, missing}
 use Rattle.table.specs.Text.{closingLine, ofText, textFault}
 use Rattle.plan_theory.specs.Plan.{kept, keptCount, costOf}
+use Rattle.plan_theory.specs.Bounds.{PlanBounds, NoneForNothing}
 use Rattle.output.specs.Output.{refusalLine}
 use Rattle.plan_lines.specs.Lines.{headLine, keptLine, shortLine}
 
@@ -27,3 +29,9 @@ abbrev pub outputOf : List ℕ → List ℕ
 outputOf s =
     let fault = textFault 256 2048 false s in
     cond (eqb fault 0) (planText (ofText s)) (refusalLine fault)
+
+-- a text that is not refused: what is printed, and of the links in it demand 3's needs and cost, and 02, No. 14 (`prints-plan`)
+pub record PrintsPlan (s : List ℕ) : Type 0 where
+  pub printed : outputOf s ≡ planText (ofText s)
+  pub bounds : PlanBounds (ofText s)
+  pub none-for-nothing : NoneForNothing (ofText s) (kept (ofText s))

@@ -12,7 +12,7 @@ use borrow.Author.Tests.{eq-eqb, ne-eqb}
 use Rattle.range.specs.Lists.{stored}
 use Rattle.range.proofs.Bools.{and-left, decided}
 use Rattle.range.proofs.Sums.{weigh-more, weigh-same, count-less, none-count}
-use Rattle.range.proofs.Lists.{stored-update, stored-same, stored-self, stored-again, stored-at, length-stored}
+use Rattle.range.proofs.Lists.{stored-update, stored-same, stored-self, stored-again, length-stored}
 use Rattle.table.specs.Table.{Table, item, ofSlices, touches, dearer, cheaper}
 use Rattle.table.specs.Legal.{tableFault, Ends, Size, RisingLinks, LegalTable}
 use Rattle.table.proofs.DegreeLaws.{ends-changed}
@@ -22,7 +22,7 @@ use Rattle.plan_theory.proofs.Places.{Order, reversed, place-opposite}
 use Rattle.plan_theory.proofs.Order.{dearer-order}
 use Rattle.table.proofs.LegalLaws.{legal-table}
 use Rattle.table.proofs.Needs.{over-given, under-given}
-use Rattle.plan_theory.proofs.Plan.{byte-kept, at-same, at-split, touches-low, touches-high}
+use Rattle.plan_theory.proofs.Plan.{stored-kept, at-same, at-split, touches-low, touches-high}
 use Rattle.plan_theory.proofs.Slse.{slse-is-plan}
 use Rattle.plan_theory.proofs.Pass.{early, pass-step}
 use Rattle.plan_slse.specs.FromDearest.{InOrder, OrderFits}
@@ -172,8 +172,7 @@ module _ (probes links : ℕ) (needs lows highs costs : List ℕ) where
     added-byte : Down k plan₀ plan counts → place links (dearer t) i ≡ k → eqb (item plan i) 1 ≡ added t i
     added-byte was at =
         let e = early links (dearer t) (dearer-order t rises) (λ r g. added t g && (hasMoreAdded t r (t .low g) && hasMoreAdded t r (t .high g))) k i (omega arith) in
-        ap (λ (x : ℕ). eqb x 1) (ap (λ (x : List ℕ). item x i) (was .plans) ∙ stored-at (λ j. planByte (added t j && not (down k j))) links plan₀ i room l)
-        ∙ rw (e, and-true (added t i)) (byte-kept (added t i))
+        stored-kept (λ j. added t j && not (down k j)) links plan₀ plan room (was .plans) i l ∙ rw e (and-true (added t i))
 
     pub down-step : (plan′ counts′ : List ℕ) → Down k plan₀ plan counts → place links (dearer t) i ≡ k
         → plan′ ≡ cond (eqb (item plan i) 1 && bothOver counts needs (item lows i) (item highs i)) (set plan i 0) plan

@@ -46,13 +46,17 @@ rests true true c h = refl
 rests true false c h = and-right c false h
 rests false r c h = h
 
+-- v rests its spare of links that are dearer than i
+abbrev RestsSpare : Table → ℕ → ℕ → Type 0
+RestsSpare t i v = spare t v ≤ dearerAt t (rested t) i v
+
 -- a kept link has an end that rests its spare of dearer ones
 kept-end : (t : Table) → RisingLinks t → (i : ℕ) → i < t .links → kept t i ≡ true
-    → (spare t (t .low i) ≤ dearerAt t (rested t) i (t .low i)) ⊎ (spare t (t .high i) ≤ dearerAt t (rested t) i (t .high i))
+    → RestsSpare t i (t .low i) ⊎ RestsSpare t i (t .high i)
 kept-end t order i l k = go (decLt (dearerAt t (rested t) i (t .low i)) (spare t (t .low i))) (decLt (dearerAt t (rested t) i (t .high i)) (spare t (t .high i)))
   where
     go : Dec (UnderSpare t (rested t) i (t .low i)) → Dec (UnderSpare t (rested t) i (t .high i))
-        → (spare t (t .low i) ≤ dearerAt t (rested t) i (t .low i)) ⊎ (spare t (t .high i) ≤ dearerAt t (rested t) i (t .high i))
+        → RestsSpare t i (t .low i) ⊎ RestsSpare t i (t .high i)
     go (yes a) (yes b) = absurd (true≢false (sym (plan-criterion t order i l .1 (a, b)) ∙ not-true (rested t i) k))
     go (yes a) (no b) = inr (omega arith)
     go (no a) b = inl (omega arith)
@@ -72,7 +76,7 @@ module _ (t : Table) (s : LegalTable 256 2048 t) (choice : ℕ → Bool) (within
   -- At a probe x, by e, the dearest of those that only the plan keeps.
   module _ (x : ℕ) (lx : x < t .probes) (e : Last (t .links) (λ i j. dearer t j i) (onlyPlanAt x)) where
     -- x rests its spare of dearer links
-    full : spare t x ≤ dearerAt t (rested t) (e .at) x
+    full : RestsSpare t (e .at) x
     full =
         let blocked = leb (spare t x) (dearerAt t (rested t) (e .at) x) in
         let only = without (kept t) choice (e .at) in
@@ -144,17 +148,17 @@ module _ (t : Table) (s : LegalTable 256 2048 t) (choice : ℕ → Bool) (within
       part true k n h = h refl
       part false k n h = omega arith
 
-      by : (x : ℕ) → x < t .probes → touches t x i ≡ true → spare t x ≤ dearerAt t (rested t) i x → without (kept t) choice i ≡ true
+      by : (x : ℕ) → x < t .probes → touches t x i ≡ true → RestsSpare t i x → without (kept t) choice i ≡ true
           → t .cost i ≤ sum (t .probes) (λ y. cond (onlyPlanAt y i) (t .cost i) 0)
       by x lx at full only =
           rw (and-intro at (and-intro (le-leb (spare t x) (dearerAt t (rested t) i x) full) only))
           at (sum-at (t .probes) (λ y. cond (onlyPlanAt y i) (t .cost i) 0) x lx)
 
       either : without (kept t) choice i ≡ true
-          → (spare t (t .low i) ≤ dearerAt t (rested t) i (t .low i)) ⊎ (spare t (t .high i) ≤ dearerAt t (rested t) i (t .high i))
+          → RestsSpare t i (t .low i) ⊎ RestsSpare t i (t .high i)
           → t .cost i ≤ sum (t .probes) (λ y. cond (onlyPlanAt y i) (t .cost i) 0)
-      either only (inl enough) = let e = s .ends i l in by (t .low i) (omega arith) (touches-low t i) enough only
-      either only (inr enough) = by (t .high i) (s .ends i l .below) (touches-high t i) enough only
+      either only (inl full) = let e = s .ends i l in by (t .low i) (omega arith) (touches-low t i) full only
+      either only (inr full) = by (t .high i) (s .ends i l .below) (touches-high t i) full only
 
   -- a link has two ends
   two-ends : (i : ℕ) → i < t .links
@@ -203,6 +207,7 @@ module _ (t : Table) (s : LegalTable 256 2048 t) (choice : ℕ → Bool) (meets 
       let both = weigh-same (t .links) (λ i. kept t i && choice i) (λ i. choice i && kept t i) (t .cost) (λ i l. and-comm (kept t i) (choice i)) in
       omega arith
 
+-- Both bounds end in arithmetic: another factor is then refused with numbers that break it.
 pub plan-bounds : (t : Table) → Legal t → PlanBounds t
 plan-bounds t legal =
     record {
@@ -232,9 +237,9 @@ none-for-nothing t legal =
     s : LegalTable 256 2048 t
     s = legal-table 256 2048 t legal
 
-    fewer : (i v : ℕ) → i < t .links → kept t i ≡ true → touches t v i ≡ true → spare t v ≤ dearerAt t (rested t) i v
+    fewer : (i v : ℕ) → i < t .links → kept t i ≡ true → touches t v i ≡ true → RestsSpare t i v
         → hasFewer t (without (kept t) (eqb i)) v ≡ true
-    fewer i v l k at enough =
+    fewer i v l k at full =
         let one-less = count-less (t .links) (λ g. touches t v g && without (kept t) (eqb i) g) (λ g. touches t v g && kept t g) i
         (λ g b e. and-intro (and-left (touches t v g) _ e) (and-left (kept t g) _ (and-right (touches t v g) (without (kept t) (eqb i) g) e))) l
         (rw (eq-eqb i i refl, k, at)) (and-intro at k) in
@@ -244,9 +249,9 @@ none-for-nothing t legal =
         lt-ltb (linksAt t (without (kept t) (eqb i)) v) (countedNeed t v) (omega arith)
 
     needed : (i : ℕ) → i < t .links → kept t i ≡ true
-        → (spare t (t .low i) ≤ dearerAt t (rested t) i (t .low i)) ⊎ (spare t (t .high i) ≤ dearerAt t (rested t) i (t .high i)) → isNeeded t (kept t) i ≡ true
-    needed i l k (inl enough) = or-intro-left _ (hasFewer t (without (kept t) (eqb i)) (t .high i)) (fewer i (t .low i) l k (touches-low t i) enough)
-    needed i l k (inr enough) = or-intro-right (hasFewer t (without (kept t) (eqb i)) (t .low i)) _ (fewer i (t .high i) l k (touches-high t i) enough)
+        → RestsSpare t i (t .low i) ⊎ RestsSpare t i (t .high i) → isNeeded t (kept t) i ≡ true
+    needed i l k (inl full) = or-intro-left _ (hasFewer t (without (kept t) (eqb i)) (t .high i)) (fewer i (t .low i) l k (touches-low t i) full)
+    needed i l k (inr full) = or-intro-right (hasFewer t (without (kept t) (eqb i)) (t .low i)) _ (fewer i (t .high i) l k (touches-high t i) full)
 
 -- the same of every set with the plan's links
 pub same-none-for-nothing : (t : Table) → Legal t → (plan : ℕ → Bool) → ((i : ℕ) → i < t .links → plan i ≡ kept t i) → NoneForNothing t plan

@@ -3,25 +3,34 @@ use Prim.Native.Nat.{ℕ, _+_, _-_, _≤_, _<_}
 use mathlib.Core.Path.{_≡_, refl, sym, _∙_}
 use mathlib.Core.Logic.{_↔_, _⊎_, inl, inr}
 use mathlib.Core.Bool.{Bool, true, false, _&&_, not}
+use mathlib.Core.List.{List}
 use native.Mathlib.Nat.{min-le-right}
 use native.Mathlib.Omega.{arith}
 use lib.Dec.{eqb}
+use lib.ListN.{length}
 use borrow.Author.Tests.{ltb-true, lt-ltb, eqb-true, eq-eqb}
 use Rattle.range.specs.Sum.{count}
+use Rattle.range.specs.Lists.{stored}
 use Rattle.range.proofs.Bools.{and-left, and-right, and-intro, and-swap, or-intro-left, or-intro-right, or-cases, same-bool}
 use Rattle.range.proofs.Sums.{weigh-same, weigh-split}
+use Rattle.range.proofs.Lists.{stored-at}
 use Rattle.table.specs.Table.{Table, touches, degree, countedNeed, spare, dearer}
 use Rattle.table.specs.Legal.{Legal, RisingLinks}
-use Rattle.plan_theory.specs.Plan.{linksAt, hasMore, rested, kept, planByte, Meets}
+use Rattle.plan_theory.specs.Plan.{linksAt, hasMore, rested, kept, planByte, isKept, Meets}
 use Rattle.plan_theory.proofs.Places.{bounded}
 use Rattle.plan_theory.proofs.Pass.{OnlyBelow, criterion, only-pass}
 use Rattle.plan_theory.proofs.Order.{dearer-order}
 use Rattle.table.proofs.LegalLaws.{legal-table}
 use Rattle.plan_theory.specs.Criterion.{dearerIn, PlanRule, UnderSpare, Criterion}
 
-pub byte-kept : (b : Bool) → eqb (planByte b) 1 ≡ b
+byte-kept : (b : Bool) → eqb (planByte b) 1 ≡ b
 byte-kept true = refl
 byte-kept false = refl
+
+-- a plan buffer with the bytes of a set keeps the links of the set
+pub stored-kept : (s : ℕ → Bool) (links : ℕ) (plan plan′ : List ℕ) → links ≤ length plan → plan′ ≡ stored (λ i. planByte (s i)) links plan
+    → (i : ℕ) → i < links → isKept plan′ i ≡ s i
+stored-kept s links plan plan′ room p i l = rw (p, stored-at (λ j. planByte (s j)) links plan i room l) (byte-kept (s i))
 
 module _ (t : Table) where
   -- sets with the same links have as many at v

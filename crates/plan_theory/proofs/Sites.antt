@@ -1,4 +1,4 @@
--- The marked sites M1 to M10, the site with a short probe and the site where another choice costs less, by computing; that none costs less still, by the cost bound.
+-- The marked sites M1 to M10, the site with a short probe and the site where another choice costs less, by computing.
 use Prim.Native.Nat.{ℕ, zero, suc, _≤_}
 use mathlib.Core.Path.{refl}
 use mathlib.Core.Bool.{Bool}
@@ -10,7 +10,6 @@ use Rattle.table.specs.Legal.{linkFault}
 use Rattle.plan_theory.specs.Pass.{passAfter}
 use Rattle.plan_theory.specs.Plan.{rested, costOf, added, removed, Meets}
 use Rattle.plan_theory.specs.Sites.{endsIn, Sites, Valley, tailed, lastTwo, Tailed}
-use Rattle.plan_theory.proofs.Bound.{plan-bounds}
 
 pub sites : Sites
 unfolding sum dearer passAfter rested added removed endsIn
@@ -31,7 +30,13 @@ sites =
 pub valley : Valley
 unfolding sum dearer passAfter rested endsIn
 valley =
-    record { short = refl; missing-one = refl; no-spare = refl; keeps-both = record { links-kept = refl; count-kept = refl; cost-kept = refl } }
+    record {
+      short = refl;
+      missing-one = refl;
+      no-spare = refl;
+      keeps-both = record { links-kept = refl; count-kept = refl; cost-kept = refl };
+      has-counted = refl;
+    }
 
 pub tailed-site : Tailed
 unfolding sum dearer passAfter rested endsIn first linkFault
@@ -39,8 +44,10 @@ tailed-site =
     record {
       legal = refl;
       keeps-three = record { links-kept = refl; count-kept = refl; cost-kept = refl };
+      needed = refl;
       high-has-less = refl;
       low-has-enough = refl;
+      not-needed = refl;
       other-meets = meets;
       other-best = best;
       only-plan = refl;
@@ -54,6 +61,6 @@ tailed-site =
     meets (suc (suc (suc zero))) l = omega arith
     meets (suc (suc (suc (suc v)))) l = absurd (omega arith)
 
-    -- else the plan would cost more than twice as much
+    -- probe 1 needs two links, at cost 1 each
     best : (choice : ℕ → Bool) → Meets tailed choice → costOf tailed lastTwo ≤ costOf tailed choice
-    best choice enough = let plan = plan-bounds tailed refl .cost-twice choice enough in omega arith
+    best choice enough = let two = enough 1 (omega arith) in omega arith

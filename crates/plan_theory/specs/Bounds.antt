@@ -15,7 +15,7 @@ pub record PlanBounds (t : Table) : Type 0 where
   pub needs-met : Meets t (kept t)
   pub cost-twice : (choice : ℕ → Bool) → Meets t choice → costOf t (kept t) ≤ 2 * costOf t choice
 
--- 02, No. 14, "No link awake for nothing", of a plan as a set of links
+-- 02, No. 14, "No link awake for nothing", of a plan as a set of links; that it meets the needs is said beside it
 pub record NoneForNothing (t : Table) (plan : ℕ → Bool) : Type 0 where
   -- "resting one more kept link always leaves an end with less than its counted need"
   pub each-needed : (i : ℕ) → i < t .links → plan i ≡ true → isNeeded t plan i ≡ true

@@ -1,11 +1,11 @@
 -- The plan, S-LSE, and what a choice of links meets and costs. The sentences are those of demand 2, of document 01 and of 02, No. 14; a need is everywhere the counted one (02, No. 1). A set of links is a function ℕ → Bool.
 use Prim.Native.Nat.{ℕ, _-_, _≤_, _<_}
 use mathlib.Core.Bool.{Bool, _&&_, _||_, not, cond}
+use mathlib.Core.List.{List}
 use lib.Dec.{ltb, eqb}
 use Rattle.range.specs.Sum.{weigh, count}
 use Rattle.table.specs.Table.{Table, touches, degree, countedNeed, dearer, cheaper, item}
 use Rattle.plan_theory.specs.Pass.{pass}
-use mathlib.Core.List.{List}
 
 -- how many links of the set v is an end of
 abbrev pub linksAt : Table → (ℕ → Bool) → ℕ → ℕ

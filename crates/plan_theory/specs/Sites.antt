@@ -7,7 +7,7 @@ use lib.Dec.{eqb}
 use lib.ListN.{length}
 use Rattle.table.specs.Table.{Table, ofSlices, spare, isShort, missing}
 use Rattle.table.specs.Legal.{Legal}
-use Rattle.plan_theory.specs.Plan.{kept, keptCount, costOf, hasFewer, added, removed, Meets, without}
+use Rattle.plan_theory.specs.Plan.{kept, keptCount, costOf, hasFewer, added, removed, Meets, without, isNeeded}
 
 -- a site by its needs and its links' low ends, high ends and costs
 abbrev pub site : List ℕ → List ℕ → List ℕ → List ℕ → Table
@@ -57,6 +57,8 @@ pub record Valley : Type 0 where
   pub missing-one : missing valley 1 ≡ 1
   pub no-spare : spare valley 1 ≡ 0
   pub keeps-both : SitePlan valley ((0, 1) ∷ (1, 2) ∷ []) 12
+  -- with two links it has its counted need, though not three
+  pub has-counted : hasFewer valley (kept valley) 1 ≡ false
 
 -- 02, No. 14: a triangle 0-1-2 and the link 1-3, each at cost 1; the plan and the best choice share 1-3, beside it the plan has 0-1 and 0-2, the choice 1-2
 abbrev pub tailed : Table
@@ -69,8 +71,11 @@ pub record Tailed : Type 0 where
   pub legal : Legal tailed
   pub keeps-three : SitePlan tailed ((0, 1) ∷ (0, 2) ∷ (1, 3) ∷ []) 3
   -- without the link 0-1 its high end has less than its counted need, and its low end has not: "an end" is not "both ends"
+  pub needed : isNeeded tailed (kept tailed) 0 ≡ true
   pub high-has-less : hasFewer tailed (without (kept tailed) (eqb 0)) (tailed .high 0) ≡ true
   pub low-has-enough : hasFewer tailed (without (kept tailed) (eqb 0)) (tailed .low 0) ≡ false
+  -- with all links awake, 1-2 is awake for nothing
+  pub not-needed : isNeeded tailed (λ i. true) 2 ≡ false
   -- the other choice meets the needs, and none that does costs less
   pub other-meets : Meets tailed lastTwo
   pub other-best : (choice : ℕ → Bool) → Meets tailed choice → costOf tailed lastTwo ≤ costOf tailed choice

@@ -202,7 +202,7 @@ impl Bounds {
 }
 
 #[test]
-fn plan_costs_at_most_twice_any_choice() {
+fn plan_against_every_choice() {
     let mut small = Bounds::default();
     for probes in 1..=4 {
         every_table(probes, 3, |table| small.assert(table));
@@ -272,7 +272,9 @@ fn what_only_the_plan_keeps_costs_twice() {
     let table = site(&[[0, 1, 1], [0, 2, 1], [1, 2, 1], [1, 3, 1]], &[0, 2, 1, 1]);
     let (kept, other) = (plan(&table).kept, 0b1100);
     assert_eq!(kept, [true, true, false, true]);
+    let cost = |choice| cost_of(&table, |place| has(choice, place));
     assert!(choices_that_meet(&table).any(|choice| choice == other));
+    assert!(choices_that_meet(&table).all(|choice| cost(other) <= cost(choice)));
     let only_plan = cost_of(&table, |place| kept[place] && !has(other, place));
     let only_other = cost_of(&table, |place| !kept[place] && has(other, place));
     assert_eq!([only_plan, only_other], [2, 1]);
