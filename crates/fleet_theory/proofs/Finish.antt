@@ -117,14 +117,18 @@ module _ (x : Slices) (fine : slicesFault x ≡ 0) where
           go i k (inl at) = rw (at, ends-plan i v k at)
           go i k (inr at) = rw at
 
+      -- the links that their low ends do not rest
+      low-keeps : (i : ℕ) → i < x .links → not (endRests t r (t .low i) i) ≡ kept t i
+      low-keeps i k = rw (ends-plan i (t .low i) k (touches-low t i))
+
       pub cost-kept : (choice : ℕ → Bool) → Meets t choice → costOf t (λ i. not (endRests t r (t .low i) i)) ≤ 2 * costOf t choice
       cost-kept choice meets =
           let a = bound t (legal-table 256 2048 t legal) choice meets in
-          let b = weigh-same (x .links) (λ i. not (endRests t r (t .low i) i)) (kept t) (t .cost) (λ i k. rw (ends-plan i (t .low i) k (touches-low t i))) in
+          let b = weigh-same (x .links) (λ i. not (endRests t r (t .low i) i)) (kept t) (t .cost) low-keeps in
           omega arith
 
       pub kept-none-for-nothing : NoneForNothing t (λ i. not (endRests t r (t .low i) i))
-      kept-none-for-nothing = same-none-for-nothing t legal (λ i. not (endRests t r (t .low i) i)) (λ i k. rw (ends-plan i (t .low i) k (touches-low t i)))
+      kept-none-for-nothing = same-none-for-nothing t legal (λ i. not (endRests t r (t .low i) i)) low-keeps
 
   -- the sum of all bytes of a record
   abbrev totalOf : List ℕ → ℕ

@@ -13,6 +13,8 @@ use Rattle.output.proofs.Printing.{long-enough}
 use Rattle.plan_output.specs.Output.{outputOf}
 use Rattle.plan_output.proofs.Long.{long-output}
 use Rattle.plan_output.proofs.Most.{most, always-printed}
+use Rattle.plan_output.proofs.Claims.{printed-plan}
+use Rattle.standard_io.specs.Writing.{Wrote}
 use Rattle.standard_io.proofs.Writing.{wrote-is}
 use Rattle.plan.specs.Writing.{PlanWrites}
 
@@ -24,7 +26,10 @@ same-output input = go (decLt 27922 (length input))
     go (no d) = ap outputOf (take-all 27923 input (omega arith))
 
 pub plan-writes : (input : List ℕ) → PlanWrites input
-plan-writes input = record { writes = λ written w. wrote-is (outputOf (take 27923 input)) written w ∙ same-output input }
+plan-writes input = record { writes = whole; plan = λ written w e. rw (whole written w) (printed-plan input e) }
+  where
+    whole : (written : List ℕ) → Wrote (outputOf (take 27923 input)) written → written ≡ outputOf input
+    whole written w = wrote-is (outputOf (take 27923 input)) written w ∙ same-output input
 
 -- the program's slice holds every output, so the text is printed and no refusal occurs
 module _ (s : List ℕ) (r : Output) (out out′ : List ℕ) (long : 28950 ≤ length out) (p : Prints (outputFault (length out) (outputOf s)) (outputOf s) r out out′) where

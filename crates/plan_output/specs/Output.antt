@@ -4,12 +4,15 @@ use mathlib.Core.Path.{_≡_}
 use mathlib.Core.Bool.{false, cond}
 use mathlib.Core.List.{List, _++_}
 use lib.Dec.{eqb}
+use lib.ListN.{take}
 use Rattle.range.specs.Lists.{joined}
 use Rattle.table.specs.Table.{Table, isShort, missing}
 use Rattle.table.specs.Text.{closingLine, ofText, textFault}
 use Rattle.plan_theory.specs.Plan.{kept, keptCount, costOf}
 use Rattle.plan_theory.specs.Bounds.{PlanBounds, NoneForNothing}
 use Rattle.output.specs.Output.{refusalLine}
+use Rattle.output.specs.declared.Output.{Output}
+use Rattle.output.specs.declared.Output.the-variants.{Length}
 use Rattle.plan_lines.specs.Lines.{headLine, keptLine, shortLine}
 
 -- "then kept link lines"
@@ -30,8 +33,14 @@ outputOf s =
     let fault = textFault 256 2048 false s in
     cond (eqb fault 0) (planText (ofText s)) (refusalLine fault)
 
--- a text that is not refused: what is printed, and of the links in it demand 3's needs and cost, and 02, No. 14 (`prints-plan`)
-pub record PrintsPlan (s : List ℕ) : Type 0 where
-  pub printed : outputOf s ≡ planText (ofText s)
+-- the bytes printed for a text that is not refused: its plan, and of the links in it demand 3's needs and cost, and 02, No. 14
+pub record PrintedPlan (s printed : List ℕ) : Type 0 where
+  pub lines : printed ≡ planText (ofText s)
   pub bounds : PlanBounds (ofText s)
   pub none-for-nothing : NoneForNothing (ofText s) (kept (ofText s))
+
+-- a call of `plan_text` on such a text, with a slice that holds its plan, answers r and leaves `after` (`prints-plan`)
+pub record PrintsPlan (s : List ℕ) (r : Output) (after : List ℕ) : Type 0 where
+  pub count : ℕ
+  pub answer : r ≡ Length count
+  pub plan : PrintedPlan s (take count after)
