@@ -271,11 +271,10 @@ module _ (probes links : ℕ) (needs lows highs costs : List ℕ) where
   down-end plan₀ plan counts was = was .plans
 
   -- an order of a legal table fits slices that hold the table, with n counts
-  pub order-fits : (order : List ℕ) (n : ℕ) → InOrder t order → links ≤ length order → probes ≤ length needs → links ≤ length lows → links ≤ length highs → 256 ≤ n
+  pub order-fits : (order : List ℕ) (n : ℕ) → InOrder t order → links ≤ length order → probes ≤ length needs → links ≤ length lows → links ≤ length highs → probes ≤ n
       → OrderFits links n (length needs) order lows highs
   order-fits order n is in-order in-needs in-lows in-highs wide =
       let w = whole (is .0) in
-      let few = w .size .few in
       record {
         few = w .size .within;
         in-order = in-order;

@@ -8,7 +8,7 @@ ghost use Rattle.table.specs.Table.{ofSlices};
 ghost use Rattle.plan_theory.specs.Plan.{linksAt, added, slse, kept, planByte};
 ghost use Rattle.plan_slse.specs.FromDearest.{InOrder, OrderFits};
 
-// From cheapest up: what a legal table of these links adds, whatever its probe count and costs, if this is their order.
+// From cheapest up: what a legal table of these links adds, whatever its probe count and costs, if this is their order and `counts` has an entry for each probe.
 fn add_links(
     plan: &mut [u8],
     counts: &mut [u16],
@@ -19,10 +19,10 @@ fn add_links(
     highs: &[u16],
 )
     requires { ⌜ OrderFits links (length (now counts)) (length (now needs)) (now order) (now lows) (now highs)
-        × (links ≤ length (now plan)) × (256 ≤ length (now counts))
-        × ((j : ℕ) → j < links → getD (now plan) j 0 ≡ 0) × ((v : ℕ) → getD (now counts) v 0 ≡ 0) ⌝ }
+        × (links ≤ length (now plan))
+        × ((j : ℕ) → j < links → getD (now plan) j 0 ≡ 0) × ((v : ℕ) → v < length (now counts) → getD (now counts) v 0 ≡ 0) ⌝ }
     ensures { λ _. ⌜ ((probes : ℕ) (costs : List ℕ) → let t = ofSlices 0 probes links (now (needs .entry)) (now (lows .entry)) (now (highs .entry)) costs in
-        InOrder t (now (order .entry))
+        probes ≤ length (now (counts .entry)) → InOrder t (now (order .entry))
         → (now (plan .exit) ≡ stored (λ j. planByte (added t j)) links (now (plan .entry)))
         × ((v : ℕ) → v < probes → getD (now (counts .exit)) v 0 ≡ linksAt t (added t) v)) ⌝ }
 {
@@ -52,9 +52,9 @@ fn remove_links(
     highs: &[u16],
 )
     requires { ⌜ OrderFits links (length (now counts)) (length (now needs)) (now order) (now lows) (now highs)
-        × (links ≤ length (now plan)) × (256 ≤ length (now counts)) ⌝ }
+        × (links ≤ length (now plan)) ⌝ }
     ensures { λ _. ⌜ ((probes : ℕ) (costs : List ℕ) → let t = ofSlices 0 probes links (now (needs .entry)) (now (lows .entry)) (now (highs .entry)) costs in
-        InOrder t (now (order .entry))
+        probes ≤ length (now (counts .entry)) → InOrder t (now (order .entry))
         → ((j : ℕ) → j < links → getD (now (plan .entry)) j 0 ≡ planByte (added t j))
         → ((v : ℕ) → v < probes → getD (now (counts .entry)) v 0 ≡ linksAt t (added t) v)
         → now (plan .exit) ≡ stored (λ j. planByte (slse t j)) links (now (plan .entry))) ⌝ }
@@ -85,21 +85,32 @@ fn clear(plan: &mut [u8], links: usize)
     }
 }
 
-// The plan of every legal table of these links, whatever its probe count and costs, if this is their order.
+fn clear_counts(counts: &mut [u16])
+    ensures { λ _. ⌜ now (counts .exit) ≡ stored (λ v. 0) (length (now (counts .entry))) (now (counts .entry)) ⌝ }
+{
+    let mut v = 0;
+    while v < counts.len() {
+        counts[v] = 0;
+        v += 1;
+    }
+}
+
+// The plan of every legal table of these links, whatever its probe count and costs, if this is their order and `counts` has an entry for each probe.
 pub fn plan_in_order(
     plan: &mut [u8],
+    counts: &mut [u16],
     links: usize,
     order: &[u16],
     needs: &[u16],
     lows: &[u16],
     highs: &[u16],
 )
-    requires { ⌜ OrderFits links 256 (length (now needs)) (now order) (now lows) (now highs) × (links ≤ length (now plan)) ⌝ }
+    requires { ⌜ OrderFits links (length (now counts)) (length (now needs)) (now order) (now lows) (now highs) × (links ≤ length (now plan)) ⌝ }
     ensures { λ _. ⌜ ((probes : ℕ) (costs : List ℕ) → let t = ofSlices 0 probes links (now (needs .entry)) (now (lows .entry)) (now (highs .entry)) costs in
-        InOrder t (now (order .entry)) → now (plan .exit) ≡ stored (λ j. planByte (kept t j)) links (now (plan .entry))) ⌝ }
+        probes ≤ length (now (counts .entry)) → InOrder t (now (order .entry)) → now (plan .exit) ≡ stored (λ j. planByte (kept t j)) links (now (plan .entry))) ⌝ }
 {
-    let mut counts = [0u16; 256];
     clear(plan, links);
-    add_links(plan, &mut counts, links, order, needs, lows, highs);
-    remove_links(plan, &mut counts, links, order, needs, lows, highs);
+    clear_counts(counts);
+    add_links(plan, counts, links, order, needs, lows, highs);
+    remove_links(plan, counts, links, order, needs, lows, highs);
 }

@@ -17,8 +17,8 @@ use Rattle.plan_slse.proofs.Turns.{Up, up-start, up-step, up-end, up-pl
 
 abbrev Inv-loop : tie.InvT-loop
 Inv-loop plan₀ counts₀ links order needs lows highs k₀ plan counts k =
-    (k ≤ links) × ((probes : ℕ) (costs : List ℕ) → InOrder (ofSlices 0 probes links needs lows highs costs) order → Up probes links needs lows highs costs (links - k) plan₀ plan counts)
-    × (length plan ≡ length plan₀) × (length counts ≡ length counts₀) × ((v : ℕ) → item counts v ≤ links - k)
+    (k ≤ links) × ((probes : ℕ) (costs : List ℕ) → probes ≤ length counts₀ → InOrder (ofSlices 0 probes links needs lows highs costs) order → Up probes links needs lows highs costs (links - k) plan₀ plan counts)
+    × (length plan ≡ length plan₀) × (length counts ≡ length counts₀) × ((v : ℕ) → v < length counts₀ → item counts v ≤ links - k)
 
 abbrev μ-loop : tie.MeasureT-loop
 μ-loop plan₀ counts₀ links order needs lows highs k₀ plan counts k = k
@@ -28,7 +28,7 @@ loop-holds c =
     let at-start = c .before .before .before .before .before .before in
     let a = at-start .args in
     let z : a .links - a .links ≡ 0 = omega arith in
-    (search needs, λ probes costs is. rw z (up-start probes (a .links) (a .needs .now) (a .lows .now) (a .highs .now) costs (a .plan .now) (a .counts .now) (at-start .pre .1) (at-start .pre .3) (λ v l. at-start .pre .4 v)), refl, refl, λ v. (let e = at-start .pre .4 v in omega arith))
+    (search needs, λ probes costs wide is. rw z (up-start probes (a .links) (a .needs .now) (a .lows .now) (a .highs .now) costs (a .plan .now) (a .counts .now) (at-start .pre .1) (at-start .pre .2) (λ v l. at-start .pre .3 v (omega (arith, wide, l)))), refl, refl, λ v l. (let e = at-start .pre .3 v l in omega arith))
 
 sub-k : tie.Need-sub-k Inv-loop μ-loop
 sub-k c = search needs
@@ -103,8 +103,8 @@ add-link-requires c κs =
     let b = g .below in
     let w = c .wide3 .ensures in
     let same = l .loop .inv .3 in
-    let low = l .loop .inv .4 (c .before .before .wide2 .result) in
-    let high = l .loop .inv .4 (c .wide3 .result) in
+    let low = l .loop .inv .4 (c .before .before .wide2 .result) (omega (arith, r, b)) in
+    let high = l .loop .inv .4 (c .wide3 .result) b in
     let few = fits .few in
     (omega arith, r, omega arith, omega arith, omega arith, omega arith)
 
@@ -134,17 +134,16 @@ loop-again c =
     let n : a .links - l .loop .k + 1 ≡ a .links - (l .loop .k - 1) = omega arith in
     let ends : Ends (length (l .loop .counts)) (item (a .lows .now) link) (item (a .highs .now) link) = rw (l .loop .inv .3) (fits .counted link i) in (
       omega arith,
-      λ probes costs is.
+      λ probes costs wide is.
           let t = ofSlices 0 probes (a .links) (a .needs .now) (a .lows .now) (a .highs .now) costs in
           let w = whole probes (a .links) (a .needs .now) (a .lows .now) (a .highs .now) costs (is .0) in
-          let few = w .size .few in
-          let long : probes ≤ length (l .loop .counts) = omega (arith, at-start .pre .2, l .loop .inv .3) in
+          let long : probes ≤ length (l .loop .counts) = omega (arith, wide, l .loop .inv .3) in
           let p : place (a .links) (dearer t) link ≡ l .loop .k - 1 = rw e (is .1 (l .loop .k - 1) (omega arith) .1) in
           let at = up-place probes (a .links) (a .needs .now) (a .lows .now) (a .highs .now) costs (is .0) (l .loop .k) link some most i p in
-          rw (← n) (up-step probes (a .links) (a .needs .now) (a .lows .now) (a .highs .now) costs (w .order) (a .links - l .loop .k) link (a .plan .now) (l .loop .plan) (l .loop .counts) i (w .ends link i) long (at-start .pre .1) _ _ (l .loop .inv .1 probes costs is) at plan-after counts-after),
+          rw (← n) (up-step probes (a .links) (a .needs .now) (a .lows .now) (a .highs .now) costs (w .order) (a .links - l .loop .k) link (a .plan .now) (l .loop .plan) (l .loop .counts) i (w .ends link i) long (at-start .pre .1) _ _ (l .loop .inv .1 probes costs wide is) at plan-after counts-after),
       at-call .add-link .kept .0 ∙ l .loop .inv .2,
       at-call .add-link .kept .1 .0 ∙ l .loop .inv .3,
-      λ v. rw (← n) (one-more-most (eitherBelow (l .loop .counts) (a .needs .now) (item (a .lows .now) link) (item (a .highs .now) link)) (l .loop .counts) _ (item (a .lows .now) link) (item (a .highs .now) link) v (a .links - l .loop .k) ends counts-after (l .loop .inv .4 v)),
+      λ v b. rw (← n) (one-more-most (eitherBelow (l .loop .counts) (a .needs .now) (item (a .lows .now) link) (item (a .highs .now) link)) (l .loop .counts) _ (item (a .lows .now) link) (item (a .highs .now) link) v (a .links - l .loop .k) ends counts-after (l .loop .inv .4 v b)),
     )
 
 same-length : tie.Need-same-length Inv-loop μ-loop
@@ -158,7 +157,7 @@ returns c =
     let a = c .before .before .before .before .before .before .before .before .args in
     let l = c .before .loop in
     let z : a .links - l .k ≡ a .links = omega arith in
-    λ probes costs is. up-end probes (a .links) (a .needs .now) (a .lows .now) (a .highs .now) costs (a .plan .now) (l .plan) (l .counts) (rw z at (l .inv .1 probes costs is))
+    λ probes costs wide is. up-end probes (a .links) (a .needs .now) (a .lows .now) (a .highs .now) costs (a .plan .now) (l .plan) (l .counts) (rw z at (l .inv .1 probes costs wide is))
 
 pub add-links-spec : {M : Type 1} → statement M
 add-links-spec =

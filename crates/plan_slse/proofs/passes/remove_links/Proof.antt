@@ -18,7 +18,7 @@ use Rattle.plan_slse.proofs.Turns.{Down, down-start, down-step, down-en
 abbrev Inv-loop : tie.InvT-loop
 Inv-loop plan₀ counts₀ links order needs lows highs k₀ plan counts k =
     (k ≤ links)
-    × ((probes : ℕ) (costs : List ℕ) → InOrder (ofSlices 0 probes links needs lows highs costs) order
+    × ((probes : ℕ) (costs : List ℕ) → probes ≤ length counts₀ → InOrder (ofSlices 0 probes links needs lows highs costs) order
     → ((j : ℕ) → j < links → getD plan₀ j 0 ≡ planByte (added (ofSlices 0 probes links needs lows highs costs) j))
     → ((v : ℕ) → v < probes → getD counts₀ v 0 ≡ linksAt (ofSlices 0 probes links needs lows highs costs) (added (ofSlices 0 probes links needs lows highs costs)) v)
     → Down probes links needs lows highs costs k plan₀ plan counts)
@@ -31,7 +31,7 @@ loop-holds : tie.Need-loop-holds Inv-loop μ-loop
 loop-holds c =
     let at-start = c .before .before .before .before .before .before in
     let a = at-start .args in
-    (search needs, λ probes costs is own all. down-start probes (a .links) (a .needs .now) (a .lows .now) (a .highs .now) costs (a .plan .now) (a .counts .now) (at-start .pre .1) own all, refl, refl)
+    (search needs, λ probes costs wide is own all. down-start probes (a .links) (a .needs .now) (a .lows .now) (a .highs .now) costs (a .plan .now) (a .counts .now) (at-start .pre .1) own all, refl, refl)
 
 mul-wide : tie.Need-mul-wide Inv-loop μ-loop
 mul-wide c =
@@ -131,13 +131,12 @@ loop-again c =
     let plan-after = rw (low, high) at (st .0) in
     let counts-after = rw (low, high) at (st .1) in (
       omega arith,
-      λ probes costs is own all.
+      λ probes costs wide is own all.
           let t = ofSlices 0 probes (a .links) (a .needs .now) (a .lows .now) (a .highs .now) costs in
           let w = whole probes (a .links) (a .needs .now) (a .lows .now) (a .highs .now) costs (is .0) in
-          let few = w .size .few in
-          let long : probes ≤ length (l .loop .counts) = omega (arith, at-start .pre .2, l .loop .inv .3) in
+          let long : probes ≤ length (l .loop .counts) = omega (arith, wide, l .loop .inv .3) in
           let p : place (a .links) (dearer t) link ≡ l .loop .k = rw e (is .1 (l .loop .k) some .1) in
-          down-step probes (a .links) (a .needs .now) (a .lows .now) (a .highs .now) costs (w .order) (l .loop .k) link (a .plan .now) (l .loop .plan) (l .loop .counts) i (w .ends link i) long (at-start .pre .1) _ _ (l .loop .inv .1 probes costs is own all) p plan-after counts-after,
+          down-step probes (a .links) (a .needs .now) (a .lows .now) (a .highs .now) costs (w .order) (l .loop .k) link (a .plan .now) (l .loop .plan) (l .loop .counts) i (w .ends link i) long (at-start .pre .1) _ _ (l .loop .inv .1 probes costs wide is own all) p plan-after counts-after,
       at-call .remove-link .kept .0 ∙ l .loop .inv .2,
       at-call .remove-link .kept .1 .0 ∙ l .loop .inv .3,
     )
@@ -153,7 +152,7 @@ returns c =
     let a = c .before .before .before .before .before .before .before .before .args in
     let l = c .before .loop in
     let z : l .k ≡ a .links = omega arith in
-    λ probes costs is own all. down-end probes (a .links) (a .needs .now) (a .lows .now) (a .highs .now) costs (a .plan .now) (l .plan) (l .counts) (rw z at (l .inv .1 probes costs is own all))
+    λ probes costs wide is own all. down-end probes (a .links) (a .needs .now) (a .lows .now) (a .highs .now) costs (a .plan .now) (l .plan) (l .counts) (rw z at (l .inv .1 probes costs wide is own all))
 
 pub remove-links-spec : {M : Type 1} → statement M
 remove-links-spec =
