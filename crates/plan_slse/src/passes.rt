@@ -85,16 +85,6 @@ fn clear(plan: &mut [u8], links: usize)
     }
 }
 
-fn clear_counts(counts: &mut [u16])
-    ensures { λ _. ⌜ now (counts .exit) ≡ stored (λ v. 0) (length (now (counts .entry))) (now (counts .entry)) ⌝ }
-{
-    let mut v = 0;
-    while v < counts.len() {
-        counts[v] = 0;
-        v += 1;
-    }
-}
-
 // The plan of every legal table of these links, whatever its probe count and costs, if this is their order and `counts` has an entry for each probe.
 pub fn plan_in_order(
     plan: &mut [u8],
@@ -110,7 +100,7 @@ pub fn plan_in_order(
         probes ≤ length (now (counts .entry)) → InOrder t (now (order .entry)) → now (plan .exit) ≡ stored (λ j. planByte (kept t j)) links (now (plan .entry))) ⌝ }
 {
     clear(plan, links);
-    clear_counts(counts);
+    table::degrees::clear_counts(counts);
     add_links(plan, counts, links, order, needs, lows, highs);
     remove_links(plan, counts, links, order, needs, lows, highs);
 }

@@ -1,4 +1,4 @@
-// The plan by offers in turn. The working bytes are four a link: two for each direction, at its source and at its target. Beside them are four entries a probe, the marks.
+// The plan by offers in turn. The working bytes are four a link: two for each direction, at its source and at its target. Beside them are four entries a probe, the marks, and the site in one slice.
 use table_links::spares::spare_at;
 ghost use mathlib.Core.Path.{_≡_};
 ghost use mathlib.Core.List.{[]};
@@ -58,7 +58,7 @@ fn clear(work: &mut [u8])
     }
 }
 
-// Each probe's spare, into zeros.
+// Each probe's spare.
 fn find_spares(
     spares: &mut [u16],
     probes: usize,
@@ -68,19 +68,25 @@ fn find_spares(
     highs: &[u16],
 )
     requires { ⌜ (links ≤ length (now lows)) × (links ≤ length (now highs)) × (links ≤ 65535) × (probes ≤ length (now spares)) × (probes ≤ length (now needs))
-        × (first (linkFault probes (item (now lows)) (item (now highs))) links ≡ 0)
-        × ((v : ℕ) → getD (now spares) v 0 ≡ 0) ⌝ }
+        × (first (linkFault probes (item (now lows)) (item (now highs))) links ≡ 0) ⌝ }
     ensures { λ _. let t = ofSlices 0 probes links (now (needs .entry)) (now (lows .entry)) (now (highs .entry)) [] in
         ⌜ ((v : ℕ) → getD (now (spares .exit)) v 0 ≡ spare t v) ⌝ }
 {
+    table::degrees::clear_counts(spares);
     table::degrees::count_degrees(spares, links, lows, highs);
     take_needs(spares, probes, needs);
 }
 
-// The plan by turns: 1 for a kept link, 0 for a rested one.
+// The plan by turns: 1 for a kept link, 0 for a rested one. Behind the working bytes are the slices that it works in.
 pub fn by_turns(
     plan: &mut [u8],
     work: &mut [u8],
+    spares: &mut [u16],
+    marks: &mut [u16],
+    site: &mut [u16],
+    order: &mut [u16],
+    half: &mut [u16],
+    counts: &mut [usize],
     probes: usize,
     links: usize,
     needs: &[u16],
@@ -91,30 +97,29 @@ pub fn by_turns(
     requires { let t = ofSlices 0 probes links (now needs) (now lows) (now highs) (now costs) in
         ⌜ (tableFault 256 2048 t ≡ 0)
         × (probes ≤ length (now needs)) × (links ≤ length (now lows)) × (links ≤ length (now highs)) × (links ≤ length (now costs))
-        × (links ≤ length (now plan)) × (4 * links ≤ length (now work)) ⌝ }
+        × (links ≤ length (now plan)) × (4 * links ≤ length (now work))
+        × (probes ≤ length (now spares)) × (4 * probes ≤ length (now marks)) × (8 * links + probes + 2 ≤ length (now site))
+        × (links ≤ length (now order)) × (links ≤ length (now half)) × (1 < length (now counts)) × (length (now counts) ≤ 256) ⌝ }
     ensures { λ _. let t = ofSlices 0 probes links (now (needs .entry)) (now (lows .entry)) (now (highs .entry)) (now (costs .entry)) in
         ⌜ now (plan .exit) ≡ stored (λ i. planByte (kept t i)) links (now (plan .entry)) ⌝ }
     ensures { λ _. ⌜ now (work .exit) ≡ replicate (length (now (work .entry))) 0 ⌝ }
 {
     clear(work);
-    let mut spares = [0u16; 256];
-    find_spares(&mut spares, probes, links, needs, lows, highs);
-    let mut marks = [0u16; 1024];
-    let mut nexts = [0u16; 4096];
-    let mut ups = [0u16; 4096];
-    plan_turns_search::chains::link_up(&mut marks, &mut nexts, &mut ups, links, lows, highs, costs);
-    super::turns::take_turns(
-        work,
-        &mut marks,
+    find_spares(spares, probes, links, needs, lows, highs);
+    plan_turns_search::chains::link_up(
+        marks,
+        site,
+        order,
+        half,
+        counts,
         probes,
         links,
         lows,
         highs,
         costs,
-        &spares,
-        &nexts,
-        &ups,
+        spares,
     );
+    super::turns::take_turns(work, marks, site, probes);
     write_plan(plan, work, links);
     clear(work);
 }

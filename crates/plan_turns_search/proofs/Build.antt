@@ -1,14 +1,13 @@
 -- The chains are built from the link with the smallest key up: each link goes before all that its ends have.
-use Prim.Native.Nat.{ℕ, _+_, _-_, _*_, _/_, _≤_, _<_}
+use Prim.Native.Nat.{ℕ, _+_, _-_, _*_, _/_, _%_, _≤_, _<_}
 use mathlib.Core.Path.{_≡_, sym, _∙_, ap}
 use mathlib.Core.Logic.{_⊎_, inl, inr}
 use mathlib.Core.Bool.{true, cond}
-use mathlib.Core.List.{List, []}
+use mathlib.Core.List.{List}
 use native.Mathlib.Omega.{arith}
 use native.Mathlib.Decide.{decLt, ℕ-discrete}
 use lib.Dec.{ltb}
-use lib.ListN.{length, set, length-set}
-use lib.Seq.{getD-set-same, getD-set-other}
+use lib.ListN.{length}
 use borrow.Author.Tests.{ltb-true, lt-ltb, le-ltb}
 use Rattle.range.specs.Lists.{stored}
 use Rattle.range.proofs.Lists.{stored-at}
@@ -17,9 +16,9 @@ use Rattle.plan_theory.specs.Pass.{place}
 use Rattle.plan_theory.proofs.Places.{place-lt, place-below}
 use Rattle.plan_order.specs.Order.{falling, ByPlace}
 use Rattle.plan_order.proofs.Order.{By, is-by, later-order}
-use Rattle.plan_turns_search.specs.Record.{endOf, keyOf, siteSlicesOf}
-use Rattle.plan_turns_search.specs.Chain.{Below, ChainBelow, Falls, LinkedBy, turnedKey, DownChains, UpChains}
-use Rattle.plan_turns_search.proofs.Record.{end-from, end-back}
+use Rattle.plan_turns_search.specs.Chain.{opposite, Below, ChainBelow, Directions, Falls, LinkedBy}
+use Rattle.plan_turns_search.specs.Record.{ofDirection, targetOf, sourceOf, keyOf, turnedKey, mark, SiteInSlice, SiteOfLinks, Started}
+use Rattle.plan_turns_search.proofs.Record.{opposite-from, opposite-back, opposite-half, opposite-below}
 
 -- the order of links as one number
 abbrev linkKey : List ℕ → ℕ → ℕ
@@ -72,28 +71,31 @@ raise dirs source key v k k′ r b l h =
       none = λ m g lg own a. b .none m g lg own (h g lg own a);
     }
 
+-- the link i is put at the heads of its ends' chains
+pub record Pushed (head next head′ next′ : ℕ → ℕ) (i low high : ℕ) : Type 0 where
+  pub at-low : (low ≡ high → ⊥) → head′ low ≡ 2 * i
+  pub at-high : head′ high ≡ 2 * i + 1
+  pub heads-stay : (v : ℕ) → (v ≡ low → ⊥) → (v ≡ high → ⊥) → head′ v ≡ head v
+  pub after-low : next′ (2 * i) ≡ head low
+  pub after-high : next′ (2 * i + 1) ≡ head high
+  pub nexts-stay : (d : ℕ) → (d ≡ 2 * i → ⊥) → (d ≡ 2 * i + 1 → ⊥) → next′ d ≡ next d
+
 -- one more than the largest key of the links from place k on; 0 where there are none
 abbrev pub keyBound : ℕ → (ℕ → ℕ) → List ℕ → ℕ → ℕ
 keyBound links key order k = cond (ltb k links) (key (item order k) + 1) 0
 
-module _ (links : ℕ) (lows highs order : List ℕ) (key : ℕ → ℕ) (f : Falls links key order) where
-  abbrev at : ℕ → ℕ
-  at d = key (d / 2)
-
-  abbrev source : ℕ → ℕ
-  source = endOf lows highs
-
-  pub chain-start : (heads nexts : List ℕ) → ((v : ℕ) → v < length heads → 2 * links ≤ item heads v) → ChainBelow (2 * links) source at heads nexts (keyBound links key order links)
-  chain-start heads nexts h =
+module _ (probes links : ℕ) (lows highs order : List ℕ) (key source at : ℕ → ℕ) (dirs : Directions links lows highs key source at) (f : Falls links key order) where
+  pub chain-start : (head next : ℕ → ℕ) → ((v : ℕ) → v < probes → 2 * links ≤ head v) → ChainBelow probes (2 * links) source at head next (keyBound links key order links)
+  chain-start head next h =
       rw (le-ltb links links (omega arith)) record {
         firsts = λ v l. record { own = λ m. let a = h v l in absurd (omega arith); less = λ m. let a = h v l in absurd (omega arith); most = λ m g lg own a. absurd (omega arith); none = λ m g lg own a. omega arith };
         follows = λ d l a. absurd (omega arith);
       }
 
-  pub chain-done : (heads nexts : List ℕ) → ChainBelow (2 * links) source at heads nexts (keyBound links key order 0) → ((i : ℕ) → i < links → key i < 4294967296) → ChainBelow (2 * links) source at heads nexts 4294967296
-  chain-done heads nexts c small =
+  pub chain-done : (head next : ℕ → ℕ) → ChainBelow probes (2 * links) source at head next (keyBound links key order 0) → ((i : ℕ) → i < links → key i < 4294967296) → ChainBelow probes (2 * links) source at head next 4294967296
+  chain-done head next c small =
       record {
-        firsts = λ v m. raise (2 * links) source at v (keyBound links key order 0) 4294967296 (item heads v) (c .firsts v m) (top (decLt 0 links)) (λ g lg own a. under g lg);
+        firsts = λ v m. raise (2 * links) source at v (keyBound links key order 0) 4294967296 (head v) (c .firsts v m) (top (decLt 0 links)) (λ g lg own a. under g lg);
         follows = λ d m a. c .follows d m (under d m);
       }
     where
@@ -105,14 +107,13 @@ module _ (links : ℕ) (lows highs order : List ℕ) (key : ℕ → ℕ) (f : Fa
       under g lg = let x = f .found (g / 2) (omega arith) in rw (lt-ltb 0 links (omega arith)) (go (x .0) (x .1) (x .2) (decLt 0 (x .0)))
         where
           go : (k : ℕ) → k < links → item order k ≡ g / 2 → Dec (0 < k) → at g < key (item order 0) + 1
-          go k l e (yes z) = let a = f .falls 0 k z l in let b = ap key e in omega arith
-          go k l e (no z) = let q : k ≡ 0 = omega arith in let b = ap key e in let w = ap {B = ℕ} (λ (x : ℕ). key (item order x)) q in omega arith
+          go k l e (yes z) = let a = f .falls 0 k z l in let b = ap key e in let t = dirs .keys g lg in omega arith
+          go k l e (no z) = let q : k ≡ 0 = omega arith in let b = ap key e in let t = dirs .keys g lg in let w = ap {B = ℕ} (λ (x : ℕ). key (item order x)) q in omega arith
 
   -- the link i at place k is put before all that its ends have
-  module _ (rises : (j : ℕ) → j < links → item lows j < item highs j) (heads nexts heads′ nexts′ : List ℕ) (k i low high : ℕ)
-      (c : ChainBelow (2 * links) source at heads nexts (keyBound links key order (k + 1))) (lk : k < links) (ei : i ≡ item order k) (el : low ≡ item lows i) (eh : high ≡ item highs i)
-      (room : high < length heads) (long : 2 * links ≤ length nexts)
-      (eheads : heads′ ≡ set (set heads low (2 * i)) high (2 * i + 1)) (enexts : nexts′ ≡ set (set nexts (2 * i) (item heads low)) (2 * i + 1) (item heads high)) where
+  module _ (rises : (j : ℕ) → j < links → item lows j < item highs j) (head next head′ next′ : ℕ → ℕ) (k i low high : ℕ)
+      (c : ChainBelow probes (2 * links) source at head next (keyBound links key order (k + 1))) (lk : k < links) (ei : i ≡ item order k) (el : low ≡ item lows i) (eh : high ≡ item highs i)
+      (room : high < probes) (pushed : Pushed head next head′ next′ i low high) where
     abbrev held : ℕ
     held = keyBound links key order (k + 1)
 
@@ -124,7 +125,7 @@ module _ (links : ℕ) (lows highs order : List ℕ) (key : ℕ → ℕ) (f : Fa
 
     -- where the link of a direction stands
     spot : (g : ℕ) → g < 2 * links → (j : ℕ) × (j < links) × (at g ≡ key (item order j)) × (item order j ≡ g / 2)
-    spot g lg = let x = f .found (g / 2) (omega arith) in (x .0, x .1, ap key (sym (x .2)), x .2)
+    spot g lg = let x = f .found (g / 2) (omega arith) in (x .0, x .1, dirs .keys g lg ∙ ap key (sym (x .2)), x .2)
 
     top-at : top ≡ key (item order k)
     top-at = ap key ei
@@ -164,39 +165,31 @@ module _ (links : ℕ) (lows highs order : List ℕ) (key : ℕ → ℕ) (f : Fa
     differ e = let a = rises i l in omega arith
 
     end-low : source (2 * i) ≡ low
-    end-low = end-from lows highs i ∙ sym el
+    end-low = dirs .from i l ∙ sym el
 
     end-high : source (2 * i + 1) ≡ high
-    end-high = end-back lows highs i ∙ sym eh
+    end-high = dirs .back i l ∙ sym eh
 
     key-low : at (2 * i) ≡ top
-    key-low = let e : 2 * i / 2 ≡ i = omega arith in ap key e
+    key-low = let a = l in let e : 2 * i / 2 ≡ i = omega arith in dirs .keys (2 * i) (omega arith) ∙ ap key e
 
     key-high : at (2 * i + 1) ≡ top
-    key-high = let e : (2 * i + 1) / 2 ≡ i = omega arith in ap key e
+    key-high = let a = l in let e : (2 * i + 1) / 2 ≡ i = omega arith in dirs .keys (2 * i + 1) (omega arith) ∙ ap key e
 
     -- the new head of an end
-    head : (v d : ℕ) → d < 2 * links → source d ≡ v → at d ≡ top → Below (2 * links) source at v (top + 1) d
-    head v d ld own e =
+    first : (v d : ℕ) → d < 2 * links → source d ≡ v → at d ≡ top → Below (2 * links) source at v (top + 1) d
+    first v d ld own e =
         record { own = λ m. own; less = λ m. omega arith; most = λ m g lg o a. omega arith; none = λ m. absurd (omega arith) }
 
-    heads-same : length heads′ ≡ length heads
-    heads-same = ap length eheads ∙ simp length-set
-
-    next : ChainBelow (2 * links) source at heads′ nexts′ (top + 1)
-    next = record { firsts = λ v m. firsts v m (ℕ-discrete v high) (ℕ-discrete v low); follows = λ d m a. follows d m a (ℕ-discrete d (2 * i)) (ℕ-discrete d (2 * i + 1)) }
+    next-chain : ChainBelow probes (2 * links) source at head′ next′ (top + 1)
+    next-chain = record { firsts = λ v m. firsts v m (ℕ-discrete v high) (ℕ-discrete v low); follows = λ d m a. follows d m a (ℕ-discrete d (2 * i)) (ℕ-discrete d (2 * i + 1)) }
       where
-        firsts : (v : ℕ) → v < length heads′ → Dec (v ≡ high) → Dec (v ≡ low) → Below (2 * links) source at v (top + 1) (item heads′ v)
-        firsts v m (yes e) n =
-            let a = l in
-            rw (e, eheads, getD-set-same (set heads low (2 * i)) high (2 * i + 1) 0 (simp length-set room)) (head high (2 * i + 1) (omega arith) end-high key-high)
-        firsts v m (no n) (yes e) =
-            let a = l in
-            rw (e, eheads, getD-set-other (set heads low (2 * i)) high low (2 * i + 1) 0 differ, getD-set-same heads low (2 * i) 0 (let a = rises i l in omega arith))
-            (head low (2 * i) (omega arith) end-low key-low)
+        firsts : (v : ℕ) → v < probes → Dec (v ≡ high) → Dec (v ≡ low) → Below (2 * links) source at v (top + 1) (head′ v)
+        firsts v m (yes e) n = let a = l in rw (e, pushed .at-high) (first high (2 * i + 1) (omega arith) end-high key-high)
+        firsts v m (no n) (yes e) = let a = l in rw (e, pushed .at-low differ) (first low (2 * i) (omega arith) end-low key-low)
         firsts v m (no n) (no n′) =
-            rw (eheads, getD-set-other (set heads low (2 * i)) high v (2 * i + 1) 0 n, getD-set-other heads low v (2 * i) 0 n′)
-            (raise (2 * links) source at v held (top + 1) (item heads v) (c .firsts v (let a = heads-same in omega arith)) (let a = over in omega arith) under)
+            rw (pushed .heads-stay v n′ n)
+            (raise (2 * links) source at v held (top + 1) (head v) (c .firsts v m) (let a = over in omega arith) under)
           where
             under : (g : ℕ) → g < 2 * links → source g ≡ v → at g < top + 1 → at g < held
             under g lg own a = go (ℕ-discrete (at g) top)
@@ -213,48 +206,29 @@ module _ (links : ℕ) (lows highs order : List ℕ) (key : ℕ → ℕ) (f : Fa
                         n (sym own ∙ ap source e ∙ end-high)
 
         follows : (d : ℕ) → d < 2 * links → at d < top + 1 → Dec (d ≡ 2 * i) → Dec (d ≡ 2 * i + 1)
-            → Below (2 * links) source at (source d) (at d) (item nexts′ d)
+            → Below (2 * links) source at (source d) (at d) (next′ d)
         follows d m a (yes e) n =
-            let y = l in
-            rw (
-              e,
-              enexts,
-              getD-set-other (set nexts (2 * i) (item heads low)) (2 * i + 1) (2 * i) (item heads high) 0 (λ z. omega arith),
-              getD-set-same nexts (2 * i) (item heads low) 0 (omega arith),
-              end-low,
-              key-low,
-            )
-            (raise (2 * links) source at low held top (item heads low) (c .firsts low (let x = rises i l in omega arith)) over (λ g lg own b. gap g lg b))
+            rw (e, pushed .after-low, end-low, key-low)
+            (raise (2 * links) source at low held top (head low) (c .firsts low (let x = rises i l in omega arith)) over (λ g lg own b. gap g lg b))
         follows d m a (no n) (yes e) =
-            let y = l in
-            rw (e, enexts, getD-set-same (set nexts (2 * i) (item heads low)) (2 * i + 1) (item heads high) 0 (simp length-set (omega arith)), end-high, key-high)
-            (raise (2 * links) source at high held top (item heads high) (c .firsts high room) over (λ g lg own b. gap g lg b))
-        follows d m a (no n) (no n′) =
-            rw (enexts, getD-set-other (set nexts (2 * i) (item heads low)) (2 * i + 1) d (item heads high) 0 n′, getD-set-other nexts (2 * i) d (item heads low) 0 n)
-            (c .follows d m (go (ℕ-discrete (at d) top)))
+            rw (e, pushed .after-high, end-high, key-high)
+            (raise (2 * links) source at high held top (head high) (c .firsts high room) over (λ g lg own b. gap g lg b))
+        follows d m a (no n) (no n′) = rw (pushed .nexts-stay d n n′) (c .follows d m (go (ℕ-discrete (at d) top)))
           where
             go : Dec (at d ≡ top) → at d < held
             go (no x) = gap d m (omega arith)
             go (yes x) = let h = own-link d m x in absurd (omega (arith, n, n′))
 
-    pub chain-next : ChainBelow (2 * links) source at heads′ nexts′ (keyBound links key order k)
-    chain-next = rw (lt-ltb k links lk, ← top-at) next
+    pub chain-next : ChainBelow probes (2 * links) source at head′ next′ (keyBound links key order k)
+    chain-next = rw (lt-ltb k links lk, ← top-at) next-chain
 
-module _ (links : ℕ) (lows highs costs : List ℕ) (few : links ≤ 2048) (cheap : (i : ℕ) → item costs i < 65536) (order : List ℕ) (p : ByPlace links (item costs) order) where
+-- both orders of the links by key: `order`, and `round` the other way
+module _ (links : ℕ) (costs : List ℕ) (few : links ≤ 2048) (cheap : (i : ℕ) → item costs i < 65536) (order : List ℕ) (p : ByPlace links (item costs) order) where
   small : (i : ℕ) → i < links → linkKey costs i < 4294967296
   small i l = let a = cheap i in omega arith
 
   by-key : Falls links (linkKey costs) order
   by-key = order-falls links costs order few p
-
-  pub chains-down : (firsts nexts : List ℕ) → LinkedBy links lows highs order firsts nexts → 2 * links ≤ length nexts
-      → ((v : ℕ) → v < length firsts → Below (2 * links) (endOf lows highs) (keyOf costs) v 4294967296 (item firsts v)) × DownChains (siteSlicesOf links lows highs costs []) nexts
-  unfolding keyOf
-  chains-down firsts nexts c long =
-      (k .firsts, record { long = long; next = λ d l. k .follows d l (small (d / 2) (omega arith)) })
-    where
-      k : ChainBelow (2 * links) (endOf lows highs) (λ d. linkKey costs (d / 2)) firsts nexts 4294967296
-      k = c (linkKey costs) by-key small
 
   module _ (old round : List ℕ) (room : links ≤ length old) (e : round ≡ stored (λ k. item order (links - 1 - k)) links old) where
     at-round : (k : ℕ) → k < links → item round k ≡ item order (links - 1 - k)
@@ -279,11 +253,73 @@ module _ (links : ℕ) (lows highs costs : List ℕ) (few : links ≤ 2048) (che
             let z : links - 1 - (links - 1 - x .0) ≡ x .0 = omega (arith, x .1) in
             (links - 1 - x .0, y, at-round (links - 1 - x .0) y ∙ ap (item order) z ∙ x .2)
 
-    pub chains-up : (firsts ups : List ℕ) → LinkedBy links lows highs round firsts ups → 2 * links ≤ length ups
-        → ((v : ℕ) → v < length firsts → Below (2 * links) (endOf lows highs) (turnedKey costs) v 4294967296 (item firsts v)) × UpChains (siteSlicesOf links lows highs costs []) ups
-    unfolding keyOf
-    chains-up firsts ups c long =
-        (k .firsts, record { long = long; next = λ d l. k .follows d l (omega arith) })
-      where
-        k : ChainBelow (2 * links) (endOf lows highs) (λ d. 4294967295 - linkKey costs (d / 2)) firsts ups 4294967296
-        k = c (λ i. 4294967295 - linkKey costs i) by-turned (λ i l. omega arith)
+    -- the slice x with these links, whose chains are those of x₂ by `order` and those of x₃ by `round`
+    module _ (probes : ℕ) (lows highs spares x : List ℕ) (k : SiteOfLinks probes links lows highs costs spares x) where
+      down-keys : Directions links lows highs (linkKey costs) (sourceOf x) (keyOf x)
+      unfolding keyOf
+      down-keys =
+          record {
+            from = λ i l. ap (targetOf x) (opposite-from i) ∙ k .targets i l .1;
+            back = λ i l. ap (targetOf x) (opposite-back i) ∙ k .targets i l .0;
+            keys = λ d l. let a = k .costs-in d l in omega arith;
+          }
+
+      up-keys : Directions links lows highs (λ i. 4294967295 - linkKey costs i) (sourceOf x) (turnedKey x)
+      up-keys =
+          record { from = down-keys .from; back = down-keys .back; keys = λ d l. let a = down-keys .keys d l in omega arith }
+
+      -- what holds of both directions of each link
+      each : (P : ℕ → Type 0) → ((i : ℕ) → i < links → P (2 * i)) → ((i : ℕ) → i < links → P (2 * i + 1)) → (d : ℕ) → d < 2 * links → P d
+      each P from back d l = go (ℕ-discrete (d % 2) 0)
+        where
+          go : Dec (d % 2 ≡ 0) → P d
+          go (yes e) =
+              let q : 2 * (d / 2) ≡ d = omega arith in
+              rw q at (from (d / 2) (omega arith))
+          go (no n) =
+              let q : 2 * (d / 2) + 1 ≡ d = omega arith in
+              rw q at (back (d / 2) (omega arith))
+
+      module _ (ends : (i : ℕ) → i < links → (item lows i < item highs i) × (item highs i < probes)) where
+        apart : (d : ℕ) → d < 2 * links → targetOf x d ≡ sourceOf x d → ⊥
+        apart =
+            each (λ d. targetOf x d ≡ sourceOf x d → ⊥)
+            (λ i l e. let a = ends i l in let b = k .targets i l in let h = down-keys .from i l in omega (arith, a .0, b .0))
+            (λ i l e. let a = ends i l in let b = k .targets i l in let h = down-keys .back i l in omega (arith, a .0, b .1))
+
+        below : (d : ℕ) → d < 2 * links → targetOf x d < probes
+        below =
+            each (λ d. targetOf x d < probes) (λ i l. rw (k .targets i l .0) (ends i l .1))
+            (λ i l. let a = ends i l in rw (k .targets i l .1) (omega (arith, a .0, a .1)))
+
+        module _ (n : ℕ) (marks₂ marks x₂ x₃ : List ℕ) (wide : probes ≤ n)
+            (down : LinkedBy n links lows highs order (λ v. mark marks₂ v 2) (λ d. ofDirection x₂ d 2)) (up : LinkedBy n links lows highs round (λ v. mark marks v 3) (λ d. ofDirection x₃ d 3))
+            (down-stays : (d : ℕ) → d < 2 * links → ofDirection x d 2 ≡ ofDirection x₂ d 2) (up-stays : (d : ℕ) → d < 2 * links → ofDirection x d 3 ≡ ofDirection x₃ d 3) where
+          down-chain : ChainBelow n (2 * links) (sourceOf x) (keyOf x) (λ v. mark marks₂ v 2) (λ d. ofDirection x₂ d 2) 4294967296
+          down-chain = down (linkKey costs) (sourceOf x) (keyOf x) down-keys by-key small
+
+          up-chain : ChainBelow n (2 * links) (sourceOf x) (turnedKey x) (λ v. mark marks v 3) (λ d. ofDirection x₃ d 3) 4294967296
+          up-chain = up (λ i. 4294967295 - linkKey costs i) (sourceOf x) (turnedKey x) up-keys by-turned (λ i l. omega arith)
+
+          pub site-built : probes ≤ 256 → 8 * links + probes + 2 ≤ length x → SiteInSlice x
+          site-built narrow long =
+              record {
+                few = rw (k .link-count) few;
+                within = rw (k .probe-count) narrow;
+                room = rw (k .link-count, k .probe-count) long;
+                cheap = rw (k .link-count) (λ d l. let a = k .costs-in d l in let b = cheap (d / 2) in omega arith);
+                one-cost = rw (k .link-count) (λ d l. k .costs-in (opposite d) (opposite-below links d l) ∙ ap (item costs) (opposite-half d) ∙ sym (k .costs-in d l));
+                apart = rw (k .link-count) apart;
+                ends = rw (k .link-count, k .probe-count) below;
+                down = rw (k .link-count) (λ d l. rw (down-stays d l) (down-chain .follows d l (let a = down-keys .keys d l in let b = small (d / 2) (omega arith) in omega arith)));
+                up = rw (k .link-count) (λ d l. rw (up-stays d l) (up-chain .follows d l (omega arith)));
+              }
+
+          pub marks-built : ((v : ℕ) → v < probes → (mark marks v 0 ≡ 0) × (mark marks v 1 ≡ 0)) → ((v : ℕ) → mark marks v 2 ≡ mark marks₂ v 2) → Started x marks
+          marks-built none stay =
+              record {
+                standing = rw (k .probe-count) (λ v l. none v l .0);
+                held = rw (k .probe-count) (λ v l. none v l .1);
+                cursors = rw (k .link-count, k .probe-count) (λ v l. rw (stay v) (down-chain .firsts v (omega arith)));
+                lasts = rw (k .link-count, k .probe-count) (λ v l. up-chain .firsts v (omega arith));
+              }

@@ -4,7 +4,7 @@ pub mod Record
 pub mod MarkLaws
 pub mod Steps
 pub mod Turns
-pub mod Bytes
 pub mod Plan
 pub mod Chain
 pub mod Build
+pub mod Storing

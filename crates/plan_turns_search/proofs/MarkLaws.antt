@@ -1,17 +1,16 @@
 -- The entries beside the bytes, where one is stored.
 use Prim.Native.Nat.{ℕ, _+_, _-_, _*_, _≤_, _<_}
-use mathlib.Core.Path.{_≡_, _∙_}
+use mathlib.Core.Path.{_≡_}
 use mathlib.Core.List.{List}
 use native.Mathlib.Omega.{arith}
 use native.Mathlib.Decide.{ℕ-discrete}
 use lib.ListN.{length, set, length-set}
 use lib.Seq.{getD-set-same, getD-set-other}
 use Rattle.table.specs.Table.{item}
-use Rattle.plan_turns_search.specs.Record.{atSource, endOf, siteOf, OffersReady, mark, FirstMarks, MarksAgree}
+use Rattle.plan_turns_search.specs.Record.{atSource, probesOf, linksOf, targetOf, siteOf, OffersReady, mark, MarksAgree}
 use Rattle.plan_turns_search.specs.Offers.{Site, Sought, HeldSearch, OfferSearch}
 use Rattle.plan_turns_search.proofs.Record.{distinct}
 use Rattle.plan_turns_search.proofs.Chain.{walk-sought}
-use Rattle.plan_turns_search.specs.Record.{siteSlicesOf}
 
 -- in another column
 pub mark-other : (marks marks′ : List ℕ) (v j x w k : ℕ) → marks′ ≡ set marks (4 * v + j) x → j < 4 → k < 4 → (k ≡ j → ⊥) → mark marks′ w k ≡ mark marks w k
@@ -37,51 +36,29 @@ less-at marks marks′ i j l e = rw e (go (ℕ-discrete j i))
 pub room-kept : (marks marks′ : List ℕ) (n i x : ℕ) → marks′ ≡ set marks i x → n ≤ length marks → n ≤ length marks′
 room-kept marks marks′ n i x e l = rw e (simp length-set l)
 
--- the searches' starts of one more probe
-pub first-next : (cursors lasts marks marks₁ marks₂ : List ℕ) (v x y : ℕ) → 4 * v + 3 < length marks → x ≡ item cursors v → y ≡ item lasts v → marks₁ ≡ set marks (4 * v + 2) x → marks₂ ≡ set marks₁ (4 * v + 3) y
-    → FirstMarks cursors lasts marks v → FirstMarks cursors lasts marks₂ (v + 1)
-first-next cursors lasts marks marks₁ marks₂ v x y l ex ey e₁ e₂ f =
-    record { none = λ w. (still w 0 (omega arith) ∙ f .none w .0, still w 1 (omega arith) ∙ f .none w .1); starts = starts }
-  where
-    still : (w k : ℕ) → k < 2 → mark marks₂ w k ≡ mark marks w k
-    still w k lk = mark-other marks₁ marks₂ v 3 y w k e₂ (omega arith) (omega arith) (λ z. omega arith) ∙ mark-other marks marks₁ v 2 x w k e₁ (omega arith) (omega arith) (λ z. omega arith)
-
-    lasts-at : (w : ℕ) → w < v + 1 → mark marks₂ w 3 ≡ item lasts w
-    lasts-at =
-        mark-column (λ w n. w < v → n ≡ item lasts w) (λ w n. n ≡ item lasts w) (v + 1) 3 marks₁ marks₂ v y e₂ (omega arith) (room-kept marks marks₁ (4 * (v + 1)) (4 * v + 2) x e₁ (omega arith)) (omega arith) ey
-        (λ w m z h. h (omega arith)) (λ w m b. mark-other marks marks₁ v 2 x w 3 e₁ (omega arith) (omega arith) (λ z. omega arith) ∙ f .starts w b .1)
-
-    cursors-at : (w : ℕ) → w < v + 1 → mark marks₁ w 2 ≡ item cursors w
-    cursors-at =
-        mark-column (λ w n. w < v → n ≡ item cursors w) (λ w n. n ≡ item cursors w) (v + 1) 2 marks marks₁ v x e₁ (omega arith) (omega arith) (omega arith) ex
-        (λ w m z h. h (omega arith)) (λ w m b. f .starts w b .0)
-
-    starts : (w : ℕ) → w < v + 1 → (mark marks₂ w 2 ≡ item cursors w) × (mark marks₂ w 3 ≡ item lasts w)
-    starts w m = (mark-other marks₁ marks₂ v 3 y w 2 e₂ (omega arith) (omega arith) (λ z. omega arith) ∙ cursors-at w m, lasts-at w m)
-
-module _ (links : ℕ) (lows highs costs spares r marks : List ℕ) (k : MarksAgree (siteSlicesOf links lows highs costs spares) r marks) where
+module _ (slice r marks : List ℕ) (k : MarksAgree slice r marks) where
   abbrev site : Site
-  site = siteOf (siteSlicesOf links lows highs costs spares)
+  site = siteOf slice
 
-  pub cursor-moved : OffersReady (siteSlicesOf links lows highs costs spares) r → (u d : ℕ) → u < length spares → Sought site (atSource r) u d → (marks′ : List ℕ) → marks′ ≡ set marks (4 * u + 2) d → MarksAgree (siteSlicesOf links lows highs costs spares) r marks′
+  pub cursor-moved : OffersReady slice r → (u d : ℕ) → u < probesOf slice → Sought site (atSource r) u d → (marks′ : List ℕ) → marks′ ≡ set marks (4 * u + 2) d → MarksAgree slice r marks′
   cursor-moved ready u d l s marks′ e =
       record {
-        room = room-kept marks marks′ (4 * length spares) (4 * u + 2) d e (k .room);
+        room = room-kept marks marks′ (4 * probesOf slice) (4 * u + 2) d e (k .room);
         standing = λ w m. rw (mark-other marks marks′ u 2 d w 0 e (omega arith) (omega arith) (λ z. omega arith)) (k .standing w m);
         held = λ w m. rw (mark-other marks marks′ u 2 d w 1 e (omega arith) (omega arith) (λ z. omega arith)) (k .held w m);
-        cursors = mark-column (OfferSearch site (atSource r)) (OfferSearch site (atSource r)) (length spares) 2 marks marks′ u d e (omega arith) (k .room) l (walk-sought site (distinct links lows highs costs spares (ready .fits)) (atSource r) (ready .inv) u d s) (λ w m z a. a) (k .cursors);
+        cursors = mark-column (OfferSearch site (atSource r)) (OfferSearch site (atSource r)) (probesOf slice) 2 marks marks′ u d e (omega arith) (k .room) l (walk-sought site (distinct slice (ready .fits)) (atSource r) (ready .inv) u d s) (λ w m z a. a) (k .cursors);
         lasts = λ w m. rw (mark-other marks marks′ u 2 d w 3 e (omega arith) (omega arith) (λ z. omega arith)) (k .lasts w m);
       }
 
-  pub held-moved : (v f : ℕ) → v < length spares → HeldSearch site (atSource r) v f → (marks′ : List ℕ) → marks′ ≡ set marks (4 * v + 3) f → MarksAgree (siteSlicesOf links lows highs costs spares) r marks′
+  pub held-moved : (v f : ℕ) → v < probesOf slice → HeldSearch site (atSource r) v f → (marks′ : List ℕ) → marks′ ≡ set marks (4 * v + 3) f → MarksAgree slice r marks′
   held-moved v f l h marks′ e =
       record {
-        room = room-kept marks marks′ (4 * length spares) (4 * v + 3) f e (k .room);
+        room = room-kept marks marks′ (4 * probesOf slice) (4 * v + 3) f e (k .room);
         standing = λ w m. rw (mark-other marks marks′ v 3 f w 0 e (omega arith) (omega arith) (λ z. omega arith)) (k .standing w m);
         held = λ w m. rw (mark-other marks marks′ v 3 f w 1 e (omega arith) (omega arith) (λ z. omega arith)) (k .held w m);
         cursors = λ w m. rw (mark-other marks marks′ v 3 f w 2 e (omega arith) (omega arith) (λ z. omega arith)) (k .cursors w m);
-        lasts = mark-column at at (length spares) 3 marks marks′ v f e (omega arith) (k .room) l (λ d m own. h) (λ w m z a. a) (k .lasts);
+        lasts = mark-column at at (probesOf slice) 3 marks marks′ v f e (omega arith) (k .room) l (λ d m own. h) (λ w m z a. a) (k .lasts);
       }
     where
       at : ℕ → ℕ → Type 0
-      at v f = (d : ℕ) → d < 2 * links → endOf highs lows d ≡ v → HeldSearch site (atSource r) v f
+      at v f = (d : ℕ) → d < 2 * linksOf slice → targetOf slice d ≡ v → HeldSearch site (atSource r) v f

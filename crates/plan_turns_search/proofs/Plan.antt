@@ -12,7 +12,7 @@ use lib.ListN.{length}
 use borrow.Author.Tests.{ltb-true, lt-ltb, eqb-true, eq-eqb, ne-eqb}
 use Rattle.range.specs.Sum.{sum, count}
 use Rattle.range.specs.Lists.{stored}
-use Rattle.range.proofs.Bools.{same-bool, or-cases}
+use Rattle.range.proofs.Bools.{same-bool, or-cases, and-left}
 use Rattle.range.proofs.Sums.{sum-same, weigh-same, none-count}
 use Rattle.range.proofs.Lists.{stored-same, stored-at, stored-beyond}
 use Rattle.table.specs.Table.{Table, item, ofSlices, touches, degree, spare, dearer}
@@ -24,11 +24,10 @@ use Rattle.table.proofs.LegalLaws.{legal-table}
 use Rattle.table.proofs.Needs.{spare-given}
 use Rattle.plan_theory.specs.Criterion.{dearerAt, Across, up, down, Settled}
 use Rattle.plan_theory.proofs.Settled.{settled-is-plan}
-use Rattle.plan_turns_search.specs.Record.{atSource, atTarget, endOf, keyOf, siteOf, SiteOfTable, keptByte, SiteInSlices, Over}
-use Rattle.plan_turns_search.specs.Offers.{Site, on, WouldRefuse}
+use Rattle.plan_turns_search.specs.Record.{atSource, atTarget, targetOf, sourceOf, keyOf, spareOf, siteOf, SiteOfTable, SiteOfLinks, keptByte, Over}
+use Rattle.plan_turns_search.specs.Offers.{on, WouldRefuse}
 use Rattle.plan_turns_search.proofs.Offers.{explained}
-use Rattle.plan_turns_search.proofs.Record.{end-from, end-back, distinct}
-use Rattle.plan_turns_search.specs.Record.{siteSlicesOf}
+use Rattle.plan_turns_search.proofs.Record.{opposite-from, opposite-back, distinct}
 
 -- a count over directions, link by link
 sides : (p : ℕ → Bool) (n : ℕ) → count (2 * n) p ≡ sum n (λ i. cond (p (2 * i)) 1 0 + cond (p (2 * i + 1)) 1 0)
@@ -47,7 +46,7 @@ offerOf a r u i = eqb (atSource r (cond (eqb u (item a i)) (2 * i) (2 * i + 1)))
 
 -- at each link v is one of the two ends, or none
 module _ (links : ℕ) (a b r : List ℕ) (v : ℕ) (t q : ℕ → Bool) (apart : (i : ℕ) → i < links → item a i ≡ item b i → ⊥)
-    (at : (i : ℕ) → t i ≡ (eqb v (item a i) || eqb v (item b i))) where
+    (at : (i : ℕ) → t i ≡ (eqb v (item a i) || eqb v (item b i))) (end : ℕ → ℕ) (from : (i : ℕ) → i < links → end (2 * i) ≡ item a i) (back : (i : ℕ) → i < links → end (2 * i + 1) ≡ item b i) where
   point : (i : ℕ) → i < links → Dec (v ≡ item a i) → Dec (v ≡ item b i)
       → cond ((eqb (item a i) v && q i) && eqb (atSource r (2 * i)) 1) 1 0 + cond ((eqb (item b i) v && q i) && eqb (atSource r (2 * i + 1)) 1) 1 0
       ≡ cond (t i && (q i && offerOf a r v i)) 1 0
@@ -59,14 +58,14 @@ module _ (links : ℕ) (a b r : List ℕ) (v : ℕ) (t q : ℕ → Bool) (apart 
   point i l (no x) (no y) =
       rw (at i, ne-eqb v (item a i) x, ne-eqb v (item b i) y, ne-eqb (item a i) v (λ z. x (sym z)), ne-eqb (item b i) v (λ z. y (sym z)))
 
-  by-links : count (2 * links) (λ f. (eqb (endOf a b f) v && q (f / 2)) && eqb (atSource r f) 1) ≡ count links (λ i. t i && (q i && offerOf a r v i))
+  by-links : count (2 * links) (λ f. (eqb (end f) v && q (f / 2)) && eqb (atSource r f) 1) ≡ count links (λ i. t i && (q i && offerOf a r v i))
   by-links =
-      sides (λ f. (eqb (endOf a b f) v && q (f / 2)) && eqb (atSource r f) 1) links
+      sides (λ f. (eqb (end f) v && q (f / 2)) && eqb (atSource r f) 1) links
       ∙ sum-same links _ (λ i. cond (t i && (q i && offerOf a r v i)) 1 0)
       (λ i l.
       let e : 2 * i / 2 ≡ i = omega arith in
       let f : (2 * i + 1) / 2 ≡ i = omega arith in
-      rw (end-from a b i, end-back a b i, e, f) (point i l (ℕ-discrete v (item a i)) (ℕ-discrete v (item b i))))
+      rw (from i l, back i l, e, f) (point i l (ℕ-discrete v (item a i)) (ℕ-discrete v (item b i))))
 
 or-turn : (a b : Bool) → (a || b) ≡ (b || a)
 or-turn true true = refl
@@ -95,153 +94,167 @@ module _ (probes links : ℕ) (needs lows highs costs : List ℕ) (legal : Legal
   pub ends : (i : ℕ) → i < links → Ends probes (item lows i) (item highs i)
   ends = good .ends
 
-  -- the keys' order is the table's
-  key-dearer : (d f : ℕ) → d < 2 * links → f < 2 * links → ltb (keyOf costs d) (keyOf costs f) ≡ dearer table (f / 2) (d / 2)
-  unfolding keyOf
-  key-dearer d f ld lf =
-      same-bool (ltb (item costs (d / 2) * 65536 + d / 2) (item costs (f / 2) * 65536 + f / 2)) (dearer table (f / 2) (d / 2))
-      (λ e. on-dear table (good .order) (f / 2) (d / 2) (omega arith) (omega arith) (more (ltb-true _ _ e) (decLt (item costs (d / 2)) (item costs (f / 2)))))
-      (λ e. lt-ltb _ _ (less (dear table (good .order) (f / 2) (d / 2) (omega arith) (omega arith) e)))
+  -- past the probes there are no links
+  no-links : (s : ℕ → Bool) (v : ℕ) → probes ≤ v → linksAt table s v ≡ 0
+  no-links s v m = none-count links (λ i. touches table v i && s i) (λ i l h. end i l (or-cases (eqb v (item lows i)) (eqb v (item highs i)) (and-left (touches table v i) (s i) h)))
     where
-      few : links ≤ 2048
-      few = small .1
+      end : (i : ℕ) → i < links → (eqb v (item lows i) ≡ true) ⊎ (eqb v (item highs i) ≡ true) → ⊥
+      end i l (inl h) = let a = eqb-true v (item lows i) h in let b = ends i l .rises in let k = ends i l .below in omega arith
+      end i l (inr h) = let a = eqb-true v (item highs i) h in let k = ends i l .below in omega arith
 
-      more : item costs (d / 2) * 65536 + d / 2 < item costs (f / 2) * 65536 + f / 2 → Dec (item costs (d / 2) < item costs (f / 2)) → Dear table (f / 2) (d / 2)
-      more l (yes a) = inl a
-      more l (no a) = let k = few in inr (omega arith)
+  -- in the slice x
+  module _ (spares x : List ℕ) (k : SiteOfLinks probes links lows highs costs spares x) where
+    source-from : (i : ℕ) → i < links → sourceOf x (2 * i) ≡ item lows i
+    source-from i l = ap (targetOf x) (opposite-from i) ∙ k .targets i l .1
 
-      less : Dear table (f / 2) (d / 2) → item costs (d / 2) * 65536 + d / 2 < item costs (f / 2) * 65536 + f / 2
-      less (inl a) = let k = few in omega arith
-      less (inr a) = omega arith
+    source-back : (i : ℕ) → i < links → sourceOf x (2 * i + 1) ≡ item highs i
+    source-back i l = ap (targetOf x) (opposite-back i) ∙ k .targets i l .0
 
-  pub site-of-table : (spares : List ℕ) → ((v : ℕ) → item spares v ≡ spare table v) → SiteOfTable table (siteOf (siteSlicesOf links lows highs costs spares))
-  site-of-table spares right =
-      record {
-        both = refl;
-        up = λ i l. (end-from lows highs i, end-from highs lows i);
-        down = λ i l. (end-back lows highs i, end-back highs lows i);
-        order = key-dearer;
-        spares = right;
-      }
-
-  pub fits : (spares : List ℕ) → length spares ≡ 256 → links ≤ length lows → links ≤ length highs → links ≤ length costs → ((i : ℕ) → item costs i < 65536) → SiteInSlices (siteSlicesOf links lows highs costs spares)
-  fits spares e a b d cheap =
-      record {
-        few = let s = small in omega (arith, s .1);
-        in-lows = a;
-        in-highs = b;
-        in-costs = d;
-        cheap = cheap;
-        rises = λ i l. ends i l .rises;
-        ends = λ i l. let s = small in let k = ends i l .below in omega (arith, s .0);
-        within = omega arith;
-      }
-
-  module _ (spares r : List ℕ) (right : (v : ℕ) → item spares v ≡ spare table v) (over : Over (siteSlicesOf links lows highs costs spares) r probes) where
-    abbrev site : Site
-    site = siteOf (siteSlicesOf links lows highs costs spares)
-
-    abbrev stand : ℕ → ℕ → Bool
-    stand = offerOf lows r
-
-    abbrev held : ℕ → ℕ → Bool
-    held = offerOf highs r
-
-    apart : (i : ℕ) → i < links → item lows i ≡ item highs i → ⊥
-    apart i l e = let a = ends i l .rises in omega arith
-
-    apart-back : (i : ℕ) → i < links → item highs i ≡ item lows i → ⊥
-    apart-back i l e = apart i l (sym e)
-
-    standing-at : (v : ℕ) (q : ℕ → Bool) → count (2 * links) (λ f. (eqb (endOf lows highs f) v && q (f / 2)) && eqb (atSource r f) 1) ≡ linksAt table (λ i. q i && stand v i) v
-    standing-at v q = by-links links lows highs r v (touches table v) q apart (λ i. refl)
-
-    held-at : (v : ℕ) (q : ℕ → Bool) → count (2 * links) (λ f. (eqb (endOf highs lows f) v && q (f / 2)) && eqb (atSource r f) 1) ≡ linksAt table (λ i. q i && held v i) v
-    held-at v q = by-links links highs lows r v (touches table v) q apart-back (λ i. or-turn (eqb v (item lows i)) (eqb v (item highs i)))
-
-    -- with no test more
-    all-of : (e : ℕ → ℕ) (v : ℕ) → on site (atSource r) (λ f. eqb (e f) v) ≡ count (2 * links) (λ f. (eqb (e f) v && true) && eqb (atSource r f) 1)
-    all-of e v = weigh-same (2 * links) (λ f. eqb (e f) v && eqb (atSource r f) 1) (λ f. (eqb (e f) v && true) && eqb (atSource r f) 1) (λ f. 1) (λ f l. rw (and-true (eqb (e f) v)))
-
-    dearer-of : (e : ℕ → ℕ) (v d : ℕ) → d < 2 * links
-        → on site (atSource r) (λ f. eqb (e f) v && ltb (keyOf costs d) (keyOf costs f)) ≡ count (2 * links) (λ f. (eqb (e f) v && dearer table (f / 2) (d / 2)) && eqb (atSource r f) 1)
-    dearer-of e v d l =
-        weigh-same (2 * links) (λ f. (eqb (e f) v && ltb (keyOf costs d) (keyOf costs f)) && eqb (atSource r f) 1)
-        (λ f. (eqb (e f) v && dearer table (f / 2) (d / 2)) && eqb (atSource r f) 1) (λ f. 1) (λ f k. rw (key-dearer d f l k))
-
-    -- an offer that does not stand, by its direction d from u to w on the link i
-    why : (i u w d : ℕ) → i < links → d / 2 ≡ i → d < 2 * links → endOf lows highs d ≡ u → endOf highs lows d ≡ w → u < probes → (atSource r d ≡ 1 → ⊥)
-        → (spare table u ≤ dearerAt table (stand u) i u) ⊎ (spare table w ≤ dearerAt table (held w) i w)
-    why i u w d l e ld eu ew lu n = go (explained site (distinct links lows highs costs spares (over .ready .fits)) (atSource r) (over .ready .inv) d ld (over .done (endOf lows highs d) (rw eu lu)) n)
+    -- the keys' order is the table's
+    key-dearer : (d f : ℕ) → d < 2 * links → f < 2 * links → ltb (keyOf x d) (keyOf x f) ≡ dearer table (f / 2) (d / 2)
+    unfolding keyOf
+    key-dearer d f ld lf =
+        rw (k .costs-in d ld, k .costs-in f lf)
+        (same-bool (ltb (item costs (d / 2) * 65536 + d / 2) (item costs (f / 2) * 65536 + f / 2)) (dearer table (f / 2) (d / 2))
+        (λ e. on-dear table (good .order) (f / 2) (d / 2) (omega arith) (omega arith) (more (ltb-true _ _ e) (decLt (item costs (d / 2)) (item costs (f / 2)))))
+        (λ e. lt-ltb _ _ (less (dear table (good .order) (f / 2) (d / 2) (omega arith) (omega arith) e))))
       where
-        go : (item spares (endOf lows highs d) ≤ on site (atSource r) (λ f. eqb (endOf lows highs f) (endOf lows highs d) && ltb (keyOf costs d) (keyOf costs f)))
-            ⊎ WouldRefuse site (atSource r) d → (spare table u ≤ dearerAt table (stand u) i u) ⊎ (spare table w ≤ dearerAt table (held w) i w)
-        go (inl a) =
-            let x = rw (eu, e) at (dearer-of (endOf lows highs) (endOf lows highs d) d ld) in
-            let y = standing-at u (λ g. dearer table g i) in
-            let z = right u in
-            let b = rw eu at a in
-            inl (omega arith)
-        go (inr a) =
-            let x = rw (ew, e) at (dearer-of (endOf highs lows) (endOf highs lows d) d ld) in
-            let y = held-at w (λ g. dearer table g i) in
-            let z = right w in
-            let b = rw ew at a in
-            inr (omega arith)
+        few : links ≤ 2048
+        few = small .1
 
-    stand-low : (i : ℕ) → stand (item lows i) i ≡ eqb (atSource r (2 * i)) 1
-    stand-low i = rw (eq-eqb (item lows i) (item lows i) refl)
+        more : item costs (d / 2) * 65536 + d / 2 < item costs (f / 2) * 65536 + f / 2 → Dec (item costs (d / 2) < item costs (f / 2)) → Dear table (f / 2) (d / 2)
+        more l (yes a) = inl a
+        more l (no a) = let k = few in inr (omega arith)
 
-    stand-high : (i : ℕ) → i < links → stand (item highs i) i ≡ eqb (atSource r (2 * i + 1)) 1
-    stand-high i l = rw (ne-eqb (item highs i) (item lows i) (apart-back i l))
+        less : Dear table (f / 2) (d / 2) → item costs (d / 2) * 65536 + d / 2 < item costs (f / 2) * 65536 + f / 2
+        less (inl a) = let k = few in omega arith
+        less (inr a) = omega arith
 
-    not-one : (x : ℕ) → eqb x 1 ≡ false → x ≡ 1 → ⊥
-    not-one x e q = true≢false (sym (eq-eqb x 1 q) ∙ e)
+    module _ (right : (v : ℕ) → item spares v ≡ spare table v) where
+      spare-in : (v : ℕ) → v < probes → spareOf x v ≡ spare table v
+      spare-in v l = k .spares-in v l ∙ right v
 
-    settled : Settled table stand held
-    settled = record { same = same; standing = standing; holding = holding; explained = reason }
-      where
-        same : (i u w : ℕ) → i < links → Across table i u w → stand u i ≡ held w i
-        same i u w l up = rw (eq-eqb (item lows i) (item lows i) refl, eq-eqb (item highs i) (item highs i) refl)
-        same i u w l down = rw (ne-eqb (item highs i) (item lows i) (apart-back i l), ne-eqb (item lows i) (item highs i) (apart i l))
+      pub site-of-table : SiteOfTable table (siteOf x)
+      site-of-table =
+          record {
+            both = ap (λ (n : ℕ). 2 * n) (k .link-count);
+            up = λ i l. (source-from i l, k .targets i l .0);
+            down = λ i l. (source-back i l, k .targets i l .1);
+            order = rw (k .link-count) key-dearer;
+            spares = spare-in;
+          }
 
-        standing : (v : ℕ) → linksAt table (stand v) v ≤ spare table v
-        standing v =
-            let a = over .ready .inv .standing v in
-            let b = all-of (endOf lows highs) v in
-            let k = standing-at v (λ i. true) in
-            let e = right v in
-            omega arith
+      module _ (r : List ℕ) (over : Over x r probes) where
+        abbrev stand : ℕ → ℕ → Bool
+        stand = offerOf lows r
 
-        holding : (v : ℕ) → linksAt table (held v) v ≤ spare table v
-        holding v =
-            let a = over .ready .inv .holding v in
-            let b = all-of (endOf highs lows) v in
-            let k = held-at v (λ i. true) in
-            let e = right v in
-            omega arith
+        abbrev held : ℕ → ℕ → Bool
+        held = offerOf highs r
 
-        reason : (i u w : ℕ) → i < links → Across table i u w → stand u i ≡ false
+        apart : (i : ℕ) → i < links → item lows i ≡ item highs i → ⊥
+        apart i l e = let a = ends i l .rises in omega arith
+
+        apart-back : (i : ℕ) → i < links → item highs i ≡ item lows i → ⊥
+        apart-back i l e = apart i l (sym e)
+
+        standing-at : (v : ℕ) (q : ℕ → Bool) → count (2 * links) (λ f. (eqb (sourceOf x f) v && q (f / 2)) && eqb (atSource r f) 1) ≡ linksAt table (λ i. q i && stand v i) v
+        standing-at v q = by-links links lows highs r v (touches table v) q apart (λ i. refl) (sourceOf x) source-from source-back
+
+        held-at : (v : ℕ) (q : ℕ → Bool) → count (2 * links) (λ f. (eqb (targetOf x f) v && q (f / 2)) && eqb (atSource r f) 1) ≡ linksAt table (λ i. q i && held v i) v
+        held-at v q = by-links links highs lows r v (touches table v) q apart-back (λ i. or-turn (eqb v (item lows i)) (eqb v (item highs i))) (targetOf x) (λ i l. k .targets i l .0) (λ i l. k .targets i l .1)
+
+        -- with no test more
+        all-of : (e : ℕ → ℕ) (v : ℕ) → on (siteOf x) (atSource r) (λ f. eqb (e f) v) ≡ count (2 * links) (λ f. (eqb (e f) v && true) && eqb (atSource r f) 1)
+        all-of e v = rw (k .link-count) (weigh-same (2 * links) (λ f. eqb (e f) v && eqb (atSource r f) 1) (λ f. (eqb (e f) v && true) && eqb (atSource r f) 1) (λ f. 1) (λ f l. rw (and-true (eqb (e f) v))))
+
+        dearer-of : (e : ℕ → ℕ) (v d : ℕ) → d < 2 * links
+            → on (siteOf x) (atSource r) (λ f. eqb (e f) v && ltb (keyOf x d) (keyOf x f)) ≡ count (2 * links) (λ f. (eqb (e f) v && dearer table (f / 2) (d / 2)) && eqb (atSource r f) 1)
+        dearer-of e v d l =
+            rw (k .link-count) (weigh-same (2 * links) (λ f. (eqb (e f) v && ltb (keyOf x d) (keyOf x f)) && eqb (atSource r f) 1)
+            (λ f. (eqb (e f) v && dearer table (f / 2) (d / 2)) && eqb (atSource r f) 1) (λ f. 1) (λ f m. rw (key-dearer d f l m)))
+
+        -- an offer that does not stand, by its direction d from u to w on the link i
+        why : (i u w d : ℕ) → i < links → d / 2 ≡ i → d < 2 * links → sourceOf x d ≡ u → targetOf x d ≡ w → u < probes → w < probes → (atSource r d ≡ 1 → ⊥)
             → (spare table u ≤ dearerAt table (stand u) i u) ⊎ (spare table w ≤ dearerAt table (held w) i w)
-        reason i u w l up e =
-            let x = ends i l .rises in
-            let y = ends i l .below in
-            why i (item lows i) (item highs i) (2 * i) l (omega arith) (omega arith) (end-from lows highs i) (end-from highs lows i) (omega arith)
-            (not-one (atSource r (2 * i)) (sym (stand-low i) ∙ e))
-        reason i u w l down e =
-            let y = ends i l .below in
-            why i (item highs i) (item lows i) (2 * i + 1) l (omega arith) (omega arith) (end-back lows highs i) (end-back highs lows i) (omega arith)
-            (not-one (atSource r (2 * i + 1)) (sym (stand-high i l) ∙ e))
+        why i u w d l e ld eu ew lu lw n = go (explained (siteOf x) (distinct x (over .ready .fits)) (atSource r) (over .ready .inv) d (rw (k .link-count) ld) (over .done (sourceOf x d) (rw eu lu)) n)
+          where
+            go : (spareOf x (sourceOf x d) ≤ on (siteOf x) (atSource r) (λ f. eqb (sourceOf x f) (sourceOf x d) && ltb (keyOf x d) (keyOf x f)))
+                ⊎ WouldRefuse (siteOf x) (atSource r) d → (spare table u ≤ dearerAt table (stand u) i u) ⊎ (spare table w ≤ dearerAt table (held w) i w)
+            go (inl a) =
+                let h = rw (eu, e) at (dearer-of (sourceOf x) (sourceOf x d) d ld) in
+                let y = standing-at u (λ g. dearer table g i) in
+                let z = spare-in u lu in
+                let b = rw eu at a in
+                inl (omega arith)
+            go (inr a) =
+                let h = rw (ew, e) at (dearer-of (targetOf x) (targetOf x d) d ld) in
+                let y = held-at w (λ g. dearer table g i) in
+                let z = spare-in w lw in
+                let b = rw ew at a in
+                inr (omega arith)
 
-    pub plan-bytes : (plan : List ℕ) → stored (keptByte r) links plan ≡ stored (λ i. cond (kept table i) 1 0) links plan
-    plan-bytes plan = stored-same (keptByte r) (λ i. cond (kept table i) 1 0) links plan byte
-      where
-        byte : (i : ℕ) → i < links → keptByte r i ≡ cond (kept table i) 1 0
-        byte i l =
-            let p = settled-is-plan table (good .order) stand held settled i l in
-            let t = over .ready .paired .twin in
-            turn-byte (eqb (atTarget r (2 * i)) 1) (eqb (atTarget r (2 * i + 1)) 1) (rested table i)
-            (ap (λ (x : ℕ). eqb x 1) (t (2 * i)) ∙ sym (stand-low i) ∙ p .0) (ap (λ (x : ℕ). eqb x 1) (t (2 * i + 1)) ∙ sym (stand-high i l) ∙ p .1)
+        stand-low : (i : ℕ) → stand (item lows i) i ≡ eqb (atSource r (2 * i)) 1
+        stand-low i = rw (eq-eqb (item lows i) (item lows i) refl)
+
+        stand-high : (i : ℕ) → i < links → stand (item highs i) i ≡ eqb (atSource r (2 * i + 1)) 1
+        stand-high i l = rw (ne-eqb (item highs i) (item lows i) (apart-back i l))
+
+        not-one : (x : ℕ) → eqb x 1 ≡ false → x ≡ 1 → ⊥
+        not-one x e q = true≢false (sym (eq-eqb x 1 q) ∙ e)
+
+        settled : Settled table stand held
+        settled = record { same = same; standing = standing; holding = holding; explained = reason }
+          where
+            same : (i u w : ℕ) → i < links → Across table i u w → stand u i ≡ held w i
+            same i u w l up = rw (eq-eqb (item lows i) (item lows i) refl, eq-eqb (item highs i) (item highs i) refl)
+            same i u w l down = rw (ne-eqb (item highs i) (item lows i) (apart-back i l), ne-eqb (item lows i) (item highs i) (apart i l))
+
+            standing : (v : ℕ) → linksAt table (stand v) v ≤ spare table v
+            standing v = go (decLt v probes)
+              where
+                go : Dec (v < probes) → linksAt table (stand v) v ≤ spare table v
+                go (yes l) =
+                    let a = over .ready .inv .standing v in
+                    let b = all-of (sourceOf x) v in
+                    let h = standing-at v (λ i. true) in
+                    let e = spare-in v l in
+                    omega arith
+                go (no n) = let a = no-links (stand v) v (omega arith) in omega arith
+
+            holding : (v : ℕ) → linksAt table (held v) v ≤ spare table v
+            holding v = go (decLt v probes)
+              where
+                go : Dec (v < probes) → linksAt table (held v) v ≤ spare table v
+                go (yes l) =
+                    let a = over .ready .inv .holding v in
+                    let b = all-of (targetOf x) v in
+                    let h = held-at v (λ i. true) in
+                    let e = spare-in v l in
+                    omega arith
+                go (no n) = let a = no-links (held v) v (omega arith) in omega arith
+
+            reason : (i u w : ℕ) → i < links → Across table i u w → stand u i ≡ false
+                → (spare table u ≤ dearerAt table (stand u) i u) ⊎ (spare table w ≤ dearerAt table (held w) i w)
+            reason i u w l up e =
+                let z = ends i l .rises in
+                let y = ends i l .below in
+                why i (item lows i) (item highs i) (2 * i) l (omega arith) (omega arith) (source-from i l) (k .targets i l .0) (omega arith) (omega arith)
+                (not-one (atSource r (2 * i)) (sym (stand-low i) ∙ e))
+            reason i u w l down e =
+                let z = ends i l .rises in
+                let y = ends i l .below in
+                why i (item highs i) (item lows i) (2 * i + 1) l (omega arith) (omega arith) (source-back i l) (k .targets i l .1) (omega arith) (omega arith)
+                (not-one (atSource r (2 * i + 1)) (sym (stand-high i l) ∙ e))
+
+        pub plan-bytes : (plan : List ℕ) → stored (keptByte r) links plan ≡ stored (λ i. cond (kept table i) 1 0) links plan
+        plan-bytes plan = stored-same (keptByte r) (λ i. cond (kept table i) 1 0) links plan byte
+          where
+            byte : (i : ℕ) → i < links → keptByte r i ≡ cond (kept table i) 1 0
+            byte i l =
+                let p = settled-is-plan table (good .order) stand held settled i l in
+                let t = over .ready .paired .twin in
+                turn-byte (eqb (atTarget r (2 * i)) 1) (eqb (atTarget r (2 * i + 1)) 1) (rested table i)
+                (ap (λ (x : ℕ). eqb x 1) (t (2 * i)) ∙ sym (stand-low i) ∙ p .0) (ap (λ (x : ℕ). eqb x 1) (t (2 * i + 1)) ∙ sym (stand-high i l) ∙ p .1)
 
 -- the spares, of the counted links
 pub spares-right : (probes links : ℕ) (needs lows highs counts spares : List ℕ) → ((i : ℕ) → i < links → Ends probes (item lows i) (item highs i))

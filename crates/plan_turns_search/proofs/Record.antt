@@ -1,57 +1,83 @@
 -- Laws of the working bytes and of the site that the slices give.
-use Prim.Native.Nat.{ℕ, _+_, _*_, _/_, _%_, _≤_, _<_}
-use mathlib.Core.Path.{_≡_, sym, _∙_, ap}
-use mathlib.Core.Logic.{_↔_}
-use mathlib.Core.Bool.{true, or-false}
+use Prim.Native.Nat.{ℕ, _+_, _-_, _*_, _/_, _%_, _≤_, _<_}
+use mathlib.Core.Path.{_≡_, refl, sym, _∙_, ap}
+use mathlib.Core.Logic.{_↔_, _⊎_, inl, inr}
+use mathlib.Core.Bool.{true}
 use mathlib.Core.List.{List}
 use native.Mathlib.Omega.{arith}
 use native.Mathlib.Decide.{ℕ-discrete}
 use lib.Dec.{ltb, eqb}
 use lib.ListN.{length, set, length-set}
 use lib.Seq.{getD-set-same, getD-set-other}
-use borrow.Author.Tests.{ltb-true, lt-ltb, eqb-true, eq-eqb, ne-eqb, le-ltb}
+use borrow.Author.Tests.{ltb-true, lt-ltb, eqb-true, eq-eqb, ne-eqb}
 use Rattle.range.proofs.Bools.{same-bool}
 use Rattle.range.proofs.Sums.{weigh-le, count-less}
-use Rattle.table.specs.Table.{item, dearerByPlace}
-use Rattle.plan_turns_search.specs.Record.{atSource, atTarget, endOf, keyOf, siteOf, put, untriedCount, SiteInSlices, Paired, SiteSlices, OffersReady, siteSlicesOf}
+use Rattle.plan_turns_search.specs.Chain.{opposite}
+use Rattle.plan_turns_search.specs.Record.{atSource, atTarget, probesOf, linksOf, ofDirection, targetOf, sourceOf, keyOf, siteOf, put, untriedCount, SiteInSlice, Paired, OffersReady}
 use Rattle.plan_turns_search.specs.Offers.{WouldTake, WouldRefuse}
 use Rattle.plan_turns_search.proofs.Taking.{Distinct, not-taken, not-taken-count}
 
-pub end-even : (a b : List ℕ) (d : ℕ) → d % 2 ≡ 0 → endOf a b d ≡ item a (d / 2)
-unfolding endOf
-end-even a b d e = rw (eq-eqb (d % 2) 0 e)
+-- the other way
+opposite-even : (d : ℕ) → d % 2 ≡ 0 → opposite d ≡ d + 1
+unfolding opposite
+opposite-even d e = rw (eq-eqb (d % 2) 0 e)
 
-pub end-odd : (a b : List ℕ) (d : ℕ) → (d % 2 ≡ 0 → ⊥) → endOf a b d ≡ item b (d / 2)
-unfolding endOf
-end-odd a b d n = rw (ne-eqb (d % 2) 0 n)
+opposite-odd : (d : ℕ) → (d % 2 ≡ 0 → ⊥) → opposite d ≡ d - 1
+unfolding opposite
+opposite-odd d n = rw (ne-eqb (d % 2) 0 n)
 
-pub end-from : (a b : List ℕ) (i : ℕ) → endOf a b (2 * i) ≡ item a i
-end-from a b i = end-even a b (2 * i) (omega arith) ∙ (let e : 2 * i / 2 ≡ i = omega arith in rw e)
+pub opposite-from : (i : ℕ) → opposite (2 * i) ≡ 2 * i + 1
+opposite-from i = opposite-even (2 * i) (omega arith)
 
-pub end-back : (a b : List ℕ) (i : ℕ) → endOf a b (2 * i + 1) ≡ item b i
-end-back a b i = end-odd a b (2 * i + 1) (λ z. omega arith) ∙ (let e : (2 * i + 1) / 2 ≡ i = omega arith in rw e)
+pub opposite-back : (i : ℕ) → opposite (2 * i + 1) ≡ 2 * i
+opposite-back i = opposite-odd (2 * i + 1) (λ z. omega arith) ∙ (let e : 2 * i + 1 - 1 ≡ 2 * i = omega arith in e)
+
+pub opposite-half : (d : ℕ) → opposite d / 2 ≡ d / 2
+opposite-half d = go (ℕ-discrete (d % 2) 0)
+  where
+    go : Dec (d % 2 ≡ 0) → opposite d / 2 ≡ d / 2
+    go (yes e) = rw (opposite-even d e) (omega arith)
+    go (no n) = rw (opposite-odd d n) (omega arith)
+
+pub opposite-below : (links d : ℕ) → d < 2 * links → opposite d < 2 * links
+opposite-below links d l = let a = opposite-half d in omega arith
+
+opposite-twice : (d : ℕ) → opposite (opposite d) ≡ d
+opposite-twice d = go (ℕ-discrete (d % 2) 0)
+  where
+    go : Dec (d % 2 ≡ 0) → opposite (opposite d) ≡ d
+    go (yes e) = let h = opposite-even d e in let k = opposite-odd (opposite d) (λ z. omega arith) in omega arith
+    go (no n) = let h = opposite-odd d n in let k = opposite-even (opposite d) (omega arith) in omega arith
+
+-- a link's two directions
+same-link : (f g : ℕ) → f / 2 ≡ g / 2 → (f ≡ g) ⊎ (f ≡ opposite g)
+same-link f g e = go (ℕ-discrete (g % 2) 0) (ℕ-discrete f g)
+  where
+    go : Dec (g % 2 ≡ 0) → Dec (f ≡ g) → (f ≡ g) ⊎ (f ≡ opposite g)
+    go x (yes q) = inl q
+    go (yes x) (no n) = inr (let h = opposite-even g x in omega (arith, n))
+    go (no x) (no n) = inr (let h = opposite-odd g x in omega (arith, n))
+
+pub opposite-source : (slice : List ℕ) (d : ℕ) → sourceOf slice (opposite d) ≡ targetOf slice d
+opposite-source slice d = ap (targetOf slice) (opposite-twice d)
+
+pub opposite-target : (slice : List ℕ) (d : ℕ) → targetOf slice (opposite d) ≡ sourceOf slice d
+opposite-target slice d = refl
 
 same-test : (a b c d : ℕ) → (a < b → c < d) → (c < d → a < b) → ltb a b ≡ ltb c d
 same-test a b c d f g = same-bool (ltb a b) (ltb c d) (λ e. lt-ltb c d (f (ltb-true a b e))) (λ e. lt-ltb a b (g (ltb-true c d e)))
 
 -- the order of the keys, at unequal and at equal costs
-module _ (costs : List ℕ) (f d : ℕ) (lf : f < 131072) (ld : d < 131072) where
-  pub key-by-cost : (item costs (f / 2) ≡ item costs (d / 2) → ⊥) → ltb (keyOf costs f) (keyOf costs d) ≡ ltb (item costs (f / 2)) (item costs (d / 2))
+module _ (slice : List ℕ) (f d : ℕ) (lf : f < 131072) (ld : d < 131072) where
+  pub key-by-cost : (ofDirection slice f 1 ≡ ofDirection slice d 1 → ⊥) → ltb (keyOf slice f) (keyOf slice d) ≡ ltb (ofDirection slice f 1) (ofDirection slice d 1)
   unfolding keyOf
   key-by-cost n =
-      same-test (item costs (f / 2) * 65536 + f / 2) (item costs (d / 2) * 65536 + d / 2) (item costs (f / 2)) (item costs (d / 2)) (λ a. omega (arith, n)) (λ a. omega arith)
+      same-test (ofDirection slice f 1 * 65536 + f / 2) (ofDirection slice d 1 * 65536 + d / 2) (ofDirection slice f 1) (ofDirection slice d 1) (λ a. omega (arith, n)) (λ a. omega arith)
 
-  pub key-by-place : item costs (f / 2) ≡ item costs (d / 2) → ltb (keyOf costs f) (keyOf costs d) ≡ ltb (f / 2) (d / 2)
+  pub key-by-place : ofDirection slice f 1 ≡ ofDirection slice d 1 → ltb (keyOf slice f) (keyOf slice d) ≡ ltb (f / 2) (d / 2)
   unfolding keyOf
   key-by-place e =
-      same-test (item costs (f / 2) * 65536 + f / 2) (item costs (d / 2) * 65536 + d / 2) (f / 2) (d / 2) (λ a. omega arith) (λ a. omega arith)
-
-pub cheaper-key : (costs : List ℕ) (f d : ℕ) → f < 131072 → d < 131072 → dearerByPlace (item costs) (d / 2) (f / 2) ≡ ltb (keyOf costs f) (keyOf costs d)
-cheaper-key costs f d lf ld = go (ℕ-discrete (item costs (f / 2)) (item costs (d / 2)))
-  where
-    go : Dec (item costs (f / 2) ≡ item costs (d / 2)) → dearerByPlace (item costs) (d / 2) (f / 2) ≡ ltb (keyOf costs f) (keyOf costs d)
-    go (yes e) = rw (key-by-place costs f d lf ld e, le-ltb (item costs (f / 2)) (item costs (d / 2)) (omega arith), eq-eqb (item costs (d / 2)) (item costs (f / 2)) (sym e))
-    go (no n) = rw (key-by-cost costs f d lf ld n, ne-eqb (item costs (d / 2)) (item costs (f / 2)) (λ z. n (sym z))) (or-false (ltb (item costs (f / 2)) (item costs (d / 2))))
+      same-test (ofDirection slice f 1 * 65536 + f / 2) (ofDirection slice d 1 * 65536 + d / 2) (f / 2) (d / 2) (λ a. omega arith) (λ a. omega arith)
 
 pub length-put : (r : List ℕ) (d b : ℕ) → length (put r d b) ≡ length r
 unfolding put
@@ -99,56 +125,38 @@ module _ (links : ℕ) (r r′ : List ℕ) (tried : (e : ℕ) → atSource r′ 
   untried-less d l z n =
       count-less (2 * links) (λ e. eqb (atSource r′ e) 0) (λ e. eqb (atSource r e) 0) d zero-was l (ne-eqb (atSource r′ d) 0 n) (eq-eqb (atSource r d) 0 z)
 
--- one end and one key: one direction
-same-direction : (links : ℕ) (a b costs : List ℕ) → links ≤ 2048 → ((i : ℕ) → i < links → item a i ≡ item b i → ⊥)
-    → (f g : ℕ) → f < 2 * links → g < 2 * links → endOf a b f ≡ endOf a b g → keyOf costs f ≡ keyOf costs g → f ≡ g
-unfolding keyOf
-same-direction links a b costs few apart f g lf lg e k = go (ℕ-discrete (f % 2) 0) (ℕ-discrete (g % 2) 0)
-  where
-    place : f / 2 ≡ g / 2
-    place = omega arith
+module _ (slice : List ℕ) (fits : SiteInSlice slice) where
+  pub opposite-key : (d : ℕ) → d < 2 * linksOf slice → keyOf slice (opposite d) ≡ keyOf slice d
+  unfolding keyOf
+  opposite-key d l = let a = fits .one-cost d l in let b = opposite-half d in omega arith
 
-    go : Dec (f % 2 ≡ 0) → Dec (g % 2 ≡ 0) → f ≡ g
-    go (yes x) (yes y) = let p = place in omega arith
-    go (yes x) (no y) =
-        absurd (apart (f / 2) (omega arith) (sym (end-even a b f x) ∙ e ∙ end-odd a b g y ∙ ap (item b) (sym place)))
-    go (no x) (yes y) =
-        absurd (apart (g / 2) (omega arith) (sym (end-even a b g y) ∙ sym e ∙ end-odd a b f x ∙ ap (item b) place))
-    go (no x) (no y) = let p = place in omega arith
+  -- one key: one link
+  one-link : (f g : ℕ) → f < 2 * linksOf slice → g < 2 * linksOf slice → keyOf slice f ≡ keyOf slice g → (f ≡ g) ⊎ (f ≡ opposite g)
+  unfolding keyOf
+  one-link f g lf lg e = same-link f g (let a = fits .few in omega arith)
 
-module _ (links : ℕ) (lows highs costs spares : List ℕ) (fits : SiteInSlices (siteSlicesOf links lows highs costs spares)) where
-  pub distinct : Distinct (siteOf (siteSlicesOf links lows highs costs spares))
+  pub distinct : Distinct (siteOf slice)
   distinct =
       record {
-        sources = same-direction links lows highs costs (fits .few) (λ i l e. let a = fits .rises i l in omega arith);
-        targets = same-direction links highs lows costs (fits .few) (λ i l e. let a = fits .rises i l in omega arith);
+        sources = λ f g lf lg e k. source f g lg e (one-link f g lf lg k);
+        targets = λ f g lf lg e k. target f g lg e (one-link f g lf lg k);
       }
-
-  -- each end has a spare
-  pub source-below : (d : ℕ) → d < 2 * links → endOf lows highs d < length spares
-  source-below d l = go (ℕ-discrete (d % 2) 0)
     where
-      go : Dec (d % 2 ≡ 0) → endOf lows highs d < length spares
-      go (yes e) =
-          let a = fits .rises (d / 2) (omega arith) in
-          let b = fits .ends (d / 2) (omega arith) in
-          rw (end-even lows highs d e) (omega arith)
-      go (no n) = rw (end-odd lows highs d n) (fits .ends (d / 2) (omega arith))
+      source : (f g : ℕ) → g < 2 * linksOf slice → sourceOf slice f ≡ sourceOf slice g → (f ≡ g) ⊎ (f ≡ opposite g) → f ≡ g
+      source f g lg e (inl q) = q
+      source f g lg e (inr q) = absurd (fits .apart g lg (sym (opposite-source slice g) ∙ ap (sourceOf slice) (sym q) ∙ e))
 
-  pub target-below : (d : ℕ) → d < 2 * links → endOf highs lows d < length spares
-  target-below d l = go (ℕ-discrete (d % 2) 0)
-    where
-      go : Dec (d % 2 ≡ 0) → endOf highs lows d < length spares
-      go (yes e) = rw (end-even highs lows d e) (fits .ends (d / 2) (omega arith))
-      go (no n) =
-          let a = fits .rises (d / 2) (omega arith) in
-          let b = fits .ends (d / 2) (omega arith) in
-          rw (end-odd highs lows d n) (omega arith)
+      target : (f g : ℕ) → g < 2 * linksOf slice → targetOf slice f ≡ targetOf slice g → (f ≡ g) ⊎ (f ≡ opposite g) → f ≡ g
+      target f g lg e (inl q) = q
+      target f g lg e (inr q) = absurd (fits .apart g lg (sym e ∙ ap (targetOf slice) q))
+
+  pub source-below : (d : ℕ) → d < 2 * linksOf slice → sourceOf slice d < probesOf slice
+  source-below d l = fits .ends (opposite d) (opposite-below (linksOf slice) d l)
 
 -- an untried offer would not be taken exactly when its target holds its spare of dearer ones
-pub would-refuse : (x : SiteSlices) (r : List ℕ) → OffersReady x r → (d : ℕ) → d < 2 * x .links → atSource r d ≡ 0
+pub would-refuse : (x r : List ℕ) → OffersReady x r → (d : ℕ) → d < 2 * linksOf x → atSource r d ≡ 0
     → WouldRefuse (siteOf x) (atSource r) d ↔ (WouldTake (siteOf x) (atSource r) d → ⊥)
 would-refuse x r ready d l z = (
   not-taken (siteOf x) (atSource r) (ready .inv .holding) d,
-  not-taken-count (siteOf x) (atSource r) (ready .inv .holding) d (distinct (x .links) (x .lows) (x .highs) (x .costs) (x .spares) (ready .fits)) l z,
+  not-taken-count (siteOf x) (atSource r) (ready .inv .holding) d (distinct x (ready .fits)) l z,
 )

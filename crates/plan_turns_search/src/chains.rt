@@ -1,49 +1,77 @@
-// Each probe's links in chains, down from its dearest and up from its cheapest.
+// The site in one slice, with each probe's links in chains, down from its dearest and up from its cheapest.
 ghost use mathlib.Core.Path.{_≡_};
-ghost use mathlib.Core.List.{[]};
-ghost use Prim.Native.Nat.{ℕ, _+_, _*_, _-_, _<_, _≤_};
+ghost use Prim.Native.Nat.{ℕ, _+_, _*_, _/_, _-_, _<_, _≤_};
 ghost use lib.ListN.{length, set};
 ghost use Rattle.range.specs.Lists.{stored};
 ghost use Rattle.table.specs.Table.{item};
-ghost use Rattle.plan_turns_search.specs.Chain.{DownChains, UpChains, Started, LinkedBy};
-ghost use Rattle.plan_turns_search.specs.Record.{siteSlicesOf, FirstMarks};
+ghost use Rattle.plan_turns_search.specs.Chain.{LinkedBy};
+ghost use Rattle.plan_turns_search.specs.Record.{ofDirection, mark, firstMark, SiteInSlice, SiteOfLinks, Started, LinkPut, LinksPut, SparesPut};
+use super::directions::COST;
 use super::directions::HELD_CURSOR;
+use super::directions::LINKS;
 use super::directions::OFFER_CURSOR;
+use super::directions::PROBES;
+use super::directions::TARGET;
 use super::directions::entry;
+use super::directions::of_probe;
+use super::directions::set_of_direction;
+use super::directions::set_of_probe;
 use super::directions::store;
 
-// Puts the two directions of the link i at the heads of its ends' chains.
-fn push(heads: &mut [u16], nexts: &mut [u16], i: usize, low: usize, high: usize)
-    requires { ⌜ (i < 2048) × (low < high) × (high < length (now heads)) × (2 * i + 1 < length (now nexts)) ⌝ }
-    ensures { λ _. ⌜ (now (heads .exit) ≡ set (set (now (heads .entry)) low (2 * i)) high (2 * i + 1))
-        × (now (nexts .exit) ≡ set (set (now (nexts .entry)) (2 * i) (item (now (heads .entry)) low)) (2 * i + 1) (item (now (heads .entry)) high)) ⌝ }
+fn first_mark(j: usize) -> u16
+    ensures { λ r. ⌜ r ≡ firstMark j ⌝ }
 {
-    nexts[2 * i] = heads[low];
-    nexts[2 * i + 1] = heads[high];
-    heads[low] = (2 * i) as u16;
-    heads[high] = (2 * i + 1) as u16;
+    if j % 4 < OFFER_CURSOR { 0 } else { 65535 }
+}
+
+// No offers, and no links where the searches start.
+fn start_marks(marks: &mut [u16])
+    ensures { λ _. ⌜ now (marks .exit) ≡ stored firstMark (length (now (marks .entry))) (now (marks .entry)) ⌝ }
+{
+    let mut j = 0;
+    while j < marks.len() {
+        marks[j] = first_mark(j);
+        j += 1;
+    }
+}
+
+// Puts the two directions of the link i at the heads of its ends' chains. The heads are the k-th of the probes' entries, and what
+// follows a direction the k-th of its own.
+fn push(marks: &mut [u16], site: &mut [u16], k: usize, i: usize, low: usize, high: usize)
+    requires { ⌜ (i < 2048) × (4 * low + k < length (now marks)) × (4 * high + k < length (now marks)) × (4 * (2 * i + 1) + k + 2 < length (now site)) ⌝ }
+    ensures { λ _. ⌜ (now (marks .exit) ≡ set (set (now (marks .entry)) (4 * low + k) (2 * i)) (4 * high + k) (2 * i + 1))
+        × (now (site .exit) ≡ set (set (now (site .entry)) (4 * (2 * i) + k + 2) (mark (now (marks .entry)) low k)) (4 * (2 * i + 1) + k + 2) (mark (now (marks .entry)) high k)) ⌝ }
+{
+    set_of_direction(site, 2 * i, k, of_probe(marks, low, k));
+    set_of_direction(site, 2 * i + 1, k, of_probe(marks, high, k));
+    set_of_probe(marks, low, k, 2 * i);
+    set_of_probe(marks, high, k, 2 * i + 1);
 }
 
 // Puts the links into chains, from the last of the order up.
 fn chain_links(
-    heads: &mut [u16],
-    nexts: &mut [u16],
+    marks: &mut [u16],
+    site: &mut [u16],
+    k: usize,
     links: usize,
     lows: &[u16],
     highs: &[u16],
     order: &[u16],
 )
-    requires { ⌜ (links ≤ 2048) × (links ≤ length (now lows)) × (links ≤ length (now highs)) × (links ≤ length (now order)) × (2 * links ≤ length (now nexts))
-        × ((i : ℕ) → i < links → (item (now lows) i < item (now highs) i) × (item (now highs) i < length (now heads)))
-        × ((k : ℕ) → k < links → item (now order) k < links)
-        × ((v : ℕ) → v < length (now heads) → 2 * links ≤ item (now heads) v) ⌝ }
-    ensures { λ _. ⌜ LinkedBy links (now (lows .entry)) (now (highs .entry)) (now (order .entry)) (now (heads .exit)) (now (nexts .exit)) ⌝ }
+    requires { ⌜ (k < 4) × (links ≤ 2048) × (links ≤ length (now lows)) × (links ≤ length (now highs)) × (links ≤ length (now order)) × (8 * links + 2 ≤ length (now site))
+        × ((i : ℕ) → i < links → (item (now lows) i < item (now highs) i) × (item (now highs) i < length (now marks) / 4))
+        × ((j : ℕ) → j < links → item (now order) j < links)
+        × ((v : ℕ) → v < length (now marks) / 4 → 2 * links ≤ mark (now marks) v k) ⌝ }
+    ensures { λ _. let after = now (site .exit) in let marks-after = now (marks .exit) in
+        ⌜ LinkedBy (length (now (marks .entry)) / 4) links (now (lows .entry)) (now (highs .entry)) (now (order .entry)) (λ v. mark marks-after v k) (λ d. ofDirection after d k)
+        × ((v j : ℕ) → j < 4 → (j ≡ k → ⊥) → mark marks-after v j ≡ mark (now (marks .entry)) v j)
+        × ((d j : ℕ) → j < 4 → (j ≡ k → ⊥) → ofDirection after d j ≡ ofDirection (now (site .entry)) d j) ⌝ }
 {
-    let mut k = links;
-    while 0 < k {
-        k -= 1;
-        let i = entry(order, k);
-        push(heads, nexts, i, entry(lows, i), entry(highs, i));
+    let mut n = links;
+    while 0 < n {
+        n -= 1;
+        let i = entry(order, n);
+        push(marks, site, k, i, entry(lows, i), entry(highs, i));
     }
 }
 
@@ -59,42 +87,87 @@ fn turn_round(to: &mut [u16], from: &[u16], links: usize)
     }
 }
 
-// Stores where each probe's searches start, into zeros.
-fn start_marks(marks: &mut [u16], cursors: &[u16], lasts: &[u16])
-    requires { ⌜ (length (now marks) ≡ 1024) × (length (now cursors) ≡ 256) × (length (now lasts) ≡ 256) × ((j : ℕ) → item (now marks) j ≡ 0) ⌝ }
-    ensures { λ _. ⌜ FirstMarks (now (cursors .entry)) (now (lasts .entry)) (now (marks .exit)) 256 ⌝ }
+// Stores the targets and the cost of the two directions of the link i.
+fn put_link(site: &mut [u16], i: usize, low: usize, high: usize, cost: usize)
+    requires { ⌜ (8 * i + 9 < length (now site)) × (low < 65536) × (high < 65536) × (cost < 65536) ⌝ }
+    ensures { λ _. ⌜ LinkPut i low high cost (now (site .entry)) (now (site .exit)) ⌝ }
+{
+    set_of_direction(site, 2 * i, TARGET, high);
+    set_of_direction(site, 2 * i + 1, TARGET, low);
+    set_of_direction(site, 2 * i, COST, cost);
+    set_of_direction(site, 2 * i + 1, COST, cost);
+}
+
+fn put_links(site: &mut [u16], links: usize, lows: &[u16], highs: &[u16], costs: &[u16])
+    requires { ⌜ (links ≤ 2048) × (links ≤ length (now lows)) × (links ≤ length (now highs)) × (links ≤ length (now costs)) × (8 * links + 2 ≤ length (now site)) ⌝ }
+    ensures { λ _. ⌜ LinksPut links (now (lows .entry)) (now (highs .entry)) (now (costs .entry)) (now (site .entry)) (now (site .exit)) ⌝ }
+{
+    let mut i = 0;
+    while i < links {
+        put_link(site, i, entry(lows, i), entry(highs, i), entry(costs, i));
+        i += 1;
+    }
+}
+
+// Stores the spares behind the directions.
+fn put_spares(site: &mut [u16], probes: usize, links: usize, spares: &[u16])
+    requires { ⌜ (links ≤ 2048) × (probes ≤ 256) × (probes ≤ length (now spares)) × (8 * links + probes + 2 ≤ length (now site)) ⌝ }
+    ensures { λ _. ⌜ SparesPut probes links (now (spares .entry)) (now (site .entry)) (now (site .exit)) ⌝ }
 {
     let mut v = 0;
-    while v < 256 {
-        store(marks, 4 * v + OFFER_CURSOR, entry(cursors, v));
-        store(marks, 4 * v + HELD_CURSOR, entry(lasts, v));
+    while v < probes {
+        store(site, 8 * links + v + 2, entry(spares, v));
         v += 1;
     }
 }
 
-// Each probe's links in chains, down from its dearest and up from its cheapest, where the searches start.
-pub fn link_up(
-    marks: &mut [u16],
-    nexts: &mut [u16],
-    ups: &mut [u16],
+// Stores all but the chains.
+fn put_site(
+    site: &mut [u16],
+    probes: usize,
     links: usize,
     lows: &[u16],
     highs: &[u16],
     costs: &[u16],
+    spares: &[u16],
 )
-    requires { ⌜ (links ≤ 2048) × (links ≤ length (now lows)) × (links ≤ length (now highs)) × (links ≤ length (now costs))
-        × ((i : ℕ) → i < links → (item (now lows) i < item (now highs) i) × (item (now highs) i < 256))
-        × (length (now marks) ≡ 1024) × ((j : ℕ) → item (now marks) j ≡ 0) × (2 * links ≤ length (now nexts)) × (2 * links ≤ length (now ups)) ⌝ }
-    ensures { λ _. let x = siteSlicesOf links (now (lows .entry)) (now (highs .entry)) (now (costs .entry)) [] in
-        ⌜ Started x (now (marks .exit)) × DownChains x (now (nexts .exit)) × UpChains x (now (ups .exit)) ⌝ }
+    requires { ⌜ (links ≤ 2048) × (probes ≤ 256) × (links ≤ length (now lows)) × (links ≤ length (now highs)) × (links ≤ length (now costs)) × (probes ≤ length (now spares))
+        × (8 * links + probes + 2 ≤ length (now site)) ⌝ }
+    ensures { λ _. let x = now (site .exit) in
+        ⌜ SiteOfLinks probes links (now (lows .entry)) (now (highs .entry)) (now (costs .entry)) (now (spares .entry)) x
+        × ((d k : ℕ) → 2 ≤ k → k < 4 → d < 2 * links → ofDirection x d k ≡ ofDirection (now (site .entry)) d k) ⌝ }
 {
-    let mut order = [0u16; 2048];
-    plan_order::sorting::order_links(&mut order, links, costs);
-    let mut turned = [0u16; 2048];
-    turn_round(&mut turned, &order, links);
-    let mut cursors = [65535u16; 256];
-    chain_links(&mut cursors, nexts, links, lows, highs, &order);
-    let mut lasts = [65535u16; 256];
-    chain_links(&mut lasts, ups, links, lows, highs, &turned);
-    start_marks(marks, &cursors, &lasts);
+    put_links(site, links, lows, highs, costs);
+    put_spares(site, probes, links, spares);
+    store(site, PROBES, probes);
+    store(site, LINKS, links);
+}
+
+// The site, and the probes' marks before the first offer. It works in `order`, `half` and `counts`.
+pub fn link_up(
+    marks: &mut [u16],
+    site: &mut [u16],
+    order: &mut [u16],
+    half: &mut [u16],
+    counts: &mut [usize],
+    probes: usize,
+    links: usize,
+    lows: &[u16],
+    highs: &[u16],
+    costs: &[u16],
+    spares: &[u16],
+)
+    requires { ⌜ (links ≤ 2048) × (probes ≤ 256) × (links ≤ length (now lows)) × (links ≤ length (now highs)) × (links ≤ length (now costs)) × (probes ≤ length (now spares))
+        × (links ≤ length (now order)) × (links ≤ length (now half)) × (1 < length (now counts)) × (length (now counts) ≤ 256)
+        × (4 * probes ≤ length (now marks)) × (8 * links + probes + 2 ≤ length (now site))
+        × ((i : ℕ) → i < links → (item (now lows) i < item (now highs) i) × (item (now highs) i < probes)) ⌝ }
+    ensures { λ _. let x = now (site .exit) in
+        ⌜ SiteInSlice x × SiteOfLinks probes links (now (lows .entry)) (now (highs .entry)) (now (costs .entry)) (now (spares .entry)) x × Started x (now (marks .exit)) ⌝ }
+{
+    start_marks(marks);
+    plan_order::sorting::order_links(order, half, counts, links, costs);
+    chain_links(marks, site, OFFER_CURSOR, links, lows, highs, order);
+    turn_round(half, order, links);
+    chain_links(marks, site, HELD_CURSOR, links, lows, highs, half);
+    put_site(site, probes, links, lows, highs, costs, spares);
 }

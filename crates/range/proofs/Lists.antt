@@ -6,7 +6,7 @@ use native.Mathlib.Nat.{mul-le-mul-left}
 use native.Mathlib.Omega.{arith}
 use native.Mathlib.Numerals.{add-one}
 use native.Mathlib.Decide.{decLt, ℕ-discrete}
-use lib.ListN.{length, getD, set, replicate, length-set, length-append, List·getD-append}
+use lib.ListN.{length, getD, set, replicate, length-replicate, length-set, length-append, List·getD-append}
 use lib.Seq.{getD-set-same, getD-set-other, getD-append-add, ext-getD}
 use Rattle.range.specs.Lists.{joined, stored}
 
@@ -72,6 +72,11 @@ stored-at f (suc n) d i fits l = go (stored-at f n d i (omega arith)) (ℕ-discr
     go before (no e) = getD-set-other (stored f n d) n i (f n) 0 e ∙ before (omega arith)
 
 -- "entries beyond the table's own stay untouched"
+pub stored-zeros : (d : List ℕ) → stored (λ i. 0) (length d) d ≡ replicate (length d) 0
+stored-zeros d =
+    ext-getD 0 (stored (λ i. 0) (length d) d) (replicate (length d) 0) (length-stored (λ i. 0) (length d) d ∙ sym (length-replicate (length d) 0))
+    (λ i l. let k = length-stored (λ i. 0) (length d) d in stored-at (λ i. 0) (length d) d i (omega arith) (omega arith) ∙ sym (zeros-at (length d) i))
+
 pub stored-beyond : (f : ℕ → ℕ) (n : ℕ) (d : List ℕ) (i : ℕ) → n ≤ i → getD (stored f n d) i 0 ≡ getD d i 0
 unfolding stored
 stored-beyond f zero d i l = refl

@@ -3,7 +3,7 @@ use super::numbers::wide;
 ghost use mathlib.Core.Path.{_≡_};
 ghost use mathlib.Core.List.{[]};
 ghost use Prim.Native.Nat.{ℕ, _+_, _-_, _<_, _≤_};
-ghost use lib.ListN.{length, getD, set};
+ghost use lib.ListN.{length, getD, set, replicate};
 ghost use Rattle.table.specs.Table.{item, ofSlices, Degrees};
 ghost use Rattle.table.specs.Legal.{Ends};
 
@@ -21,6 +21,16 @@ pub fn take_one(counts: &mut [u16], v: usize)
     ensures { λ _. ⌜ now (counts .exit) ≡ set (now (counts .entry)) v (getD (now (counts .entry)) v 0 - 1) ⌝ }
 {
     counts[v] -= 1;
+}
+
+pub fn clear_counts(counts: &mut [u16])
+    ensures { λ _. ⌜ now (counts .exit) ≡ replicate (length (now (counts .entry))) 0 ⌝ }
+{
+    let mut v = 0;
+    while v < counts.len() {
+        counts[v] = 0;
+        v += 1;
+    }
 }
 
 // Counts each probe's links into zeros.

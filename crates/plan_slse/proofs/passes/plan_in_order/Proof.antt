@@ -7,7 +7,7 @@ use mathlib.Core.Path.{_∙_, ap}
 use mathlib.Core.List.{List}
 use native.Mathlib.Omega.{arith}
 use lib.ListN.{length, getD}
-use Rattle.range.proofs.Lists.{stored-at}
+use Rattle.range.proofs.Lists.{zeros-at, stored-at}
 use Rattle.plan_slse.proofs.Turns.{kept-bytes}
 
 clear-requires : tie.Need-clear-requires
@@ -29,7 +29,7 @@ add-links-requires c κs =
       rw (z .kept .0) (at-start .pre .0),
       omega arith,
       λ j l. ap (λ (x : List ℕ). getD x j 0) (cl .ensures) ∙ stored-at (λ (i : ℕ). 0) (a .links) (a .plan .now) j room l,
-      λ v l. ap (λ (x : List ℕ). getD x v 0) (z .ensures) ∙ stored-at (λ (i : ℕ). 0) (length (a .counts .now)) (a .counts .now) v (omega arith) (omega (arith, l, z .kept .0)),
+      λ v l. ap (λ (x : List ℕ). getD x v 0) (z .ensures) ∙ zeros-at (length (a .counts .now)) v,
     )
 
 remove-links-requires : tie.Need-remove-links-requires

@@ -6,115 +6,96 @@ use Prim.Native.Nat.{ℕ}
 use mathlib.Core.Path.{_≡_, _∙_, ap}
 use mathlib.Core.List.{List}
 use native.Mathlib.Omega.{arith}
-use lib.ListN.{length, replicate, length-replicate}
+use lib.ListN.{length, replicate}
 use Rattle.range.proofs.Lists.{zeros-at}
 use Rattle.table.specs.Table.{item}
-use Rattle.plan_turns_search.specs.Record.{SiteInSlices}
 use Rattle.plan_turns_search.proofs.Turns.{zeros-ready, zeros-kept}
-use Rattle.plan_turns_search.proofs.Plan.{small, no-fault, ends, fits, plan-bytes}
-use Rattle.plan_turns_search.specs.Record.{siteSlicesOf}
+use Rattle.plan_turns_search.proofs.Plan.{small, no-fault, ends, plan-bytes}
 
 clear-requires : tie.Need-clear-requires
 clear-requires c κs = search needs
 
-slice-aggregate-find-spares : tie.Need-slice-aggregate-find-spares
-slice-aggregate-find-spares c = search needs
-
 find-spares-requires : tie.Need-find-spares-requires
 find-spares-requires c κs =
-    let at-start = c .before .before .before .before .before .before .before .before .before .before .before in
-    let a = at-start .args in
-    let p = at-start .pre in
+    let a = c .before .before .before .before .before .before .before .before .before .before .before .before .before .before .before .before .before .args in
+    let p = c .before .before .before .before .before .before .before .before .before .before .before .before .before .before .before .before .before .pre in
     let s = small (a .probes) (a .links) (a .needs .now) (a .lows .now) (a .highs .now) (a .costs .now) (p .0) in
-    (search needs, search needs, omega (arith, s .1), omega (arith, s .0), search needs, no-fault (a .probes) (a .links) (a .needs .now) (a .lows .now) (a .highs .now) (a .costs .now) (p .0), zeros-at 256)
-
-slice-aggregate-link-up : tie.Need-slice-aggregate-link-up
-slice-aggregate-link-up c = search needs
-
-slice-aggregate-link-up-2 : tie.Need-slice-aggregate-link-up-2
-slice-aggregate-link-up-2 c = search needs
-
-slice-aggregate-link-up-3 : tie.Need-slice-aggregate-link-up-3
-slice-aggregate-link-up-3 c = search needs
+    (p .2, p .3, omega (arith, s .1), p .7, p .1, no-fault (a .probes) (a .links) (a .needs .now) (a .lows .now) (a .highs .now) (a .costs .now) (p .0))
 
 link-up-requires : tie.Need-link-up-requires
 link-up-requires c κs =
-    let at-start = c .before .before .before .before .before .before .before .before .before .before .before .before .before .before .before .before in
-    let a = at-start .args in
-    let p = at-start .pre in
+    let a = c .before .before .before .before .before .before .before .before .before .before .before .before .before .before .before .before .before .before .before .before .before .before .before .before .before .before .args in
+    let p = c .before .before .before .before .before .before .before .before .before .before .before .before .before .before .before .before .before .before .before .before .before .before .before .before .before .before .pre in
     let s = small (a .probes) (a .links) (a .needs .now) (a .lows .now) (a .highs .now) (a .costs .now) (p .0) in
-    (s .1, p .2, p .3, p .4, λ i l. (ends (a .probes) (a .links) (a .needs .now) (a .lows .now) (a .highs .now) (a .costs .now) (p .0) i l .rises, let k = ends (a .probes) (a .links) (a .needs .now) (a .lows .now) (a .highs .now) (a .costs .now) (p .0) i l .below in omega (arith, s .0)), length-replicate {A = ℕ} 1024 0, zeros-at 1024, omega (arith, s .1), omega (arith, s .1))
-
-slice-aggregate-take-turns : tie.Need-slice-aggregate-take-turns
-slice-aggregate-take-turns c = search needs
-
-slice-aggregate-take-turns-2 : tie.Need-slice-aggregate-take-turns-2
-slice-aggregate-take-turns-2 c = search needs
-
-slice-aggregate-take-turns-3 : tie.Need-slice-aggregate-take-turns-3
-slice-aggregate-take-turns-3 c = search needs
-
-slice-aggregate-take-turns-4 : tie.Need-slice-aggregate-take-turns-4
-slice-aggregate-take-turns-4 c = search needs
+    let f = c .before .before .before .before .before .before .before .before .find-spares in
+    (s .1, s .0, p .2, p .3, p .4, omega (arith, f .kept .0, p .7), p .10, p .11, p .12, p .13, p .8, p .9, λ i l. let e = ends (a .probes) (a .links) (a .needs .now) (a .lows .now) (a .highs .now) (a .costs .now) (p .0) i l in (e .rises, e .below))
 
 take-turns-requires : tie.Need-take-turns-requires
 take-turns-requires c κs =
-    let at-link-up = c .before .before .before .before .before .before .before .before in
-    let at-find-spares = at-link-up .before .before .before .before .before in
-    let at-clear = at-find-spares .before .before .before .before in
-    let at-shared-slice-known4 = at-clear .before .before in
-    let at-start = at-shared-slice-known4 .before .before .before .before .before .before in
-    let a = at-start .args in
-    let p = at-start .pre in
-    let s = small (a .probes) (a .links) (a .needs .now) (a .lows .now) (a .highs .now) (a .costs .now) (p .0) in
-    let w = at-clear .clear in
-    let f = at-find-spares .find-spares in
-    let k = at-link-up .link-up in
-    let n : length (f .last .0) ≡ 256 = f .kept .0 in
-    let long : length (w .last .0) ≡ length (a .work .now) = w .kept .0 in
-    let wide : length (k .last .0) ≡ 1024 = k .kept .0 in
-    let good : SiteInSlices (siteSlicesOf (a .links) (a .lows .now) (a .highs .now) (a .costs .now) (f .last .0)) = fits (a .probes) (a .links) (a .needs .now) (a .lows .now) (a .highs .now) (a .costs .now) (p .0) (f .last .0) n (p .2) (p .3) (p .4) (λ i. at-shared-slice-known4 .shared-slice-known4 .given i .fits) in
+    let a = c .before .before .before .before .before .before .before .before .before .before .before .before .before .before .before .before .before .before .before .before .before .before .before .before .before .before .before .before .before .before .before .before .before .before .before .before .before .before .before .before .args in
+    let p = c .before .before .before .before .before .before .before .before .before .before .before .before .before .before .before .before .before .before .before .before .before .before .before .before .before .before .before .before .before .before .before .before .before .before .before .before .before .before .before .before .pre in
+    let w = c .before .before .before .before .before .before .before .before .before .before .before .before .before .before .before .before .before .before .before .before .before .before .before .before .before .before .clear in
+    let k = c .before .before .before .before .before .before .before .before .before .before .before .before .before .link-up in
+    let x = k .last .1 .0 in
+    let few = k .ensures .1 .probe-count in
+    let m = k .ensures .1 .link-count in
     let none : (j : ℕ) → item (w .last .0) j ≡ 0 = λ j. ap (λ (r : List ℕ). item r j) (w .ensures) ∙ zeros-at (length (a .work .now)) j in (
-      zeros-ready (a .links) (a .lows .now) (a .highs .now) (a .costs .now) (f .last .0) (w .last .0) good none (omega (arith, p .6)),
-      zeros-kept (a .links) (a .lows .now) (a .highs .now) (a .costs .now) (f .last .0) (w .last .0) good none (k .last .0) (omega arith) (k .ensures .0),
-      k .ensures .1,
-      k .ensures .2,
-      omega (arith, s .0),
+      zeros-ready x (w .last .0) (k .ensures .0) none (omega (arith, w .kept .0, p .6)),
+      zeros-kept x (w .last .0) (k .ensures .0) none (k .last .0) (omega (arith, k .kept .0, p .8)) (k .ensures .2),
+      omega arith,
     )
 
 write-plan-requires : tie.Need-write-plan-requires
 write-plan-requires c κs =
-    let at-take-turns = c .before .before .before .before .before in
-    let at-start = at-take-turns .before .before .before .before .before .before .before .before .before .before .before .before .before .before .before .before .before .before .before .before .before .before .before .before .before .before in
-    (at-start .pre .5, at-take-turns .take-turns .ensures .ready .paired .room)
+    let m = c .before .before .before .before .before .before .before .before .before .before .before .before .before .before .before .before .before .before .before .before .link-up .ensures .1 .link-count in
+    let room = c .before .before .before .before .before .before .take-turns .ensures .ready .paired .room in
+    (c .before .before .before .before .before .before .before .before .before .before .before .before .before .before .before .before .before .before .before .before .before .before .before .before .before .before .before .before .before .before .before .before .before .before .before .before .before .before .before .before .before .before .before .before .before .before .before .pre .5, omega arith)
 
 clear-requires-2 : tie.Need-clear-requires-2
 clear-requires-2 c κs = search needs
 
 same-length : tie.Need-same-length
-same-length c = search needs
+same-length c =
+    c .before .before .before .before .before .before .write-plan .kept .0
 
 same-length-2 : tie.Need-same-length-2
 same-length-2 c =
-    let at-take-turns = c .before .before .before .before .before .before .before .before .before .before .before .before in
-    let at-clear = at-take-turns .before .before .before .before .before .before .before .before .before .before .before .before .before .before .before .before .before .before in
-    c .before .before .clear2 .kept .0 ∙ at-take-turns .take-turns .kept .0 ∙ at-clear .clear .kept .0
+    c .before .before .clear2 .kept .0 ∙ c .before .before .before .before .before .before .before .before .before .before .before .before .before .take-turns .kept .0 ∙ c .before .before .before .before .before .before .before .before .before .before .before .before .before .before .before .before .before .before .before .before .before .before .before .before .before .before .before .before .before .before .before .before .before .before .before .before .before .before .before .before .clear .kept .0
+
+same-length-3 : tie.Need-same-length-3
+same-length-3 c =
+    c .before .before .before .before .before .before .before .before .before .before .before .before .before .before .before .before .before .before .before .before .before .before .before .before .before .before .before .before .before .before .before .before .before .before .before .before .find-spares .kept .0
+
+same-length-4 : tie.Need-same-length-4
+same-length-4 c =
+    c .before .before .before .before .before .before .before .before .before .before .before .before .before .take-turns .kept .1 .0 ∙ c .before .before .before .before .before .before .before .before .before .before .before .before .before .before .before .before .before .before .before .before .before .before .before .before .before .before .before .link-up .kept .0
+
+same-length-5 : tie.Need-same-length-5
+same-length-5 c =
+    c .before .before .before .before .before .before .before .before .before .before .before .before .before .before .before .before .before .before .before .before .before .before .before .before .before .before .before .link-up .kept .1 .0
+
+same-length-6 : tie.Need-same-length-6
+same-length-6 c =
+    c .before .before .before .before .before .before .before .before .before .before .before .before .before .before .before .before .before .before .before .before .before .before .before .before .before .before .before .link-up .kept .1 .1 .0
+
+same-length-7 : tie.Need-same-length-7
+same-length-7 c =
+    c .before .before .before .before .before .before .before .before .before .before .before .before .before .before .before .before .before .before .before .before .before .before .before .before .before .before .before .link-up .kept .1 .1 .1 .0
+
+same-length-8 : tie.Need-same-length-8
+same-length-8 c =
+    c .before .before .before .before .before .before .before .before .before .before .before .before .before .before .before .before .before .before .before .before .before .before .before .before .before .before .before .link-up .kept .1 .1 .1 .1 .0
 
 returns : tie.Need-returns
 returns c =
-    let at-write-plan = c .before .before .before .before .before .before in
-    let at-take-turns = at-write-plan .before .before .before .before .before .before in
-    let at-find-spares = at-take-turns .before .before .before .before .before .before .before .before .before .before .before .before .before .before in
-    let at-clear = at-find-spares .before .before .before .before in
-    let at-start = at-clear .before .before .before .before .before .before .before .before in
-    let a = at-start .args in
-    let p = at-start .pre in
-    let s = small (a .probes) (a .links) (a .needs .now) (a .lows .now) (a .highs .now) (a .costs .now) (p .0) in
-    let f = at-find-spares .find-spares in
-    let t = at-take-turns .take-turns in
-    let n : length (t .last .0) ≡ length (a .work .now) = t .kept .0 ∙ at-clear .clear .kept .0 in (
-      at-write-plan .write-plan .ensures ∙ plan-bytes (a .probes) (a .links) (a .needs .now) (a .lows .now) (a .highs .now) (a .costs .now) (p .0) (f .last .0) (t .last .0) (f .ensures) (t .ensures) (a .plan .now),
-      c .before .before .clear2 .ensures ∙ ap (λ (k : ℕ). replicate k 0) n,
+    let a = c .before .before .before .before .before .before .before .before .before .before .before .before .before .before .before .before .before .before .before .before .before .before .before .before .before .before .before .before .before .before .before .before .before .before .before .before .before .before .before .before .before .before .before .before .before .before .before .before .before .before .before .before .before .before .args in
+    let p = c .before .before .before .before .before .before .before .before .before .before .before .before .before .before .before .before .before .before .before .before .before .before .before .before .before .before .before .before .before .before .before .before .before .before .before .before .before .before .before .before .before .before .before .before .before .before .before .before .before .before .before .before .before .before .pre in
+    let f = c .before .before .before .before .before .before .before .before .before .before .before .before .before .before .before .before .before .before .before .before .before .before .before .before .before .before .before .before .before .before .before .before .before .before .before .before .find-spares in
+    let k = c .before .before .before .before .before .before .before .before .before .before .before .before .before .before .before .before .before .before .before .before .before .before .before .before .before .before .before .link-up in
+    let t = c .before .before .before .before .before .before .before .before .before .before .before .before .before .take-turns in
+    let n : length (t .last .0) ≡ length (a .work .now) = t .kept .0 ∙ c .before .before .before .before .before .before .before .before .before .before .before .before .before .before .before .before .before .before .before .before .before .before .before .before .before .before .before .before .before .before .before .before .before .before .before .before .before .before .before .before .clear .kept .0 in (
+      c .before .before .before .before .before .before .write-plan .ensures ∙ plan-bytes (a .probes) (a .links) (a .needs .now) (a .lows .now) (a .highs .now) (a .costs .now) (p .0) (f .last .0) (k .last .1 .0) (k .ensures .1) (f .ensures) (t .last .0) (t .ensures) (a .plan .now),
+      c .before .before .clear2 .ensures ∙ ap (λ (m : ℕ). replicate m 0) n,
     )
 
 pub by-turns-spec : {M : Type 1} → statement M
@@ -122,19 +103,17 @@ by-turns-spec =
     tie.close
     (tie.spec
     clear-requires
-    slice-aggregate-find-spares
     find-spares-requires
-    slice-aggregate-link-up
-    slice-aggregate-link-up-2
-    slice-aggregate-link-up-3
     link-up-requires
-    slice-aggregate-take-turns
-    slice-aggregate-take-turns-2
-    slice-aggregate-take-turns-3
-    slice-aggregate-take-turns-4
     take-turns-requires
     write-plan-requires
     clear-requires-2
     same-length
     same-length-2
+    same-length-3
+    same-length-4
+    same-length-5
+    same-length-6
+    same-length-7
+    same-length-8
     returns)

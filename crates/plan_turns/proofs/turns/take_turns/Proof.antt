@@ -9,27 +9,23 @@ use native.Mathlib.Omega.{arith}
 use lib.ListN.{length}
 use Rattle.plan_turns_search.specs.Record.{MarksAgree, Over}
 use Rattle.plan_turns_search.proofs.Turns.{over-start, over-next}
-use Rattle.plan_turns_search.specs.Record.{siteSlicesOf}
 
 abbrev Inv-loop : tie.InvT-loop
-Inv-loop rec₀ marks₀ probes links lows highs costs spares nexts ups p₀ rec marks p = (p ≤ probes) × Over (siteSlicesOf links lows highs costs spares) rec p × MarksAgree (siteSlicesOf links lows highs costs spares) rec marks × (length rec ≡ length rec₀) × (length marks ≡ length marks₀)
+Inv-loop rec₀ marks₀ site probes p₀ rec marks p = (p ≤ probes) × Over site rec p × MarksAgree site rec marks × (length rec ≡ length rec₀) × (length marks ≡ length marks₀)
 
 abbrev μ-loop : tie.MeasureT-loop
-μ-loop rec₀ marks₀ probes links lows highs costs spares nexts ups p₀ rec marks p = probes - p
+μ-loop rec₀ marks₀ site probes p₀ rec marks p = probes - p
 
 loop-holds : tie.Need-loop-holds Inv-loop μ-loop
 loop-holds c =
-    let at-start = c .before .before .before .before .before .before .before .before in
-    let a = at-start .args in
-    let p = at-start .pre in
-    (search needs, over-start (a .links) (a .lows .now) (a .highs .now) (a .costs .now) (a .spares .now) (a .rec .now) (p .0), p .1, refl, refl)
+    let a = c .before .before .before .args in
+    let p = c .before .before .before .pre in
+    (search needs, over-start (a .site .now) (a .rec .now) (p .0), p .1, refl, refl)
 
 turn-requires : tie.Need-turn-requires Inv-loop μ-loop
 turn-requires c κs =
-    let at-loop = c .before .before .before in
-    let p = c .before .before .before .before .before .before .before .before .before .before .before .before .pre in
-    let i = at-loop .loop .inv in
-    (i .1 .ready, i .2, p .2, p .3, omega (arith, c .before .before .loop-test .taken, p .4))
+    let i = c .before .before .before .loop .inv in
+    (i .1 .ready, i .2, omega (arith, c .before .before .loop-test .taken, c .before .before .before .before .before .before .before .pre .2))
 
 add-p : tie.Need-add-p Inv-loop μ-loop
 add-p c = search needs
@@ -39,13 +35,10 @@ loop-less c = search needs
 
 loop-again : tie.Need-loop-again Inv-loop μ-loop
 loop-again c =
-    let at-turn = c .before .before .before .before in
-    let at-loop-test = at-turn .before .before .before in
-    let at-loop = at-loop-test .before in
-    let a = c .before .before .before .before .before .before .before .before .before .before .before .before .before .before .before .before .before .args in
-    let i = at-loop .loop .inv in
-    let t = at-turn .turn in
-    (omega (arith, at-loop-test .loop-test .taken), over-next (a .links) (a .lows .now) (a .highs .now) (a .costs .now) (a .spares .now) (at-loop .loop .rec) (at-loop .loop .p) _ (i .1) (t .ensures .0), t .ensures .1, t .kept .0 ∙ i .3, t .kept .1 .0 ∙ i .4)
+    let l = c .before .before .before .before .before .before .before .before .loop in
+    let i = l .inv in
+    let t = c .before .before .before .before .turn in
+    (omega (arith, c .before .before .before .before .before .before .before .loop-test .taken), over-next (c .before .before .before .before .before .before .before .before .before .before .before .before .args .site .now) (l .rec) (l .p) _ (i .1) (t .ensures .0), t .ensures .1, t .kept .0 ∙ i .3, t .kept .1 .0 ∙ i .4)
 
 same-length : tie.Need-same-length Inv-loop μ-loop
 same-length c = c .before .loop .inv .3
@@ -55,8 +48,7 @@ same-length-2 c = c .before .loop .inv .4
 
 returns : tie.Need-returns Inv-loop μ-loop
 returns c =
-    let at-start = c .before .before .before .before .before .before .before .before .before .before in
-    let e : c .before .loop .p ≡ at-start .args .probes = omega arith in
+    let e : c .before .loop .p ≡ c .before .before .before .before .before .args .probes = omega arith in
     rw (← e) (c .before .loop .inv .1)
 
 pub take-turns-spec : {M : Type 1} → statement M

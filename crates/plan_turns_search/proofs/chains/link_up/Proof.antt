@@ -2,122 +2,125 @@
 use borrow.Author.Needs.{needs}
 use Rattle.plan_turns_search.proofs.chains.link_up.Statement.{statement}
 use Rattle.plan_turns_search.proofs.chains.link_up.Tie as tie
-use Prim.Native.Nat.{ℕ}
-use mathlib.Core.Path.{_≡_}
+use Prim.Native.Nat.{ℕ, _*_, _/_, _≤_, _<_}
+use mathlib.Core.Path.{_≡_, _∙_, ap}
 use native.Mathlib.Omega.{arith}
-use lib.ListN.{length, replicate, length-replicate, getD-replicate}
-use Rattle.plan_turns_search.proofs.Build.{chains-down, chains-up, round-below}
+use lib.ListN.{length}
+use Rattle.table.specs.Table.{item}
+use Rattle.plan_turns_search.specs.Record.{ofDirection}
+use Rattle.plan_turns_search.proofs.Build.{round-below, site-built, marks-built}
+use Rattle.plan_turns_search.proofs.Storing.{first-marks}
 
-slice-aggregate-order-links : tie.Need-slice-aggregate-order-links
-slice-aggregate-order-links c = search needs
+start-marks-requires : tie.Need-start-marks-requires
+start-marks-requires c κs = search needs
 
 order-links-requires : tie.Need-order-links-requires
 order-links-requires c κs = search needs
 
-slice-aggregate-turn-round : tie.Need-slice-aggregate-turn-round
-slice-aggregate-turn-round c = search needs
-
-slice-aggregate-turn-round-2 : tie.Need-slice-aggregate-turn-round-2
-slice-aggregate-turn-round-2 c = search needs
-
-turn-round-requires : tie.Need-turn-round-requires
-turn-round-requires c κs = search needs
-
-slice-aggregate-chain-links : tie.Need-slice-aggregate-chain-links
-slice-aggregate-chain-links c = search needs
-
-slice-aggregate-chain-links-2 : tie.Need-slice-aggregate-chain-links-2
-slice-aggregate-chain-links-2 c = search needs
-
 chain-links-requires : tie.Need-chain-links-requires
 chain-links-requires c κs =
-    let at-order-links = c .before .before .before .before .before .before .before .before in
-    let p = c .before .before .before .before .before .before .before .before .before .before .before .before .before .before .before .before .pre in
-    let o = at-order-links .order-links in
-    (p .0, p .1, p .2, search needs, p .7, λ i l. (p .4 i l .0, rw (length-replicate {A = ℕ} 256 65535) (p .4 i l .1)), o .ensures .below, λ v l. rw (getD-replicate {A = ℕ} 256 v 65535 0 l) (omega (arith, p .0)))
+    let a = c .before .before .before .before .before .before .before .before .before .before .before .before .before .before .before .before .before .before .before .before .before .before .before .before .before .before .args in
+    let p = c .before .before .before .before .before .before .before .before .before .before .before .before .before .before .before .before .before .before .before .before .before .before .before .before .before .before .pre in
+    let m = c .before .before .before .before .before .before .before .before .before .before .before .before .before .before .before .start-marks in
+    let o = c .before .before .before .before .before .before .before .before .before .order-links in
+    let n : length (m .last .0) ≡ length (a .marks .now) = m .kept .0 in
+    let few = p .0 in
+    let room = p .10 in
+    (omega arith, p .0, p .2, p .3, omega (arith, o .kept .0, p .6), omega (arith, p .11), λ i l. (p .12 i l .0, omega (arith, p .12 i l .1)), o .ensures .below, λ v l. let e = first-marks (a .marks .now) (m .last .0) (m .ensures) v 2 (omega arith) (omega arith) in omega arith)
 
-slice-aggregate-chain-links-3 : tie.Need-slice-aggregate-chain-links-3
-slice-aggregate-chain-links-3 c = search needs
-
-slice-aggregate-chain-links-4 : tie.Need-slice-aggregate-chain-links-4
-slice-aggregate-chain-links-4 c = search needs
+turn-round-requires : tie.Need-turn-round-requires
+turn-round-requires c κs =
+    let p = c .before .before .before .before .before .before .before .before .before .before .before .before .before .before .before .before .before .before .before .before .before .before .before .before .before .before .before .before .before .before .before .before .before .pre in
+    let o = c .before .before .before .before .before .before .before .before .before .before .before .before .before .before .before .before .order-links in
+    (omega (arith, o .kept .1 .0, p .7), omega (arith, o .kept .0, p .6))
 
 chain-links-requires-2 : tie.Need-chain-links-requires-2
 chain-links-requires-2 c κs =
-    let at-turn-round = c .before .before .before .before .before .before .before .before .before .before .before in
-    let at-order-links = at-turn-round .before .before .before .before in
-    let at-shared-slice-known3 = at-order-links .before .before in
-    let at-start = at-shared-slice-known3 .before .before .before .before .before .before in
-    let a = at-start .args in
-    let p = at-start .pre in
-    let o = at-order-links .order-links in
-    let t = at-turn-round .turn-round in
-    (p .0, p .1, p .2, search needs, p .8, λ i l. (p .4 i l .0, rw (length-replicate {A = ℕ} 256 65535) (p .4 i l .1)), round-below (a .links) (a .lows .now) (a .highs .now) (a .costs .now) (p .0) (λ i. at-shared-slice-known3 .shared-slice-known3 .given i .fits) (o .last .0) (o .ensures) (replicate 2048 0) (t .last .0) (p .0) (t .ensures), λ v l. rw (getD-replicate {A = ℕ} 256 v 65535 0 l) (omega (arith, p .0)))
+    let a = c .before .before .before .before .before .before .before .before .before .before .before .before .before .before .before .before .before .before .before .before .before .before .before .before .before .before .before .before .before .before .before .before .before .before .before .before .before .before .before .args in
+    let p = c .before .before .before .before .before .before .before .before .before .before .before .before .before .before .before .before .before .before .before .before .before .before .before .before .before .before .before .before .before .before .before .before .before .before .before .before .before .before .before .pre in
+    let m = c .before .before .before .before .before .before .before .before .before .before .before .before .before .before .before .before .before .before .before .before .before .before .before .before .before .before .before .before .start-marks in
+    let o = c .before .before .before .before .before .before .before .before .before .before .before .before .before .before .before .before .before .before .before .before .before .before .order-links in
+    let d = c .before .before .before .before .before .before .before .before .before .before .before .before .chain-links in
+    let h = c .before .before .before .before .before .turn-round in
+    let n : length (m .last .0) ≡ length (a .marks .now) = m .kept .0 in
+    let k : length (d .last .0) ≡ length (m .last .0) = d .kept .0 in
+    let few = p .0 in
+    let room = p .10 in (
+      omega arith,
+      p .0,
+      p .2,
+      p .3,
+      omega (arith, h .kept .0, o .kept .1 .0, p .7),
+      omega (arith, d .kept .1 .0, p .11),
+      λ i l. (p .12 i l .0, omega (arith, p .12 i l .1)),
+      round-below (a .links) (a .costs .now) (p .0) (λ i. c .before .before .before .before .before .before .before .before .before .before .before .before .before .before .before .before .before .before .before .before .before .before .before .before .before .before .before .before .before .before .before .shared-slice-known3 .given i .fits) (o .last .0) (o .ensures) (o .last .1 .0) (h .last .0) (omega (arith, o .kept .1 .0, p .7)) (h .ensures),
+      λ v l. let e = first-marks (a .marks .now) (m .last .0) (m .ensures) v 3 (omega arith) (omega arith) in let f = d .ensures .1 v 3 (omega arith) (λ z. omega arith) in omega arith,
+    )
 
-slice-aggregate-start-marks : tie.Need-slice-aggregate-start-marks
-slice-aggregate-start-marks c = search needs
-
-slice-aggregate-start-marks-2 : tie.Need-slice-aggregate-start-marks-2
-slice-aggregate-start-marks-2 c = search needs
-
-start-marks-requires : tie.Need-start-marks-requires
-start-marks-requires c κs =
-    let at-chain-links2 = c .before .before .before .before .before .before in
-    let at-chain-links = at-chain-links2 .before .before .before .before .before .before .before in
-    let p = c .before .before .before .before .before .before .before .before .before .before .before .before .before .before .before .before .before .before .before .before .before .before .before .before .before .before .before .before .before .before .pre in
-    (p .5, at-chain-links .chain-links .kept .0, at-chain-links2 .chain-links2 .kept .0, p .6)
+put-site-requires : tie.Need-put-site-requires
+put-site-requires c κs =
+    let p = c .before .before .before .before .before .before .before .before .before .before .before .before .before .before .before .before .before .before .before .before .before .before .before .before .before .before .before .before .before .before .before .before .before .before .before .before .before .before .before .before .before .before .before .before .before .pre in
+    let d = c .before .before .before .before .before .before .before .before .before .before .before .before .before .before .before .before .before .before .chain-links in
+    let u = c .before .before .before .before .before .chain-links2 in
+    (p .0, p .1, p .2, p .3, p .4, p .5, omega (arith, d .kept .1 .0, u .kept .1 .0, p .11))
 
 same-length : tie.Need-same-length
-same-length c = search needs
+same-length c =
+    c .before .before .before .before .before .before .before .before .chain-links2 .kept .0 ∙ c .before .before .before .before .before .before .before .before .before .before .before .before .before .before .before .before .before .before .before .before .before .chain-links .kept .0 ∙ c .before .before .before .before .before .before .before .before .before .before .before .before .before .before .before .before .before .before .before .before .before .before .before .before .before .before .before .before .before .before .before .before .before .before .before .before .before .start-marks .kept .0
 
 same-length-2 : tie.Need-same-length-2
-same-length-2 c = search needs
+same-length-2 c =
+    c .before .before .put-site .kept .0 ∙ c .before .before .before .before .before .before .before .before .chain-links2 .kept .1 .0 ∙ c .before .before .before .before .before .before .before .before .before .before .before .before .before .before .before .before .before .before .before .before .before .chain-links .kept .1 .0
 
 same-length-3 : tie.Need-same-length-3
-same-length-3 c = search needs
+same-length-3 c =
+    c .before .before .before .before .before .before .before .before .before .before .before .before .before .before .before .before .before .before .before .before .before .before .before .before .before .before .before .before .before .before .before .order-links .kept .0
+
+same-length-4 : tie.Need-same-length-4
+same-length-4 c =
+    c .before .before .before .before .before .before .before .before .before .before .before .before .before .before .turn-round .kept .0 ∙ c .before .before .before .before .before .before .before .before .before .before .before .before .before .before .before .before .before .before .before .before .before .before .before .before .before .before .before .before .before .before .before .order-links .kept .1 .0
+
+same-length-5 : tie.Need-same-length-5
+same-length-5 c =
+    c .before .before .before .before .before .before .before .before .before .before .before .before .before .before .before .before .before .before .before .before .before .before .before .before .before .before .before .before .before .before .before .order-links .kept .1 .1 .0
 
 returns : tie.Need-returns
 returns c =
-    let at-chain-links2 = c .before .before .before .before .before .before .before .before .before in
-    let at-chain-links = at-chain-links2 .before .before .before .before .before .before .before in
-    let at-turn-round = at-chain-links .before .before .before .before .before in
-    let at-order-links = at-turn-round .before .before .before .before in
-    let at-shared-slice-known3 = at-order-links .before .before in
-    let at-start = at-shared-slice-known3 .before .before .before .before .before .before in
-    let a = at-start .args in
-    let p = at-start .pre in
-    let o = at-order-links .order-links in
-    let t = at-turn-round .turn-round in
-    let k = at-chain-links .chain-links in
-    let m = at-chain-links2 .chain-links2 in
-    let n = k .kept .1 .0 in
-    let q = m .kept .1 .0 in
-    let s = c .before .before .start-marks .ensures in
-    let x : length (k .last .0) ≡ 256 = k .kept .0 in
-    let y : length (m .last .0) ≡ 256 = m .kept .0 in
-    let down = chains-down (a .links) (a .lows .now) (a .highs .now) (a .costs .now) (p .0) (λ i. at-shared-slice-known3 .shared-slice-known3 .given i .fits) (o .last .0) (o .ensures) (k .last .0) (k .last .1 .0) (k .ensures) (omega (arith, p .7)) in
-    let up = chains-up (a .links) (a .lows .now) (a .highs .now) (a .costs .now) (p .0) (λ i. at-shared-slice-known3 .shared-slice-known3 .given i .fits) (o .last .0) (o .ensures) (replicate 2048 0) (t .last .0) (p .0) (t .ensures) (m .last .0) (m .last .1 .0) (m .ensures) (omega (arith, p .8)) in
-    (record { standing = λ v l. s .none v .0; held = λ v l. s .none v .1; cursors = λ v l. rw (s .starts v l .0) (down .0 v (omega arith)); lasts = λ v l. rw (s .starts v l .1) (up .0 v (omega arith)) }, down .1, up .1)
+    let a = c .before .before .before .before .before .before .before .before .before .before .before .before .before .before .before .before .before .before .before .before .before .before .before .before .before .before .before .before .before .before .before .before .before .before .before .before .before .before .before .before .before .before .before .before .before .before .before .before .args in
+    let p = c .before .before .before .before .before .before .before .before .before .before .before .before .before .before .before .before .before .before .before .before .before .before .before .before .before .before .before .before .before .before .before .before .before .before .before .before .before .before .before .before .before .before .before .before .before .before .before .before .pre in
+    let m = c .before .before .before .before .before .before .before .before .before .before .before .before .before .before .before .before .before .before .before .before .before .before .before .before .before .before .before .before .before .before .before .before .before .before .before .before .before .start-marks in
+    let o = c .before .before .before .before .before .before .before .before .before .before .before .before .before .before .before .before .before .before .before .before .before .before .before .before .before .before .before .before .before .before .before .order-links in
+    let d = c .before .before .before .before .before .before .before .before .before .before .before .before .before .before .before .before .before .before .before .before .before .chain-links in
+    let h = c .before .before .before .before .before .before .before .before .before .before .before .before .before .before .turn-round in
+    let u = c .before .before .before .before .before .before .before .before .chain-links2 in
+    let s = c .before .before .put-site in
+    let n : length (m .last .0) ≡ length (a .marks .now) = m .kept .0 in
+    let k : length (d .last .0) ≡ length (m .last .0) = d .kept .0 in
+    let cheap : (i : ℕ) → item (a .costs .now) i < 65536 = λ i. c .before .before .before .before .before .before .before .before .before .before .before .before .before .before .before .before .before .before .before .before .before .before .before .before .before .before .before .before .before .before .before .before .before .before .before .before .before .before .before .before .shared-slice-known3 .given i .fits in
+    let half-room : a .links ≤ length (o .last .1 .0) = omega (arith, o .kept .1 .0, p .7) in
+    let wide : a .probes ≤ length (m .last .0) / 4 = omega (arith, p .10) in
+    let up = rw (ap (λ (x : ℕ). x / 4) k) at (u .ensures .0) in
+    let stay : (x : ℕ) → x < 2 * a .links → ofDirection (s .last .0) x 2 ≡ ofDirection (d .last .1 .0) x 2 = λ x l. s .ensures .1 x 2 (omega arith) (omega arith) l ∙ u .ensures .2 x 2 (omega arith) (λ z. omega arith) in
+    let stay-up : (x : ℕ) → x < 2 * a .links → ofDirection (s .last .0) x 3 ≡ ofDirection (u .last .1 .0) x 3 = λ x l. s .ensures .1 x 3 (omega arith) (omega arith) l in (
+      site-built (a .links) (a .costs .now) (p .0) cheap (o .last .0) (o .ensures) (o .last .1 .0) (h .last .0) half-room (h .ensures) (a .probes) (a .lows .now) (a .highs .now) (a .spares .now) (s .last .0) (s .ensures .0) (p .12) (length (m .last .0) / 4) (d .last .0) (u .last .0) (d .last .1 .0) (u .last .1 .0) wide (d .ensures .0) up stay stay-up (p .1) (omega (arith, s .kept .0, u .kept .1 .0, d .kept .1 .0, p .11)),
+      s .ensures .0,
+      marks-built (a .links) (a .costs .now) (p .0) cheap (o .last .0) (o .ensures) (o .last .1 .0) (h .last .0) half-room (h .ensures) (a .probes) (a .lows .now) (a .highs .now) (a .spares .now) (s .last .0) (s .ensures .0) (p .12) (length (m .last .0) / 4) (d .last .0) (u .last .0) (d .last .1 .0) (u .last .1 .0) wide (d .ensures .0) up stay stay-up
+          (λ v l. (u .ensures .1 v 0 (omega arith) (λ z. omega arith) ∙ d .ensures .1 v 0 (omega arith) (λ z. omega arith) ∙ first-marks (a .marks .now) (m .last .0) (m .ensures) v 0 (omega arith) (omega arith), u .ensures .1 v 1 (omega arith) (λ z. omega arith) ∙ d .ensures .1 v 1 (omega arith) (λ z. omega arith) ∙ first-marks (a .marks .now) (m .last .0) (m .ensures) v 1 (omega arith) (omega arith))) (λ v. u .ensures .1 v 2 (omega arith) (λ z. omega arith)),
+    )
 
 pub link-up-spec : {M : Type 1} → statement M
 link-up-spec =
     tie.close
     (tie.spec
-    slice-aggregate-order-links
-    order-links-requires
-    slice-aggregate-turn-round
-    slice-aggregate-turn-round-2
-    turn-round-requires
-    slice-aggregate-chain-links
-    slice-aggregate-chain-links-2
-    chain-links-requires
-    slice-aggregate-chain-links-3
-    slice-aggregate-chain-links-4
-    chain-links-requires-2
-    slice-aggregate-start-marks
-    slice-aggregate-start-marks-2
     start-marks-requires
+    order-links-requires
+    chain-links-requires
+    turn-round-requires
+    chain-links-requires-2
+    put-site-requires
     same-length
     same-length-2
     same-length-3
+    same-length-4
+    same-length-5
     returns)

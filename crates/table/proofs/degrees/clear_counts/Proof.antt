@@ -1,14 +1,14 @@
--- `plan_slse::passes::clear_counts` meets its contract.
+-- `table::degrees::clear_counts` meets its contract.
 -- Invariant: the counts before v are 0. Measure: the counts that are left.
 use borrow.Author.Needs.{needs}
-use Rattle.plan_slse.proofs.passes.clear_counts.Statement.{statement}
-use Rattle.plan_slse.proofs.passes.clear_counts.Tie as tie
+use Rattle.table.proofs.degrees.clear_counts.Statement.{statement}
+use Rattle.table.proofs.degrees.clear_counts.Tie as tie
 use Prim.Native.Nat.{ℕ, _-_, _≤_}
-use mathlib.Core.Path.{_≡_, refl, sym}
+use mathlib.Core.Path.{_≡_, refl, sym, _∙_}
 use native.Mathlib.Omega.{arith}
 use lib.ListN.{length, length-set}
 use Rattle.range.specs.Lists.{stored}
-use Rattle.range.proofs.Lists.{stored-next}
+use Rattle.range.proofs.Lists.{stored-next, stored-zeros}
 
 abbrev Inv-loop : tie.InvT-loop
 Inv-loop counts₀ v₀ counts v = (v ≤ length counts₀) × (counts ≡ stored (λ (i : ℕ). 0) v counts₀) × (length counts ≡ length counts₀)
@@ -43,7 +43,7 @@ same-length c = c .before .loop .inv .2
 returns : tie.Need-returns Inv-loop μ-loop
 returns c =
     let e : c .before .loop .v ≡ length (c .before .before .args .counts .now) = omega arith in
-    rw (← e) (c .before .loop .inv .1)
+    c .before .loop .inv .1 ∙ rw e (stored-zeros (c .before .before .args .counts .now))
 
 pub clear-counts-spec : {M : Type 1} → statement M
 clear-counts-spec =
