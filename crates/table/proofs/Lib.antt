@@ -7,4 +7,5 @@ pub mod Lengths
 pub mod LegalLaws
 pub mod Slices
 pub mod Answers
+pub mod Largest
 pub mod Withdrawn

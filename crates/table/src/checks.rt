@@ -1,13 +1,16 @@
 // The checks of a table. The table's text, the plan, the ends and the fleet call these.
+use super::Checking;
 use super::numbers::wide;
 ghost use mathlib.Core.Path.{_≡_};
 ghost use mathlib.Core.List.{[]};
 ghost use Prim.Native.Nat.{_-_, _<_, _≤_};
 ghost use lib.ListN.{length};
 ghost use Rattle.range.specs.First.{first};
+ghost use Rattle.range.specs.Reply.{replyOf};
 ghost use Rattle.table.specs.Table.{item, ofSlices};
 ghost use Rattle.table.specs.Legal.{sizeFault, endsFault, orderFault, linkFault, tableFault, roomFault};
 ghost use Rattle.table.specs.Slices.{sliceFault, slicesOf};
+ghost use Rattle.table.specs.Checking.{checkingReply};
 
 // 3
 pub fn size_fault(pmax: usize, lmax: usize, probes: usize, links: usize) -> u8
@@ -158,4 +161,36 @@ pub fn slice_fault(
         return room;
     }
     table_fault(pmax, lmax, probes, links, lows, highs)
+}
+
+// The answer of a check within the limits pmax and lmax. The number of a table is never at fault.
+pub fn check_limited(
+    pmax: usize,
+    lmax: usize,
+    number: u16,
+    probes: u16,
+    links: u16,
+    needs: &[u16],
+    lows: &[u16],
+    highs: &[u16],
+    costs: &[u16],
+) -> Checking
+    ensures { λ r. let x = slicesOf number probes links (now (needs .entry)) (now (lows .entry)) (now (highs .entry)) (now (costs .entry)) in
+        ⌜ checkingReply r ≡ replyOf (sliceFault pmax lmax x) [] ⌝ }
+{
+    let fault = slice_fault(
+        pmax,
+        lmax,
+        probes as usize,
+        links as usize,
+        needs,
+        lows,
+        highs,
+        costs,
+    );
+    if fault == 0 {
+        Checking::Fine
+    } else {
+        Checking::Refused(fault)
+    }
 }

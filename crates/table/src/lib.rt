@@ -46,19 +46,5 @@ pub fn check_table(
     ensures { λ r. let x = slicesOf number probes links (now (needs .entry)) (now (lows .entry)) (now (highs .entry)) (now (costs .entry)) in
         ⌜ checkingReply r ≡ replyOf (slicesFault x) [] ⌝ }
 {
-    let fault = checks::slice_fault(
-        256,
-        2048,
-        probes as usize,
-        links as usize,
-        needs,
-        lows,
-        highs,
-        costs,
-    );
-    if fault == 0 {
-        Checking::Fine
-    } else {
-        Checking::Refused(fault)
-    }
+    checks::check_limited(256, 2048, number, probes, links, needs, lows, highs, costs)
 }
