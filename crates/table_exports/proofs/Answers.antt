@@ -28,17 +28,20 @@ checking-packed fault = go (ℕ-discrete fault 0)
     go (yes z) = rw z
     go (no n) = rw (ne-eqb fault 0 n)
 
-pub reads-packed : (more : Bool) (s : List ℕ) (a : Reading) (r : ℕ) (before after : Lent) → ReadsTable 256 2048 more s a before after → r ≡ packedReading (readingReply a)
-    → ReadsPacked more s r before after
-reads-packed more s a r before after g e = record { answer = e ∙ ap packedReading (g .answer); lent = g .lent }
+-- within any limits
+module _ (pmax lmax : ℕ) where
+  pub reads-packed : (more : Bool) (s : List ℕ) (a : Reading) (r : ℕ) (before after : Lent) → ReadsTable pmax lmax more s a before after → r ≡ packedReading (readingReply a)
+      → ReadsPacked pmax lmax more s r before after
+  reads-packed more s a r before after g e = record { answer = e ∙ ap packedReading (g .answer); lent = g .lent }
 
-pub writes-packed : (x : Slices) (a : Writing) (r : ℕ) (before after : List ℕ) → WritesTable 256 2048 x a before after → r ≡ packedValue (writingReply a) → WritesPacked x r before after
-writes-packed x a r before after g e = record { answer = e ∙ ap packedValue (g .answer); out = g .out }
+  pub writes-packed : (x : Slices) (a : Writing) (r : ℕ) (before after : List ℕ) → WritesTable pmax lmax x a before after → r ≡ packedValue (writingReply a)
+      → WritesPacked pmax lmax x r before after
+  writes-packed x a r before after g e = record { answer = e ∙ ap packedValue (g .answer); out = g .out }
 
--- a length that is answered is that of the text
-pub length-is : (x : Slices) (a : Writing) (n : ℕ) (before after : List ℕ) → WritesTable 256 2048 x a before after → a ≡ Length n → n ≡ textEnd (tableOf x)
-length-is x a n before after g e = go (eqb (writeFault 256 2048 x (length before)) 0) (sym e ∙ writes-answer g)
-  where
-    go : (b : Bool) → Length n ≡ cond b (Length (textEnd (tableOf x))) (Refused (writeFault 256 2048 x (length before))) → n ≡ textEnd (tableOf x)
-    go true h = cc
-    go false h = let z : _≡_ {A = ℕ} 0 1 = cc in absurd (omega arith)
+  -- a length that is answered is that of the text
+  pub length-is : (x : Slices) (a : Writing) (n : ℕ) (before after : List ℕ) → WritesTable pmax lmax x a before after → a ≡ Length n → n ≡ textEnd (tableOf x)
+  length-is x a n before after g e = go (eqb (writeFault pmax lmax x (length before)) 0) (sym e ∙ writes-answer g)
+    where
+      go : (b : Bool) → Length n ≡ cond b (Length (textEnd (tableOf x))) (Refused (writeFault pmax lmax x (length before))) → n ≡ textEnd (tableOf x)
+      go true h = cc
+      go false h = let z : _≡_ {A = ℕ} 0 1 = cc in absurd (omega arith)

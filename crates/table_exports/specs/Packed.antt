@@ -20,12 +20,12 @@ packedChecking = packedBy (λ vs. 0)
 abbrev pub packedReading : Reply → ℕ
 packedReading = packedBy (λ vs. answerBase + getD vs 0 0 * 2 ^ 32 + getD vs 1 0 * 2 ^ 16 + getD vs 2 0)
 
--- `read_table`, or with `more` `read_table_prefix`, on the text s
-pub record ReadsPacked (more : Bool) (s : List ℕ) (r : ℕ) (before after : Lent) : Type 0 where
-  pub answer : r ≡ packedReading (replyOf (readingFault 256 2048 more s before) (readValues (ofText s)))
-  pub lent : Filled (readingFault 256 2048 more s before) (ofText s) before after
+-- `read_table`, or with `more` `read_table_prefix`, on the text s, within limits
+pub record ReadsPacked (pmax lmax : ℕ) (more : Bool) (s : List ℕ) (r : ℕ) (before after : Lent) : Type 0 where
+  pub answer : r ≡ packedReading (replyOf (readingFault pmax lmax more s before) (readValues (ofText s)))
+  pub lent : Filled (readingFault pmax lmax more s before) (ofText s) before after
 
--- `write_table` on the slices x
-pub record WritesPacked (x : Slices) (r : ℕ) (before after : List ℕ) : Type 0 where
-  pub answer : r ≡ packedValue (replyOf (writeFault 256 2048 x (length before)) (textEnd (tableOf x) ∷ []))
-  pub out : after ≡ writtenOf (writeFault 256 2048 x (length before)) (tableOf x) before
+-- `write_table` on the slices x, within limits
+pub record WritesPacked (pmax lmax : ℕ) (x : Slices) (r : ℕ) (before after : List ℕ) : Type 0 where
+  pub answer : r ≡ packedValue (replyOf (writeFault pmax lmax x (length before)) (textEnd (tableOf x) ∷ []))
+  pub out : after ≡ writtenOf (writeFault pmax lmax x (length before)) (tableOf x) before

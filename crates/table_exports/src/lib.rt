@@ -1,9 +1,9 @@
-// The library of tables for C and Rust: check, read, write.
+// The library of tables for C and Rust: check, read, write; the same for the well-head display.
 ghost use mathlib.Core.Path.{_≡_};
 ghost use mathlib.Core.Bool.{true, false};
 ghost use Prim.Native.Nat.{_+_, _*_, ℕ, _<_};
 ghost use lib.ListN.{length};
-ghost use Rattle.table.specs.Slices.{slicesFault, slicesOf};
+ghost use Rattle.table.specs.Slices.{sliceFault, slicesFault, slicesOf};
 ghost use Rattle.table.specs.Checking.{checkingReply};
 ghost use Rattle.table_read.specs.Reading.{lentOf, readingReply};
 ghost use Rattle.table_write.specs.Writing.{writingReply};
@@ -76,7 +76,7 @@ pub extern "C" fn planner_read_table(
 ) -> u64
     ensures { λ r. let before = lentOf (now (needs .entry)) (now (lows .entry)) (now (highs .entry)) (now (costs .entry)) in
         let after = lentOf (now (needs .exit)) (now (lows .exit)) (now (highs .exit)) (now (costs .exit)) in
-        ⌜ ReadsPacked false (now (text .entry)) r before after ⌝ }
+        ⌜ ReadsPacked 256 2048 false (now (text .entry)) r before after ⌝ }
 {
     packed_reading(table_read::read_table(text, needs, lows, highs, costs))
 }
@@ -92,7 +92,7 @@ pub extern "C" fn planner_read_table_prefix(
 ) -> u64
     ensures { λ r. let before = lentOf (now (needs .entry)) (now (lows .entry)) (now (highs .entry)) (now (costs .entry)) in
         let after = lentOf (now (needs .exit)) (now (lows .exit)) (now (highs .exit)) (now (costs .exit)) in
-        ⌜ ReadsPacked true (now (text .entry)) r before after ⌝ }
+        ⌜ ReadsPacked 256 2048 true (now (text .entry)) r before after ⌝ }
 {
     packed_reading(table_read::read_table_prefix(text, needs, lows, highs, costs))
 }
@@ -110,7 +110,67 @@ pub extern "C" fn planner_write_table(
     out: &mut [u8],
 ) -> u64
     ensures { λ r. let x = slicesOf number probes links (now (needs .entry)) (now (lows .entry)) (now (highs .entry)) (now (costs .entry)) in
-        ⌜ WritesPacked x r (now (out .entry)) (now (out .exit)) ⌝ }
+        ⌜ WritesPacked 256 2048 x r (now (out .entry)) (now (out .exit)) ⌝ }
 {
     packed_writing(table_write::write_table(number, probes, links, needs, lows, highs, costs, out))
+}
+
+// `table_display::check_table`: 0 where the table is fine.
+#[no_mangle]
+pub extern "C" fn planner_display_check_table(
+    number: u16,
+    probes: u16,
+    links: u16,
+    needs: &[u16],
+    lows: &[u16],
+    highs: &[u16],
+    costs: &[u16],
+) -> u8
+    ensures { λ r. let x = slicesOf number probes links (now (needs .entry)) (now (lows .entry)) (now (highs .entry)) (now (costs .entry)) in
+        ⌜ r ≡ sliceFault 16 40 x ⌝ }
+{
+    packed_checking(table_display::check_table(number, probes, links, needs, lows, highs, costs))
+}
+
+// `table_display::read_table`, its answer packed.
+#[no_mangle]
+pub extern "C" fn planner_display_read_table(
+    text: &[u8],
+    needs: &mut [u16],
+    lows: &mut [u16],
+    highs: &mut [u16],
+    costs: &mut [u16],
+) -> u64
+    ensures { λ r. let before = lentOf (now (needs .entry)) (now (lows .entry)) (now (highs .entry)) (now (costs .entry)) in
+        let after = lentOf (now (needs .exit)) (now (lows .exit)) (now (highs .exit)) (now (costs .exit)) in
+        ⌜ ReadsPacked 16 40 false (now (text .entry)) r before after ⌝ }
+{
+    packed_reading(table_display::read_table(text, needs, lows, highs, costs))
+}
+
+// `table_display::write_table`, its answer packed.
+#[no_mangle]
+pub extern "C" fn planner_display_write_table(
+    number: u16,
+    probes: u16,
+    links: u16,
+    needs: &[u16],
+    lows: &[u16],
+    highs: &[u16],
+    costs: &[u16],
+    out: &mut [u8],
+) -> u64
+    ensures { λ r. let x = slicesOf number probes links (now (needs .entry)) (now (lows .entry)) (now (highs .entry)) (now (costs .entry)) in
+        ⌜ WritesPacked 16 40 x r (now (out .entry)) (now (out .exit)) ⌝ }
+{
+    packed_writing(table_display::write_table(
+        number,
+        probes,
+        links,
+        needs,
+        lows,
+        highs,
+        costs,
+        out,
+    ))
 }

@@ -28,7 +28,7 @@ returns : tie.Need-returns
 returns c =
     let at-read-table = c .before .before .before .before .before .before .before .before .before in
     let a = c .before .before .before .before .before .before .before .before .before .before .before .before .before .before .before .before .before .before .before .args in
-    reads-packed false (a .text .now) _ _ (lentOf (a .needs .now) (a .lows .now) (a .highs .now) (a .costs .now)) _ (at-read-table .read-table .ensures) (c .packed-reading .ensures)
+    reads-packed 256 2048 false (a .text .now) _ _ (lentOf (a .needs .now) (a .lows .now) (a .highs .now) (a .costs .now)) _ (at-read-table .read-table .ensures) (c .packed-reading .ensures)
 
 pub planner-read-table-spec : {M : Type 1} → statement M
 planner-read-table-spec =

@@ -28,7 +28,7 @@ returns : tie.Need-returns
 returns c =
     let at-read-table-prefix = c .before .before .before .before .before .before .before .before .before in
     let a = c .before .before .before .before .before .before .before .before .before .before .before .before .before .before .before .before .before .before .before .args in
-    reads-packed true (a .text .now) _ _ (lentOf (a .needs .now) (a .lows .now) (a .highs .now) (a .costs .now)) _ (at-read-table-prefix .read-table-prefix .ensures) (c .packed-reading .ensures)
+    reads-packed 256 2048 true (a .text .now) _ _ (lentOf (a .needs .now) (a .lows .now) (a .highs .now) (a .costs .now)) _ (at-read-table-prefix .read-table-prefix .ensures) (c .packed-reading .ensures)
 
 pub planner-read-table-prefix-spec : {M : Type 1} → statement M
 planner-read-table-prefix-spec =

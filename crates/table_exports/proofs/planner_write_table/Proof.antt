@@ -15,7 +15,7 @@ packed-writing-requires c κs =
     λ n is.
     let a = at-start .args in
     let x = slicesOf (a .number) (a .probes) (a .links) (a .needs .now) (a .lows .now) (a .highs .now) (a .costs .now) in
-    let e = length-is x _ n (a .out .now) _ (c .before .before .write-table .ensures) is in
+    let e = length-is 256 2048 x _ n (a .out .now) _ (c .before .before .write-table .ensures) is in
     omega (arith, at-start .fits .probes, at-start .fits .links)
 
 same-length : tie.Need-same-length
@@ -26,7 +26,7 @@ returns c =
     let at-write-table = c .before .before .before in
     let a = c .before .before .before .before .before .before .before .before .before .before .args in
     let x = slicesOf (a .number) (a .probes) (a .links) (a .needs .now) (a .lows .now) (a .highs .now) (a .costs .now) in
-    writes-packed x _ _ (a .out .now) _ (at-write-table .write-table .ensures) (c .packed-writing .ensures)
+    writes-packed 256 2048 x _ _ (a .out .now) _ (at-write-table .write-table .ensures) (c .packed-writing .ensures)
 
 pub planner-write-table-spec : {M : Type 1} → statement M
 planner-write-table-spec =
