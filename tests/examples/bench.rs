@@ -1,11 +1,12 @@
 //! Times the library against Rust: `cargo run --release --offline --example bench`.
 
 use planner_tests::channel::full_script;
+use planner_tests::depths;
 use planner_tests::ffi;
 use planner_tests::fleet::{self, BYTES};
 use planner_tests::methods;
 use planner_tests::random::Random;
-use planner_tests::reference::{fill_plan, fill_plan_and_work, Slices, Table};
+use planner_tests::reference::{fill_plan, fill_plan_and_work, Caller, Slices, Table, FULL};
 use planner_tests::script;
 use planner_tests::sites::{half_needed, hubs, largest_hubs, legal_of_size, Numbers};
 use std::hint::black_box;
@@ -25,15 +26,15 @@ const METHODS: [(Method, &str); 2] = [(Method::Slse, "S-LSE"), (Method::Turns, "
 
 fn by_library(method: Method, given: Slices, plan: &mut [u8], work: &mut [u8]) -> u64 {
     match method {
-        Method::Slse => ffi::plan_slse(given, plan),
-        Method::Turns => ffi::plan_turns(given, plan, work),
+        Method::Slse => ffi::plan_by_slse(Caller::Full, given, plan),
+        Method::Turns => ffi::plan_by_turns(Caller::Full, given, plan, work),
     }
 }
 
 fn by_rust(method: Method, given: Slices, plan: &mut [u8], work: &mut [u8]) -> u64 {
     ffi::plan_answer(&match method {
-        Method::Slse => fill_plan(given, methods::slse, plan),
-        Method::Turns => fill_plan_and_work(given, methods::turns, plan, work),
+        Method::Slse => fill_plan(Caller::Full, given, methods::slse, plan),
+        Method::Turns => fill_plan_and_work(Caller::Full, given, methods::turns, plan, work),
     })
 }
 
@@ -156,7 +157,7 @@ fn print_ratios(random: &mut Random) {
 
 fn print_events(random: &mut Random) {
     println!("site          links  events    library us   rust us  ratio");
-    for (site, table) in &sites(largest_hubs(), random) {
+    for (site, table) in &sites(largest_hubs(FULL), random) {
         let lines = full_script(table, random);
         let times = [
             ("script", measure_script(table, &lines)),
@@ -192,6 +193,13 @@ fn print_growth(random: &mut Random) {
     }
 }
 
+fn print_depths() {
+    println!("call                          bytes");
+    for (name, depth) in depths::of_planning() {
+        println!("{name:<28}  {depth:>5}");
+    }
+}
+
 fn main() {
     let mut random = Random::new(34);
     println!("256 probes, each needing half of its links; medians of {RUNS} runs.");
@@ -202,4 +210,6 @@ fn main() {
     println!("1,024 events on the largest site, as one script and as calls with all checks;");
     println!("least of {EVENT_RUNS} runs:");
     print_events(&mut random);
+    println!("Deepest stack of each planning call, for all and for the display of 16 probes and 40 links:");
+    print_depths();
 }

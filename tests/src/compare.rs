@@ -3,8 +3,9 @@
 use crate::buffer::Buffer;
 use crate::ffi;
 use crate::random::Random;
-use crate::reference::{self, Behind, Lent, Plan, Slices, Table, WITHDRAWN};
+use crate::reference::{self, Behind, Caller, Lent, Plan, Slices, Table, WITHDRAWN};
 use crate::sites::Numbers;
+use std::fmt::Debug;
 
 fn lend(buffers: &mut [Buffer<u16>; 4]) -> Lent<'_> {
     let [needs, lows, highs, costs] = buffers.each_mut().map(Buffer::lend);
@@ -44,9 +45,18 @@ fn assert_filled(after: &[Buffer<u16>; 4], before: &[Buffer<u16>; 4], result: &R
     }
 }
 
+/// What both callers answer, which is the same: of texts and tables within the display's limits.
+#[track_caller]
+pub fn by_both<T: PartialEq + Debug>(answer: impl FnMut(Caller) -> T) -> T {
+    let [full, display] = Caller::BOTH.map(answer);
+    assert_eq!(full, display);
+    full
+}
+
 /// Reads into slices of these lengths: needs, lows, highs, costs.
 #[track_caller]
 pub fn read(
+    caller: Caller,
     text: &[u8],
     behind: Behind,
     lengths: [usize; 4],
@@ -54,8 +64,8 @@ pub fn read(
 ) -> Result<Table, u8> {
     let before = lengths.map(|length| Buffer::filled(length, || random.short()));
     let (mut by_library, mut by_reference) = (before.clone(), before.clone());
-    let answer = ffi::read(text, behind, lend(&mut by_library));
-    let result = reference::read_table(text, behind, lend(&mut by_reference));
+    let answer = ffi::read(caller, text, behind, lend(&mut by_library));
+    let result = reference::read_table(caller, text, behind, lend(&mut by_reference));
     let call = match behind {
         Behind::Nothing => "read",
         Behind::Anything => "read prefix",
@@ -70,9 +80,9 @@ pub fn read(
 }
 
 #[track_caller]
-pub fn check(given: Slices) -> Result<(), u8> {
-    let answer = ffi::check_table(given);
-    let result = reference::check_table(given);
+pub fn check(caller: Caller, given: Slices) -> Result<(), u8> {
+    let answer = ffi::check(caller, given);
+    let result = reference::check_table(caller, given);
     let expected = ffi::check_answer(&result);
     assert_same("check", [answer.into(), expected.into()], [&(), &()]);
     result
@@ -102,16 +112,26 @@ pub fn written(
 }
 
 #[track_caller]
-pub fn write(given: Slices, length: usize, random: &mut Random) -> Result<Vec<u8>, u8> {
-    let library = |out: &mut [u8]| ffi::write_table(given, out);
-    let reference = |out: &mut [u8]| reference::write_table(given, out);
+pub fn write(
+    caller: Caller,
+    given: Slices,
+    length: usize,
+    random: &mut Random,
+) -> Result<Vec<u8>, u8> {
+    let library = |out: &mut [u8]| ffi::write(caller, given, out);
+    let reference = |out: &mut [u8]| reference::write_table(caller, given, out);
     written("write", length, random, library, reference)
 }
 
 #[track_caller]
-pub fn plan_text(text: &[u8], length: usize, random: &mut Random) -> Result<Vec<u8>, u8> {
-    let library = |out: &mut [u8]| ffi::plan_text(text, out);
-    let reference = |out: &mut [u8]| reference::plan_text(text, out);
+pub fn plan_text(
+    caller: Caller,
+    text: &[u8],
+    length: usize,
+    random: &mut Random,
+) -> Result<Vec<u8>, u8> {
+    let library = |out: &mut [u8]| ffi::print_plan(caller, text, out);
+    let reference = |out: &mut [u8]| reference::plan_text(caller, text, out);
     written("plan text", length, random, library, reference)
 }
 
@@ -126,11 +146,16 @@ fn assert_planned(after: &Buffer<u8>, before: &Buffer<u8>, result: &Result<Plan,
 
 /// By S-LSE, with a plan of this length.
 #[track_caller]
-pub fn plan_slse(given: Slices, length: usize, random: &mut Random) -> Result<Plan, u8> {
+pub fn plan_slse(
+    caller: Caller,
+    given: Slices,
+    length: usize,
+    random: &mut Random,
+) -> Result<Plan, u8> {
     let before = Buffer::filled(length, || random.byte());
     let (mut by_library, mut by_reference) = (before.clone(), before.clone());
-    let answer = ffi::plan_slse(given, by_library.lend());
-    let result = reference::fill_plan(given, reference::plan, by_reference.lend());
+    let answer = ffi::plan_by_slse(caller, given, by_library.lend());
+    let result = reference::fill_plan(caller, given, reference::plan, by_reference.lend());
     assert_same(
         "S-LSE",
         [answer, ffi::plan_answer(&result)],
@@ -142,7 +167,12 @@ pub fn plan_slse(given: Slices, length: usize, random: &mut Random) -> Result<Pl
 
 /// By turns, with a plan and working bytes of these lengths; many bytes look like a record's.
 #[track_caller]
-pub fn plan_turns(given: Slices, lengths: [usize; 2], random: &mut Random) -> Result<Plan, u8> {
+pub fn plan_turns(
+    caller: Caller,
+    given: Slices,
+    lengths: [usize; 2],
+    random: &mut Random,
+) -> Result<Plan, u8> {
     let mut byte = || {
         let any = random.byte();
         random.pick(&[1, 2, any])
@@ -150,9 +180,9 @@ pub fn plan_turns(given: Slices, lengths: [usize; 2], random: &mut Random) -> Re
     let before = lengths.map(|length| Buffer::filled(length, &mut byte));
     let (mut by_library, mut by_reference) = (before.clone(), before.clone());
     let [plan, work] = by_library.each_mut().map(Buffer::lend);
-    let answer = ffi::plan_turns(given, plan, work);
+    let answer = ffi::plan_by_turns(caller, given, plan, work);
     let [plan, work] = by_reference.each_mut().map(Buffer::lend);
-    let result = reference::fill_plan_and_work(given, reference::plan, plan, work);
+    let result = reference::fill_plan_and_work(caller, given, reference::plan, plan, work);
     assert_same(
         "by turns",
         [answer, ffi::plan_answer(&result)],
@@ -168,20 +198,20 @@ pub fn plan_turns(given: Slices, lengths: [usize; 2], random: &mut Random) -> Re
 
 /// By both methods, with so many bytes more than are needed.
 #[track_caller]
-pub fn plan(given: Slices, longer: usize, random: &mut Random) -> Result<Plan, u8> {
+pub fn plan(caller: Caller, given: Slices, longer: usize, random: &mut Random) -> Result<Plan, u8> {
     let links = given.links as usize;
-    let by_turns = plan_turns(given, [links + longer, 4 * links + longer], random);
-    assert_eq!(plan_slse(given, links + longer, random), by_turns);
+    let by_turns = plan_turns(caller, given, [links + longer, 4 * links + longer], random);
+    assert_eq!(plan_slse(caller, given, links + longer, random), by_turns);
     by_turns
 }
 
 /// A legal table's plan by both methods and by its text.
 #[track_caller]
-pub fn plan_table(table: &Table, random: &mut Random) -> Plan {
+pub fn plan_table(caller: Caller, table: &Table, random: &mut Random) -> Plan {
     let (longer, numbers) = (random.below(3), Numbers::of(table));
-    let plan = plan(numbers.slices(), longer, random).expect("a legal table");
+    let plan = plan(caller, numbers.slices(), longer, random).expect("a legal table");
     let output = plan.text(table);
-    let printed = plan_text(&table.text(), output.len() + longer, random);
+    let printed = plan_text(caller, &table.text(), output.len() + longer, random);
     assert!(printed == Ok(output));
     plan
 }

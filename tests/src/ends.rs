@@ -1,7 +1,7 @@
 //! The second implementation of one end, from documents 01 and 02 alone; a refusal is its number
 //! there.
 
-use crate::reference::{counted_need, dearer, table_of_slices, Link, Slices};
+use crate::reference::{counted_need, dearer, table_of_slices, Caller, Link, Slices};
 
 /// What befell a probe.
 #[derive(Clone, Copy, Debug, PartialEq)]
@@ -148,7 +148,7 @@ pub fn other_end(link: Link, probe: u16) -> Option<u16> {
 impl End {
     /// The table's checks, then 20, 21, 22.
     fn of(given: Slices, probe: u16, record: &[u8]) -> Result<End, u8> {
-        let table = table_of_slices(given)?;
+        let table = table_of_slices(Caller::Full, given)?;
         if record.len() != 2 * table.links.len() {
             return Err(20);
         }

@@ -1,7 +1,7 @@
 //! The functions of the static libraries: each lent slice passes as a pointer and a length in entries.
 
 use crate::ends::{Entry, Kind};
-use crate::reference::{Behind, Lent, Plan, Slices, Table};
+use crate::reference::{Behind, Caller, Lent, Plan, Slices, Table};
 
 /// Declares a function of the library and calls it: in brackets the parameters that are taken apart
 /// already, each with its C type and its value; behind them the others.
@@ -60,12 +60,20 @@ macro_rules! library {
 library! {
     fn read_table(text: &[u8], lent: Lent) -> u64;
     fn read_table_prefix(text: &[u8], lent: Lent) -> u64;
-    pub fn check_table(given: Slices) -> u8;
-    pub fn write_table(given: Slices, out: &mut [u8]) -> u64;
+    fn check_table(given: Slices) -> u8;
+    fn write_table(given: Slices, out: &mut [u8]) -> u64;
 
-    pub fn plan_slse(given: Slices, plan: &mut [u8]) -> u64;
-    pub fn plan_turns(given: Slices, plan: &mut [u8], work: &mut [u8]) -> u64;
-    pub fn plan_text(text: &[u8], out: &mut [u8]) -> u64;
+    fn display_read_table(text: &[u8], lent: Lent) -> u64;
+    fn display_check_table(given: Slices) -> u8;
+    fn display_write_table(given: Slices, out: &mut [u8]) -> u64;
+
+    fn plan_slse(given: Slices, plan: &mut [u8]) -> u64;
+    fn plan_turns(given: Slices, plan: &mut [u8], work: &mut [u8]) -> u64;
+    fn plan_text(text: &[u8], out: &mut [u8]) -> u64;
+
+    fn display_plan_slse(given: Slices, plan: &mut [u8]) -> u64;
+    fn display_plan_turns(given: Slices, plan: &mut [u8], work: &mut [u8]) -> u64;
+    fn display_plan_text(text: &[u8], out: &mut [u8]) -> u64;
 
     pub fn probe_open(given: Slices, probe: u16, rec: &mut [u8], free: usize) -> u64;
     pub fn probe_hear(given: Slices, probe: u16, rec: &mut [u8], frame: &[u8], free: usize) -> u64;
@@ -112,10 +120,47 @@ library! {
     pub fn script_end(given: Slices, rec: &[u8], held: u32, changed: u32, out: &mut [u8]) -> u64;
 }
 
-pub fn read(text: &[u8], behind: Behind, lent: Lent) -> u64 {
-    match behind {
-        Behind::Nothing => read_table(text, lent),
-        Behind::Anything => read_table_prefix(text, lent),
+pub fn check(caller: Caller, given: Slices) -> u8 {
+    match caller {
+        Caller::Full => check_table(given),
+        Caller::Display => display_check_table(given),
+    }
+}
+
+pub fn read(caller: Caller, text: &[u8], behind: Behind, lent: Lent) -> u64 {
+    match (caller, behind) {
+        (Caller::Full, Behind::Nothing) => read_table(text, lent),
+        (Caller::Full, Behind::Anything) => read_table_prefix(text, lent),
+        (Caller::Display, Behind::Nothing) => display_read_table(text, lent),
+        (Caller::Display, Behind::Anything) => panic!("the display reads no prefix"),
+    }
+}
+
+pub fn write(caller: Caller, given: Slices, out: &mut [u8]) -> u64 {
+    match caller {
+        Caller::Full => write_table(given, out),
+        Caller::Display => display_write_table(given, out),
+    }
+}
+
+pub fn plan_by_slse(caller: Caller, given: Slices, plan: &mut [u8]) -> u64 {
+    match caller {
+        Caller::Full => plan_slse(given, plan),
+        Caller::Display => display_plan_slse(given, plan),
+    }
+}
+
+pub fn plan_by_turns(caller: Caller, given: Slices, plan: &mut [u8], work: &mut [u8]) -> u64 {
+    match caller {
+        Caller::Full => plan_turns(given, plan, work),
+        Caller::Display => display_plan_turns(given, plan, work),
+    }
+}
+
+pub fn print_plan(caller: Caller, text: &[u8], out: &mut [u8]) -> u64 {
+    match caller {
+        Caller::Full => plan_text(text, out),
+        Caller::Display => display_plan_text(text, out),
     }
 }
 

@@ -2,7 +2,7 @@
 //! there.
 
 use crate::ends::{Entry, Frame, What};
-use crate::reference::{dearer, table_of_slices, Link, Slices, Table};
+use crate::reference::{dearer, table_of_slices, Caller, Link, Slices, Table};
 
 /// A link's bytes: outbound from low, inbound at high, outbound from high, inbound at low.
 pub const BYTES: usize = 4;
@@ -70,7 +70,7 @@ pub struct Site {
 impl Site {
     /// The table's checks.
     pub fn of(given: Slices) -> Result<Site, u8> {
-        table_of_slices(given).map(Site::of_legal)
+        table_of_slices(Caller::Full, given).map(Site::of_legal)
     }
 
     pub fn of_legal(table: Table) -> Site {

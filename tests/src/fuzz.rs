@@ -5,7 +5,7 @@ use crate::compare;
 use crate::compare_script;
 use crate::events::any_table;
 use crate::random::Random;
-use crate::reference::{plan_output, table_of_text, Behind, Table};
+use crate::reference::{plan_output, table_of_text, Behind, Caller, Table};
 use crate::sites::{banded, damage_header, damage_table, damage_text, legal};
 use std::collections::{BTreeMap, BTreeSet};
 use std::fmt;
@@ -166,9 +166,9 @@ fn script_input(random: &mut Random) -> Vec<u8> {
 /// Compares the plan program's function on an input, with a slice that may be too short.
 pub fn plan(random: &mut Random, tally: &mut Tally) {
     let text = plan_input(random);
-    let output = plan_output(&text);
+    let output = plan_output(Caller::Full, &text);
     let length = (output.len() + random.below(3)).saturating_sub(random.below(2));
-    let answer = compare::plan_text(&text, length, random);
+    let answer = compare::plan_text(Caller::Full, &text, length, random);
     match length < output.len() {
         true => assert_eq!(answer, Err(8)),
         false => assert_eq!(answer.as_ref(), Ok(&output)),
@@ -201,7 +201,7 @@ pub fn script(random: &mut Random, tally: &mut Tally) {
         1 if output.len() == 5 => BTreeSet::from([&refused[..]]),
         _ => lines.iter().map(|line| told(line)).collect(),
     };
-    let table = table_of_text(&input, Behind::Anything);
+    let table = table_of_text(Caller::Full, &input, Behind::Anything);
     if table.is_ok_and(|table| table.has_short()) {
         things.insert("short probes");
     }

@@ -7,6 +7,7 @@ pub mod compare_ends;
 pub mod compare_fleet;
 pub mod compare_log;
 pub mod compare_script;
+pub mod depths;
 pub mod ends;
 pub mod events;
 pub mod faults;

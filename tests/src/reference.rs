@@ -54,10 +54,59 @@ pub enum Behind {
 
 impl Behind {
     pub const BOTH: [Behind; 2] = [Behind::Nothing, Behind::Anything];
+
+    /// What the caller's readings let stand there: the display reads no prefix.
+    pub fn of(caller: Caller) -> &'static [Behind] {
+        match caller {
+            Caller::Full => &Behind::BOTH,
+            Caller::Display => &[Behind::Nothing],
+        }
+    }
 }
 
-pub const MOST_PROBES: usize = 256;
-pub const MOST_LINKS: usize = 2048;
+/// Who calls, and so which limits a table is held to.
+#[derive(Clone, Copy, Debug, PartialEq)]
+pub enum Caller {
+    Full,
+    /// The well-head display of 02.
+    Display,
+}
+
+/// The most probes and links that a table may have.
+#[derive(Clone, Copy)]
+pub struct Limits {
+    pub probes: usize,
+    pub links: usize,
+}
+
+pub const FULL: Limits = Limits {
+    probes: 256,
+    links: 2048,
+};
+
+pub const DISPLAY: Limits = Limits {
+    probes: 16,
+    links: 40,
+};
+
+impl Caller {
+    pub const BOTH: [Caller; 2] = [Caller::Full, Caller::Display];
+
+    pub fn limits(self) -> Limits {
+        match self {
+            Caller::Full => FULL,
+            Caller::Display => DISPLAY,
+        }
+    }
+}
+
+impl Limits {
+    /// Whether this many probes or links are too many.
+    pub fn exceeded(self, probes: usize, links: usize) -> bool {
+        probes > self.probes || links > self.links
+    }
+}
+
 pub const CLOSING: &[u8] = b"ffff\n";
 
 /// The refusal of a need above the probe's links: 02 withdraws it, and no call makes it.
@@ -156,8 +205,9 @@ pub fn text_length(probes: usize, links: usize) -> usize {
     13 + 5 * probes + 13 * links + 5
 }
 
-fn check_counts(probes: usize, links: usize) -> Result<(), u8> {
-    if probes == 0 || probes > MOST_PROBES || links > MOST_LINKS {
+/// 3, by the caller's own limits.
+fn check_counts(caller: Caller, probes: usize, links: usize) -> Result<(), u8> {
+    if probes == 0 || caller.limits().exceeded(probes, links) {
         return Err(3);
     }
     Ok(())
@@ -189,9 +239,9 @@ fn take_line<const N: usize>(text: &mut &[u8]) -> Result<[u16; N], u8> {
 }
 
 /// The legal table a text holds: 1, 2, then 3, or 4 and 5, line by line; then 6.
-pub fn table_of_text(mut text: &[u8], behind: Behind) -> Result<Table, u8> {
+pub fn table_of_text(caller: Caller, mut text: &[u8], behind: Behind) -> Result<Table, u8> {
     let [number, probes, links] = take_line(&mut text)?;
-    check_counts(probes.into(), links.into())?;
+    check_counts(caller, probes.into(), links.into())?;
     let mut table = Table {
         number,
         needs: Vec::new(),
@@ -216,11 +266,11 @@ pub fn table_of_text(mut text: &[u8], behind: Behind) -> Result<Table, u8> {
 }
 
 /// The legal table that slices hold: 8, 3, then 4 and 5 link by link.
-pub fn table_of_slices(given: Slices) -> Result<Table, u8> {
+pub fn table_of_slices(caller: Caller, given: Slices) -> Result<Table, u8> {
     let (probes, links) = (given.probes as usize, given.links as usize);
     let lent = [given.needs, given.lows, given.highs, given.costs].map(<[u16]>::len);
     check_lengths(probes, links, lent)?;
-    check_counts(probes, links)?;
+    check_counts(caller, probes, links)?;
     let mut table = Table {
         number: given.number,
         needs: given.needs[..probes].to_vec(),
@@ -234,8 +284,8 @@ pub fn table_of_slices(given: Slices) -> Result<Table, u8> {
 }
 
 /// Fills the lent slices from a text; 8 comes last.
-pub fn read_table(text: &[u8], behind: Behind, lent: Lent) -> Result<Table, u8> {
-    let table = table_of_text(text, behind)?;
+pub fn read_table(caller: Caller, text: &[u8], behind: Behind, lent: Lent) -> Result<Table, u8> {
+    let table = table_of_text(caller, text, behind)?;
     let lengths = [
         lent.needs.len(),
         lent.lows.len(),
@@ -252,16 +302,16 @@ pub fn read_table(text: &[u8], behind: Behind, lent: Lent) -> Result<Table, u8> 
     Ok(table)
 }
 
-pub fn check_table(given: Slices) -> Result<(), u8> {
-    table_of_slices(given).map(|_| ())
+pub fn check_table(caller: Caller, given: Slices) -> Result<(), u8> {
+    table_of_slices(caller, given).map(|_| ())
 }
 
 /// Fills the lent text from its start and answers the length; a short `out` is among the first, 8.
-pub fn write_table(given: Slices, out: &mut [u8]) -> Result<usize, u8> {
+pub fn write_table(caller: Caller, given: Slices, out: &mut [u8]) -> Result<usize, u8> {
     if out.len() < text_length(given.probes.into(), given.links.into()) {
         return Err(8);
     }
-    put_text(&table_of_slices(given)?.text(), out)
+    put_text(&table_of_slices(caller, given)?.text(), out)
 }
 
 /// Fills `out` from its start and answers the length; 8 where it is too short.
@@ -340,11 +390,16 @@ pub fn rest_in_order(order: &[usize], table: &Table) -> Plan {
 pub type Method = fn(&Table) -> Plan;
 
 /// Fills the lent plan from its start; a short one is among the first, 8.
-pub fn fill_plan(given: Slices, method: Method, bytes: &mut [u8]) -> Result<Plan, u8> {
+pub fn fill_plan(
+    caller: Caller,
+    given: Slices,
+    method: Method,
+    bytes: &mut [u8],
+) -> Result<Plan, u8> {
     if bytes.len() < given.links.into() {
         return Err(8);
     }
-    let plan = method(&table_of_slices(given)?);
+    let plan = method(&table_of_slices(caller, given)?);
     for (byte, &kept) in bytes.iter_mut().zip(&plan.kept) {
         *byte = kept.into();
     }
@@ -353,6 +408,7 @@ pub fn fill_plan(given: Slices, method: Method, bytes: &mut [u8]) -> Result<Plan
 
 /// The same with lent working bytes, at least four a link and all zero after.
 pub fn fill_plan_and_work(
+    caller: Caller,
     given: Slices,
     method: Method,
     bytes: &mut [u8],
@@ -361,7 +417,7 @@ pub fn fill_plan_and_work(
     if work.len() < 4 * given.links as usize {
         return Err(8);
     }
-    let plan = fill_plan(given, method, bytes)?;
+    let plan = fill_plan(caller, given, method, bytes)?;
     work.fill(0);
     Ok(plan)
 }
@@ -371,15 +427,15 @@ pub fn refusal_line(refusal: u8) -> Vec<u8> {
     format!("e{refusal:03}\n").into_bytes()
 }
 
-/// The plan program's whole output for an input.
-pub fn plan_output(text: &[u8]) -> Vec<u8> {
-    match table_of_text(text, Behind::Nothing) {
+/// The plan program's whole output for an input; the display's text has the same form.
+pub fn plan_output(caller: Caller, text: &[u8]) -> Vec<u8> {
+    match table_of_text(caller, text, Behind::Nothing) {
         Ok(table) => plan(&table).text(&table),
         Err(refusal) => refusal_line(refusal),
     }
 }
 
 /// Fills `out` from its start with the plan program's output and answers the length.
-pub fn plan_text(text: &[u8], out: &mut [u8]) -> Result<usize, u8> {
-    put_text(&plan_output(text), out)
+pub fn plan_text(caller: Caller, text: &[u8], out: &mut [u8]) -> Result<usize, u8> {
+    put_text(&plan_output(caller, text), out)
 }

@@ -2,7 +2,7 @@
 
 use crate::ends::Entry;
 use crate::fleet::{Site, BYTES};
-use crate::reference::{put_text, refusal_line, table_of_text, text_length, Behind, Table};
+use crate::reference::{put_text, refusal_line, table_of_text, text_length, Behind, Caller, Table};
 
 /// The entries of its log.
 pub const LOG: usize = 1024;
@@ -78,7 +78,7 @@ impl Script {
 
 /// All that the program prints.
 pub fn output(input: &[u8]) -> Vec<u8> {
-    match table_of_text(input, Behind::Anything) {
+    match table_of_text(Caller::Full, input, Behind::Anything) {
         Ok(table) => {
             let behind = text_length(table.needs.len(), table.links.len());
             let mut script = Script::fresh(table);

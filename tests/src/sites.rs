@@ -1,7 +1,7 @@
 //! Sites to compare: 01's marked ones, random legal ones, and damaged ones.
 
 use crate::random::Random;
-use crate::reference::{table_of_text, Behind, Link, Slices, Table, MOST_LINKS, MOST_PROBES};
+use crate::reference::{table_of_text, Behind, Caller, Limits, Link, Slices, Table, DISPLAY, FULL};
 
 /// The texts of M1 to M8, each as table 0001.
 pub const MARKED: [&str; 8] = [
@@ -19,7 +19,8 @@ pub const M2: &str = MARKED[1];
 
 /// M1 stands in place 0.
 pub fn marked(place: usize) -> Table {
-    table_of_text(MARKED[place].as_bytes(), Behind::Nothing).expect("a marked site is legal")
+    let text = MARKED[place].as_bytes();
+    table_of_text(Caller::Full, text, Behind::Nothing).expect("a marked site is legal")
 }
 
 /// Table 0001 with these links (low, high, cost) and needs.
@@ -35,17 +36,28 @@ pub fn site(links: &[[u16; 3]], needs: &[u16]) -> Table {
 /// A random legal table; most are small, some as large as may be.
 pub fn legal(random: &mut Random) -> Table {
     let probes = match random.below(32) {
-        0 => MOST_PROBES,
-        1 => 1 + random.below(MOST_PROBES),
+        0 => FULL.probes,
+        1 => 1 + random.below(FULL.probes),
         2..=7 => 1 + random.below(40),
         _ => 1 + random.below(8),
     };
-    let most = MOST_LINKS.min(probes * (probes - 1) / 2);
+    let most = FULL.links.min(probes * (probes - 1) / 2);
     let links = match random.below(4) {
         0 => most,
         1 => random.below(most + 1) / 8,
         _ => random.below(most + 1),
     };
+    legal_of_size(probes, links, random)
+}
+
+/// A random legal table within the display's limits; many have the most probes, the most links or
+/// both.
+pub fn for_display(random: &mut Random) -> Table {
+    let any = 1 + random.below(DISPLAY.probes);
+    let probes = random.pick(&[DISPLAY.probes, any]);
+    let most = DISPLAY.links.min(probes * (probes - 1) / 2);
+    let any = random.below(most + 1);
+    let links = random.pick(&[most, any]);
     legal_of_size(probes, links, random)
 }
 
@@ -101,10 +113,10 @@ fn set_few_costs(table: &mut Table, random: &mut Random) {
 /// A random legal table of more than eight probes, with many equal costs.
 pub fn crowded(random: &mut Random) -> Table {
     let probes = match random.below(64) {
-        0 => MOST_PROBES,
+        0 => FULL.probes,
         _ => 9 + random.below(40),
     };
-    let most = MOST_LINKS.min(probes * (probes - 1) / 2);
+    let most = FULL.links.min(probes * (probes - 1) / 2);
     let links = random.below(most + 1);
     let mut table = legal_of_size(probes, links, random);
     set_few_costs(&mut table, random);
@@ -114,7 +126,7 @@ pub fn crowded(random: &mut Random) -> Table {
 /// The same with links only between probes of near numbers and with little spare, so that
 /// displaced offers go far.
 pub fn banded(random: &mut Random) -> Table {
-    let probes = 9 + random.below(MOST_PROBES - 8) as u16;
+    let probes = 9 + random.below(FULL.probes - 8) as u16;
     let width = 1 + random.below(4) as u16;
     let near = |low: u16| (low + 1..probes.min(low + 1 + width)).map(move |high| [low, high, 0]);
     let mut links: Vec<[u16; 3]> = (0..probes).flat_map(near).collect();
@@ -144,10 +156,11 @@ pub fn hubs(probes: u16, hubs: u16) -> Table {
     site(&links, &vec![0; probes.into()])
 }
 
-/// The largest site whose first eight probes are joined to all others; costs and needs are 0.
-pub fn largest_hubs() -> Table {
-    let mut table = hubs(MOST_PROBES as u16, 9);
-    table.links.truncate(MOST_LINKS);
+/// The largest site within the limits whose first probes are joined to all others: eight of the full
+/// limits, two of the display's. Costs and needs are 0.
+pub fn largest_hubs(limits: Limits) -> Table {
+    let mut table = hubs(limits.probes as u16, limits.probes as u16 - 1);
+    table.links.truncate(limits.links);
     table
 }
 

@@ -3,7 +3,7 @@
 use planner_tests::compare;
 use planner_tests::ffi;
 use planner_tests::random::Random;
-use planner_tests::reference::{Behind, Lent, Table};
+use planner_tests::reference::{Behind, Caller, Lent, Table};
 use planner_tests::sites::{self, Numbers, MARKED};
 
 /// A row of 01's table of sites: links (low, high, cost), needs, places of kept links, cost.
@@ -38,7 +38,8 @@ fn marked_texts_are_read() {
         let fit = Numbers::of(&expected).lent;
         for lengths in [fit, fit.map(|length| length + 3)] {
             for behind in Behind::BOTH {
-                let read = compare::read(text.as_bytes(), behind, lengths, &mut random);
+                let read =
+                    compare::read(Caller::Full, text.as_bytes(), behind, lengths, &mut random);
                 assert_eq!(read.as_ref(), Ok(&expected));
             }
         }
@@ -50,12 +51,12 @@ fn marked_sites_are_written_back_the_same() {
     let mut random = Random::new(14);
     for (place, text) in MARKED.iter().enumerate() {
         let numbers = Numbers::of(&site(place));
-        assert_eq!(compare::check(numbers.slices()), Ok(()));
+        assert_eq!(compare::check(Caller::Full, numbers.slices()), Ok(()));
         for length in [text.len(), text.len() + 20] {
-            let written = compare::write(numbers.slices(), length, &mut random);
+            let written = compare::write(Caller::Full, numbers.slices(), length, &mut random);
             assert_eq!(written.as_deref(), Ok(text.as_bytes()));
         }
-        let short = compare::write(numbers.slices(), text.len() - 1, &mut random);
+        let short = compare::write(Caller::Full, numbers.slices(), text.len() - 1, &mut random);
         assert_eq!(short, Err(8));
     }
 }
@@ -64,7 +65,7 @@ fn marked_sites_are_written_back_the_same() {
 fn marked_sites_are_planned() {
     let mut random = Random::new(24);
     for (place, (links, _, kept, cost)) in ROWS.into_iter().enumerate() {
-        let plan = compare::plan_table(&site(place), &mut random);
+        let plan = compare::plan_table(Caller::Full, &site(place), &mut random);
         let kept_of = |link: usize| kept.contains(&link);
         let expected: Vec<bool> = (0..links.len()).map(kept_of).collect();
         assert_eq!(
@@ -79,10 +80,10 @@ fn plan_of_m2_as_bytes() {
     let numbers = Numbers::of(&site(1));
     let answer = 0x0001_0002_0000_000a;
     let (mut plan, mut work) = ([9; 4], [9; 14]);
-    let by_slse = ffi::plan_slse(numbers.slices(), &mut plan);
+    let by_slse = ffi::plan_by_slse(Caller::Full, numbers.slices(), &mut plan);
     assert_eq!((by_slse, plan), (answer, [1, 0, 1, 9]));
     plan = [8; 4];
-    let by_turns = ffi::plan_turns(numbers.slices(), &mut plan, &mut work);
+    let by_turns = ffi::plan_by_turns(Caller::Full, numbers.slices(), &mut plan, &mut work);
     assert_eq!((by_turns, plan), (answer, [1, 0, 1, 8]));
     assert_eq!(work, [0; 14]);
 }
@@ -91,7 +92,7 @@ fn plan_of_m2_as_bytes() {
 fn output_of_m2() {
     let output = b"000100020000000a\n000000010005\n000200030005\nffff\n";
     let mut out = [9; 50];
-    let answer = ffi::plan_text(MARKED[1].as_bytes(), &mut out);
+    let answer = ffi::print_plan(Caller::Full, MARKED[1].as_bytes(), &mut out);
     assert_eq!(answer, 0x0001_0000_0000_0030);
     assert_eq!(out[..48], output[..]);
     assert_eq!(out[48..], [9; 2]);
@@ -101,10 +102,13 @@ fn output_of_m2() {
 fn answers_about_m2_as_numbers() {
     let numbers = Numbers::of(&site(1));
     let mut out = [0; 77];
-    assert_eq!(ffi::check_table(numbers.slices()), 0);
-    let written = ffi::write_table(numbers.slices(), &mut out);
+    assert_eq!(ffi::check(Caller::Full, numbers.slices()), 0);
+    let written = ffi::write(Caller::Full, numbers.slices(), &mut out);
     assert_eq!(written, 0x0001_0000_0000_004d);
-    assert_eq!(ffi::write_table(numbers.slices(), &mut out[..76]), 8);
+    assert_eq!(
+        ffi::write(Caller::Full, numbers.slices(), &mut out[..76]),
+        8
+    );
     let read = |text: &[u8]| {
         let lent = Lent {
             needs: &mut [9; 4],
@@ -112,7 +116,7 @@ fn answers_about_m2_as_numbers() {
             highs: &mut [9; 3],
             costs: &mut [9; 3],
         };
-        ffi::read(text, Behind::Nothing, lent)
+        ffi::read(Caller::Full, text, Behind::Nothing, lent)
     };
     assert_eq!(read(&out), 0x0001_0001_0004_0003);
     assert_eq!(read(&out[..76]), 6);

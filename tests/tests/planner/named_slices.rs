@@ -3,7 +3,7 @@
 use planner_tests::compare;
 use planner_tests::faults::{each_choice, of_table};
 use planner_tests::random::Random;
-use planner_tests::reference::{text_length, Plan};
+use planner_tests::reference::{text_length, Caller, Plan};
 use planner_tests::sites::{marked, Numbers, M2};
 
 fn m2() -> Numbers {
@@ -18,12 +18,12 @@ fn m2_with(change: impl Fn(&mut Numbers)) -> Numbers {
 }
 
 fn written(numbers: &Numbers, length: usize) -> Result<Vec<u8>, u8> {
-    compare::write(numbers.slices(), length, &mut Random::new(3))
+    compare::write(Caller::Full, numbers.slices(), length, &mut Random::new(3))
 }
 
 /// By both methods, with so many bytes more than are needed.
 fn planned(numbers: &Numbers, longer: usize) -> Result<Plan, u8> {
-    compare::plan(numbers.slices(), longer, &mut Random::new(3))
+    compare::plan(Caller::Full, numbers.slices(), longer, &mut Random::new(3))
 }
 
 /// A plan or working bytes one byte too short come among the first, 8.
@@ -31,9 +31,15 @@ fn planned(numbers: &Numbers, longer: usize) -> Result<Plan, u8> {
 fn refused_for_short_bytes(numbers: &Numbers) {
     let (given, random) = (numbers.slices(), &mut Random::new(3));
     let (plan, work) = (numbers.links as usize, 4 * numbers.links as usize);
-    assert_eq!(compare::plan_slse(given, plan - 1, random), Err(8));
+    assert_eq!(
+        compare::plan_slse(Caller::Full, given, plan - 1, random),
+        Err(8)
+    );
     for lengths in [[plan - 1, work], [plan, work - 1], [plan + 9, work - 1]] {
-        assert_eq!(compare::plan_turns(given, lengths, random), Err(8));
+        assert_eq!(
+            compare::plan_turns(Caller::Full, given, lengths, random),
+            Err(8)
+        );
     }
 }
 
@@ -43,7 +49,7 @@ fn right_length(numbers: &Numbers) -> usize {
 
 #[track_caller]
 fn refused(numbers: Numbers, refusal: u8) {
-    assert_eq!(compare::check(numbers.slices()), Err(refusal));
+    assert_eq!(compare::check(Caller::Full, numbers.slices()), Err(refusal));
     let length = right_length(&numbers);
     assert_eq!(written(&numbers, length), Err(refusal));
     assert_eq!(written(&numbers, length + 9), Err(refusal));
@@ -55,7 +61,7 @@ fn refused(numbers: Numbers, refusal: u8) {
 
 #[track_caller]
 fn accepted(numbers: Numbers) {
-    assert_eq!(compare::check(numbers.slices()), Ok(()));
+    assert_eq!(compare::check(Caller::Full, numbers.slices()), Ok(()));
     let length = right_length(&numbers);
     for longer in [0, 1, 100] {
         let text = written(&numbers, length + longer).expect("a legal table");
@@ -245,11 +251,11 @@ fn every_small_table() {
             entries: [needs.to_vec(), low.to_vec(), high.to_vec(), vec![7, 7]],
             lent: [3, 2, 2, 2],
         };
-        let checked = compare::check(numbers.slices());
+        let checked = compare::check(Caller::Full, numbers.slices());
         let length = right_length(&numbers);
-        let text = compare::write(numbers.slices(), length, &mut random);
+        let text = compare::write(Caller::Full, numbers.slices(), length, &mut random);
         assert_eq!(text.as_ref().err(), checked.as_ref().err());
-        let plan = compare::plan(numbers.slices(), 0, &mut random);
+        let plan = compare::plan(Caller::Full, numbers.slices(), 0, &mut random);
         assert_eq!(plan.err(), checked.err());
         accepted += text.is_ok() as usize;
     }

@@ -2,13 +2,13 @@
 
 use planner_tests::compare;
 use planner_tests::random::Random;
-use planner_tests::reference::{Behind, Table};
+use planner_tests::reference::{Behind, Caller, Table};
 use planner_tests::sites::{site, M2};
 
 const FIT: [usize; 4] = [4, 3, 3, 3];
 
 fn read(text: &[u8], behind: Behind, lengths: [usize; 4]) -> Result<Table, u8> {
-    compare::read(text, behind, lengths, &mut Random::new(1))
+    compare::read(Caller::Full, text, behind, lengths, &mut Random::new(1))
 }
 
 fn m2() -> Table {
@@ -18,7 +18,7 @@ fn m2() -> Table {
 /// The plan's text is the refusal.
 #[track_caller]
 fn refusal_printed(text: &[u8], refusal: u8) {
-    let printed = |length| compare::plan_text(text, length, &mut Random::new(2));
+    let printed = |length| compare::plan_text(Caller::Full, text, length, &mut Random::new(2));
     let output = format!("e{refusal:03}\n").into_bytes();
     assert_eq!(printed(4), Err(8));
     assert_eq!(printed(5).as_ref(), Ok(&output));

@@ -13,7 +13,7 @@ use planner_tests::ffi;
 use planner_tests::fleet::{own_record, Site, BYTES};
 use planner_tests::lines::{offer, opening, refusal};
 use planner_tests::random::Random;
-use planner_tests::reference::{table_of_text, Behind, Table};
+use planner_tests::reference::{table_of_text, Behind, Caller, Table};
 use planner_tests::samples::{self, VALLEY};
 use planner_tests::script::{Script, LOG};
 use planner_tests::sites::{every_table, marked, site};
@@ -165,7 +165,7 @@ fn after_m11(probe: u16) -> Case {
 /// All links needed, no link, no link and a need of 2, and short probes.
 #[test]
 fn spare_0_is_enough() {
-    let valley = table_of_text(&samples::text(&VALLEY), Behind::Nothing);
+    let valley = table_of_text(Caller::Full, &samples::text(&VALLEY), Behind::Nothing);
     let valley = valley.expect("a legal table");
     for (table, probe) in [
         (marked(4), 0),

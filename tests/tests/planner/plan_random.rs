@@ -2,7 +2,7 @@
 
 use planner_tests::compare;
 use planner_tests::random::Random;
-use planner_tests::reference::{rest_in_order, Table};
+use planner_tests::reference::{rest_in_order, Caller, Table};
 use planner_tests::sites::{banded, crowded, lower_first};
 use std::cmp::Reverse;
 
@@ -15,7 +15,7 @@ fn plan_each(seed: u64, tables: usize, table: fn(&mut Random) -> Table) {
     let (mut short_lines, mut with_short) = (0, 0);
     for _ in 0..tables {
         let table = table(&mut random);
-        let plan = compare::plan_table(&table, &mut random);
+        let plan = compare::plan_table(Caller::Full, &table, &mut random);
         kept += plan.count;
         rested += table.links.len() - plan.count;
         let lower_first = lower_first(&table.links, Reverse);

@@ -2,11 +2,11 @@
 
 use planner_tests::compare;
 use planner_tests::random::Random;
-use planner_tests::reference::{Plan, Table};
+use planner_tests::reference::{Caller, Plan, Table};
 use planner_tests::sites::{hubs, legal_of_size, set_costs, set_needs, site, Numbers};
 
 fn plan(table: &Table) -> Plan {
-    compare::plan_table(table, &mut Random::new(27))
+    compare::plan_table(Caller::Full, table, &mut Random::new(27))
 }
 
 #[test]
@@ -16,12 +16,13 @@ fn no_links() {
         let table = site(&[], &vec![0; probes]);
         let output = b"0001000000000000\nffff\n".to_vec();
         for length in [22, 30] {
-            let printed = compare::plan_text(&table.text(), length, &mut random);
+            let printed = compare::plan_text(Caller::Full, &table.text(), length, &mut random);
             assert_eq!(printed.as_ref(), Ok(&output));
         }
         for longer in [0, 50] {
             let numbers = Numbers::of(&table);
-            let plan = compare::plan(numbers.slices(), longer, &mut random).expect("a legal table");
+            let plan = compare::plan(Caller::Full, numbers.slices(), longer, &mut random)
+                .expect("a legal table");
             assert_eq!((plan.count, plan.cost), (0, 0));
         }
     }

@@ -3,14 +3,14 @@
 use planner_tests::compare;
 use planner_tests::methods::Cover;
 use planner_tests::random::Random;
-use planner_tests::reference::{falling, plan, rest_in_order, Link, Plan, Table};
+use planner_tests::reference::{falling, plan, rest_in_order, Caller, Link, Plan, Table};
 use planner_tests::sites::{lower_first, marked, site};
 use std::cmp::Reverse;
 
 /// The library keeps to the definition, from which the slipped plan differs.
 #[track_caller]
 fn assert_shows(table: &Table, slipped: &Plan) {
-    let by_library = compare::plan_table(table, &mut Random::new(23));
+    let by_library = compare::plan_table(Caller::Full, table, &mut Random::new(23));
     assert_eq!(by_library, plan(table));
     assert_ne!(by_library, *slipped);
 }

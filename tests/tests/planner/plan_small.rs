@@ -3,7 +3,7 @@
 
 use planner_tests::compare;
 use planner_tests::random::Random;
-use planner_tests::reference::Table;
+use planner_tests::reference::{Caller, Table};
 use planner_tests::sites::every_table;
 
 /// Plans the tables picked and answers how many there were, and how many without a short probe.
@@ -12,7 +12,7 @@ fn plan_each(probes: usize, picked: impl Fn(&Table) -> bool) -> [usize; 2] {
     let (mut tables, mut none_short) = (0, 0);
     every_table(probes, 3, |table| {
         if picked(table) {
-            compare::plan_table(table, &mut random);
+            compare::plan_table(Caller::Full, table, &mut random);
             tables += 1;
             none_short += usize::from(!table.has_short());
         }

@@ -2,7 +2,7 @@
 
 use planner_tests::compare;
 use planner_tests::random::Random;
-use planner_tests::reference::Table;
+use planner_tests::reference::{Caller, Table};
 use planner_tests::sites::{crowded, legal_of_size, marked, set_needs};
 
 /// The longest table, with every link kept: each probe needs so many more links than it has.
@@ -16,15 +16,15 @@ fn longest(more: usize, random: &mut Random) -> Table {
 #[track_caller]
 fn fits(table: &Table, random: &mut Random) -> usize {
     let text = table.text();
-    let output = compare::plan_table(table, random).text(table);
+    let output = compare::plan_table(Caller::Full, table, random).text(table);
     let right = output.len();
     for length in [right, right + 1, right + 5_000] {
-        let printed = compare::plan_text(&text, length, random);
+        let printed = compare::plan_text(Caller::Full, &text, length, random);
         assert_eq!(printed.as_ref(), Ok(&output));
     }
     let cut = [1, 5, 6, 9, 13, 14].map(|less| right - less);
     for short in [0, 1, 5, 16, 17].into_iter().chain(cut) {
-        let printed = compare::plan_text(&text, short.min(right - 1), random);
+        let printed = compare::plan_text(Caller::Full, &text, short.min(right - 1), random);
         assert_eq!(printed, Err(8));
     }
     right
@@ -75,7 +75,7 @@ fn texts_longer_than_the_longest_table() {
             let mut longer = [&text[..], behind].concat();
             longer[place..place + 4].copy_from_slice(fault);
             let output = format!("e{refusal:03}\n").into_bytes();
-            let printed = compare::plan_text(&longer, 5, &mut random);
+            let printed = compare::plan_text(Caller::Full, &longer, 5, &mut random);
             assert_eq!(printed, Ok(output));
         }
     }

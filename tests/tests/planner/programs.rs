@@ -3,7 +3,7 @@
 use planner_tests::channel::{any_mix, any_script, opening};
 use planner_tests::events::any_table;
 use planner_tests::random::Random;
-use planner_tests::reference::{plan_output, table_of_text, Behind, Table};
+use planner_tests::reference::{plan_output, table_of_text, Behind, Caller, Table};
 use planner_tests::repository::{program, top};
 use planner_tests::samples::{self, input, M11, M11_PRINTED, M4, M4_PRINTED};
 use planner_tests::samples::{VALLEY, VALLEY_PLANNED, VALLEY_PRINTED, VALLEY_SCRIPT};
@@ -102,7 +102,7 @@ fn compare_script(input: &[u8], sizes: &[usize]) {
 
 #[track_caller]
 fn compare_plan(input: &[u8], sizes: &[usize]) {
-    assert!(run("plan", input, sizes) == plan_output(input));
+    assert!(run("plan", input, sizes) == plan_output(Caller::Full, input));
 }
 
 /// A file of the repository.
@@ -146,7 +146,7 @@ fn examples() {
             Some("script") => scripts += 1,
             _ => panic!("{}", path.display()),
         }
-        let table = table_of_text(&input, Behind::Anything);
+        let table = table_of_text(Caller::Full, &input, Behind::Anything);
         assert!(table.is_ok(), "{}", path.display());
         for sizes in [&WHOLE[..], &ODD] {
             compare_plan(&input, sizes);
@@ -159,7 +159,7 @@ fn examples() {
 #[test]
 fn largest_example() {
     let text = file("examples/largest.table");
-    let table = table_of_text(&text, Behind::Nothing).expect("it is legal");
+    let table = table_of_text(Caller::Full, &text, Behind::Nothing).expect("it is legal");
     assert_eq!([table.needs.len(), table.links.len()], [256, 2048]);
     assert_eq!(text.len(), 27_922);
 }
@@ -173,7 +173,7 @@ fn longest_output() {
     assert_eq!(table.short_probes().len(), 256);
     let output = run("plan", &table.text(), &WHOLE);
     assert_eq!(output.len(), 28_950);
-    assert!(output == plan_output(&table.text()));
+    assert!(output == plan_output(Caller::Full, &table.text()));
     assert_eq!(run("script", &table.text(), &WHOLE), b"0100000000\n");
 }
 
@@ -235,7 +235,7 @@ fn slow_input() {
     let input = [&input(3, &M4), &b"\n0000010000000g\n0000010000"[..]].concat();
     for (name, expected) in [
         ("script", script::output(&input)),
-        ("plan", plan_output(&input)),
+        ("plan", plan_output(Caller::Full, &input)),
     ] {
         let mut program = Program::start(name);
         for byte in &input {
@@ -289,7 +289,11 @@ fn answers_as_lines_come() {
     pieces[0].0 = input(3, &M4[..1]);
     assert_eq!(converse(&pieces), M4_PRINTED[4..]);
     let largest = file("examples/largest.table");
-    let opening = opening(&table_of_text(&largest, Behind::Nothing).expect("legal"), 0).line();
+    let opening = opening(
+        &table_of_text(Caller::Full, &largest, Behind::Nothing).expect("legal"),
+        0,
+    )
+    .line();
     let first = [largest, opening].concat();
     let printed = String::from_utf8(script::output(&first)).expect("digits");
     let printed: Vec<&str> = printed.lines().collect();
@@ -466,8 +470,8 @@ fn checked_memory() {
         return;
     }
     let text = file("examples/largest.table");
-    let table = table_of_text(&text, Behind::Nothing).expect("it is legal");
-    assert!(run_checked("plan", &text) == plan_output(&text));
+    let table = table_of_text(Caller::Full, &text, Behind::Nothing).expect("it is legal");
+    assert!(run_checked("plan", &text) == plan_output(Caller::Full, &text));
     let random = &mut Random::new(83);
     let openings = (0..1_000).flat_map(|count| opening(&table, count % 256).line());
     let behind = [
@@ -479,6 +483,6 @@ fn checked_memory() {
     for behind in behind {
         let input = [&text[..], &behind].concat();
         assert!(run_checked("script", &input) == script::output(&input));
-        assert!(run_checked("plan", &input) == plan_output(&input));
+        assert!(run_checked("plan", &input) == plan_output(Caller::Full, &input));
     }
 }

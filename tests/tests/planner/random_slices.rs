@@ -2,7 +2,7 @@
 
 use planner_tests::compare;
 use planner_tests::random::{each_seed, Random};
-use planner_tests::reference::{text_length, Behind, WITHDRAWN};
+use planner_tests::reference::{text_length, Behind, Caller, WITHDRAWN};
 use planner_tests::sites::{self, Numbers};
 
 const CASES: u64 = 12_000;
@@ -21,21 +21,21 @@ fn plan(numbers: &Numbers, random: &mut Random) {
         let longer = right + random.below(40);
         random.pick(&[right, right, right.saturating_sub(1), longer])
     });
-    let by_turns = compare::plan_turns(numbers.slices(), lengths, random);
-    let by_slse = compare::plan_slse(numbers.slices(), lengths[0], random);
+    let by_turns = compare::plan_turns(Caller::Full, numbers.slices(), lengths, random);
+    let by_slse = compare::plan_slse(Caller::Full, numbers.slices(), lengths[0], random);
     assert!(by_turns == by_slse || by_turns == Err(8));
 }
 
 /// Checks, plans and writes; a written text is read back as the same table.
 fn check_plan_and_write(numbers: &Numbers, random: &mut Random) -> (Result<(), u8>, bool) {
-    let checked = compare::check(numbers.slices());
+    let checked = compare::check(Caller::Full, numbers.slices());
     plan(numbers, random);
     let length = out_length(numbers, random);
-    let written = compare::write(numbers.slices(), length, random);
+    let written = compare::write(Caller::Full, numbers.slices(), length, random);
     if let Ok(text) = &written {
         let (probes, links) = (numbers.probes.into(), numbers.links.into());
         let fit = [probes, links, links, links];
-        let read = compare::read(text, Behind::Nothing, fit, random);
+        let read = compare::read(Caller::Full, text, Behind::Nothing, fit, random);
         let back = Numbers::of(&read.expect("a written text can be read"));
         assert_eq!(back.number, numbers.number);
         assert_eq!((back.probes, back.links), (numbers.probes, numbers.links));

@@ -2,7 +2,7 @@
 
 use planner_tests::compare;
 use planner_tests::random::{each_seed, Random};
-use planner_tests::reference::{plan_output, Behind, Table, WITHDRAWN};
+use planner_tests::reference::{plan_output, Behind, Caller, Table, WITHDRAWN};
 use planner_tests::sites::{self, Numbers};
 
 const CASES: u64 = 12_000;
@@ -48,9 +48,9 @@ impl Tally {
 
 /// Prints the plan into a slice that fits, is one too short, or is longer.
 fn print(text: &[u8], random: &mut Random) {
-    let (right, longer) = (plan_output(text).len(), random.below(40));
+    let (right, longer) = (plan_output(Caller::Full, text).len(), random.below(40));
     let length = random.pick(&[right, right, right - 1, right + longer]);
-    let printed = compare::plan_text(text, length, random);
+    let printed = compare::plan_text(Caller::Full, text, length, random);
     assert_eq!(printed.is_ok(), length >= right);
 }
 
@@ -58,12 +58,17 @@ fn print(text: &[u8], random: &mut Random) {
 fn print_and_read(text: &[u8], lengths: [usize; 4], random: &mut Random, tally: &mut Tally) {
     print(text, random);
     for behind in Behind::BOTH {
-        let read = compare::read(text, behind, lengths, random);
+        let read = compare::read(Caller::Full, text, behind, lengths, random);
         tally.count(&read);
         let Ok(table) = read else {
             continue;
         };
-        let written = compare::write(Numbers::of(&table).slices(), text.len(), random);
+        let written = compare::write(
+            Caller::Full,
+            Numbers::of(&table).slices(),
+            text.len(),
+            random,
+        );
         let written = written.expect("a table read can be written");
         match behind {
             Behind::Nothing => assert!(written == text),

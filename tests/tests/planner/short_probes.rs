@@ -9,7 +9,7 @@ use planner_tests::ends::{Entry, Kind, What, LINE};
 use planner_tests::events::{any_table, each_table, own_links};
 use planner_tests::lines::{offer, opening, refusal};
 use planner_tests::random::{each_seed, Random};
-use planner_tests::reference::{table_of_text, Behind, Table};
+use planner_tests::reference::{table_of_text, Behind, Caller, Table};
 use planner_tests::samples::{self, VALLEY, VALLEY_PLANNED, VALLEY_PRINTED, VALLEY_SCRIPT};
 use planner_tests::sites::{
     all_or_more, banded, crowded, hubs, legal, legal_of_size, set_needs, site, Numbers,
@@ -17,13 +17,13 @@ use planner_tests::sites::{
 
 fn valley() -> Table {
     let text = samples::text(&VALLEY);
-    table_of_text(&text, Behind::Nothing).expect("a legal table")
+    table_of_text(Caller::Full, &text, Behind::Nothing).expect("a legal table")
 }
 
 /// What the plan's text is, line by line; both methods keep the links that it has.
 #[track_caller]
 fn planned(table: &Table) -> Vec<String> {
-    let plan = compare::plan_table(table, &mut Random::new(38));
+    let plan = compare::plan_table(Caller::Full, table, &mut Random::new(38));
     let output = String::from_utf8(plan.text(table)).expect("only digits are printed");
     output.lines().map(str::to_owned).collect()
 }
@@ -31,7 +31,7 @@ fn planned(table: &Table) -> Vec<String> {
 #[test]
 fn plan_of_the_valley() {
     assert_eq!(planned(&valley()), VALLEY_PLANNED);
-    let plan = compare::plan_table(&valley(), &mut Random::new(39));
+    let plan = compare::plan_table(Caller::Full, &valley(), &mut Random::new(39));
     assert_eq!(plan.kept, [true, false, true, false]);
 }
 
@@ -121,8 +121,11 @@ fn all_256_probes_short_at_2_048_links() {
     for (probe, line) in lines[2049..2305].iter().enumerate() {
         assert_eq!(*line, format!("{probe:04x}{:04x}", 65_280 - 255 * probe));
     }
-    assert_eq!(compare::plan_text(&text, 28_949, random), Err(8));
-    let printed = compare::plan_text(&text, 28_950, random).expect("it just fits");
+    assert_eq!(
+        compare::plan_text(Caller::Full, &text, 28_949, random),
+        Err(8)
+    );
+    let printed = compare::plan_text(Caller::Full, &text, 28_950, random).expect("it just fits");
     assert!(printed == [lines.join("\n"), "\n".to_owned()].concat().into_bytes());
 }
 
@@ -134,11 +137,11 @@ fn texts_and_slices_keep_the_need() {
         let table = legal(random);
         let (text, numbers) = (table.text(), Numbers::of(&table));
         for behind in Behind::BOTH {
-            let read = compare::read(&text, behind, numbers.lent, random);
+            let read = compare::read(Caller::Full, &text, behind, numbers.lent, random);
             assert_eq!(read.expect("a legal table").needs, table.needs);
         }
-        assert_eq!(compare::check(numbers.slices()), Ok(()));
-        let written = compare::write(numbers.slices(), text.len(), random);
+        assert_eq!(compare::check(Caller::Full, numbers.slices()), Ok(()));
+        let written = compare::write(Caller::Full, numbers.slices(), text.len(), random);
         assert!(written == Ok(text));
         above += table.short_probes().len();
         tables += usize::from(table.has_short());
@@ -166,7 +169,8 @@ fn plans_go_by_the_counted_needs() {
     each_seed(101, 1_000, |random| {
         for table in [crowded(random), banded(random), any_table(random)] {
             let other = counting_the_same(&table, random);
-            let [plan, same] = [&table, &other].map(|table| compare::plan_table(table, random));
+            let [plan, same] =
+                [&table, &other].map(|table| compare::plan_table(Caller::Full, table, random));
             assert_eq!(plan, same);
             for (probe, _) in other.short_probes() {
                 let own = own_links(&other, probe as u16);

@@ -2,7 +2,7 @@
 
 use planner_tests::compare;
 use planner_tests::random::Random;
-use planner_tests::reference::{Behind, Link, Table};
+use planner_tests::reference::{Behind, Caller, Link, Table};
 use planner_tests::sites::{legal_of_size, Numbers};
 
 const LENT: [usize; 4] = [300, 2100, 2100, 2100];
@@ -16,39 +16,48 @@ fn round_trip(table: &Table, random: &mut Random) {
     for behind in Behind::BOTH {
         for lengths in [numbers.lent, LENT] {
             assert_eq!(
-                compare::read(&text, behind, lengths, random).as_ref(),
+                compare::read(Caller::Full, &text, behind, lengths, random).as_ref(),
                 Ok(table)
             );
         }
     }
     for lengths in [numbers.lent, LENT] {
         numbers.lend(lengths, random);
-        assert_eq!(compare::check(numbers.slices()), Ok(()));
+        assert_eq!(compare::check(Caller::Full, numbers.slices()), Ok(()));
         for length in [text.len(), text.len() + 1, 30_000] {
-            let written = compare::write(numbers.slices(), length, random);
+            let written = compare::write(Caller::Full, numbers.slices(), length, random);
             assert_eq!(written.as_ref(), Ok(&text));
         }
-        let short = compare::write(numbers.slices(), text.len() - 1, random);
+        let short = compare::write(Caller::Full, numbers.slices(), text.len() - 1, random);
         assert_eq!(short, Err(8));
-        assert!(compare::plan(numbers.slices(), 7, random).is_ok());
+        assert!(compare::plan(Caller::Full, numbers.slices(), 7, random).is_ok());
     }
-    compare::plan_table(table, random);
+    compare::plan_table(Caller::Full, table, random);
 }
 
 #[track_caller]
 fn refused_by_3(table: &Table, random: &mut Random) {
     let text = table.text();
     for behind in Behind::BOTH {
-        assert_eq!(compare::read(&text, behind, LENT, random), Err(3));
+        assert_eq!(
+            compare::read(Caller::Full, &text, behind, LENT, random),
+            Err(3)
+        );
         // The header alone decides.
-        assert_eq!(compare::read(&text[..13], behind, LENT, random), Err(3));
+        assert_eq!(
+            compare::read(Caller::Full, &text[..13], behind, LENT, random),
+            Err(3)
+        );
     }
     let numbers = Numbers::of(table);
-    assert_eq!(compare::check(numbers.slices()), Err(3));
-    let written = compare::write(numbers.slices(), text.len(), random);
+    assert_eq!(compare::check(Caller::Full, numbers.slices()), Err(3));
+    let written = compare::write(Caller::Full, numbers.slices(), text.len(), random);
     assert_eq!(written, Err(3));
-    assert_eq!(compare::plan(numbers.slices(), 0, random), Err(3));
-    let printed = compare::plan_text(&text, 5, random);
+    assert_eq!(
+        compare::plan(Caller::Full, numbers.slices(), 0, random),
+        Err(3)
+    );
+    let printed = compare::plan_text(Caller::Full, &text, 5, random);
     assert_eq!(printed, Ok(b"e003\n".to_vec()));
 }
 
@@ -68,11 +77,14 @@ fn longest_text_without_its_last_bytes() {
     let text = legal_of_size(256, 2048, &mut random).text();
     for behind in Behind::BOTH {
         for (length, refusal) in [(27_921, 6), (27_917, 6), (27_916, 1), (27_904, 1)] {
-            let read = compare::read(&text[..length], behind, LENT, &mut random);
+            let read = compare::read(Caller::Full, &text[..length], behind, LENT, &mut random);
             assert_eq!(read, Err(refusal));
         }
         for short in [[255, 2048, 2048, 2048], [256, 2047, 2047, 2047]] {
-            assert_eq!(compare::read(&text, behind, short, &mut random), Err(8));
+            assert_eq!(
+                compare::read(Caller::Full, &text, behind, short, &mut random),
+                Err(8)
+            );
         }
     }
 }
@@ -125,7 +137,8 @@ fn need_equal_to_the_links_and_one_above() {
     let [equal, above] = [1, 2].map(|need| {
         let table = star(need);
         round_trip(&table, &mut random);
-        compare::plan_text(&table.text(), LENT[1] * 13, &mut random).expect("a legal table")
+        compare::plan_text(Caller::Full, &table.text(), LENT[1] * 13, &mut random)
+            .expect("a legal table")
     });
     assert_eq!(equal.len(), 17 + 13 * 255 + 5);
     let (kept, closing) = equal.split_at(equal.len() - 5);
@@ -140,12 +153,12 @@ fn highest_counts_a_header_can_hold() {
     let length = 13 + 18 * 65_535 + 5;
     for (lent, refusal) in [(65_535, 3), (65_534, 8)] {
         numbers.lend([lent; 4], &mut random);
-        assert_eq!(compare::check(numbers.slices()), Err(refusal));
-        let written = compare::write(numbers.slices(), length, &mut random);
+        assert_eq!(compare::check(Caller::Full, numbers.slices()), Err(refusal));
+        let written = compare::write(Caller::Full, numbers.slices(), length, &mut random);
         assert_eq!(written, Err(refusal));
-        let short = compare::write(numbers.slices(), length - 1, &mut random);
+        let short = compare::write(Caller::Full, numbers.slices(), length - 1, &mut random);
         assert_eq!(short, Err(8));
-        let plan = compare::plan(numbers.slices(), 0, &mut random);
+        let plan = compare::plan(Caller::Full, numbers.slices(), 0, &mut random);
         assert_eq!(plan, Err(refusal));
     }
 }

@@ -7,7 +7,7 @@ use planner_tests::events::own_links;
 use planner_tests::ffi;
 use planner_tests::lines::{offer, refusal};
 use planner_tests::random::{each_seed, Random};
-use planner_tests::reference::{falling, plan, Table};
+use planner_tests::reference::{falling, plan, Table, FULL};
 use planner_tests::sites::{half_needed, largest_hubs, legal_of_size, marked, site, Numbers};
 
 #[test]
@@ -331,7 +331,7 @@ fn hold_the_dearest(table: &Table, probe: u16) {
 
 #[test]
 fn largest_site() {
-    let table = half_needed(largest_hubs(), 3, &mut Random::new(26));
+    let table = half_needed(largest_hubs(FULL), 3, &mut Random::new(26));
     for probe in [0, 1, 7, 8, 44, 45, 255] {
         hold_the_dearest(&table, probe);
     }

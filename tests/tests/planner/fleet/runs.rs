@@ -7,7 +7,7 @@ use planner_tests::events::any_table;
 use planner_tests::fleet::{changes, rested, Site, BYTES};
 use planner_tests::methods::slse;
 use planner_tests::random::{each_seed, Random};
-use planner_tests::reference::{plan, Table};
+use planner_tests::reference::{plan, Table, FULL};
 use planner_tests::sites::{banded, half_needed, largest_hubs, legal_of_size, marked};
 use std::collections::VecDeque;
 
@@ -315,5 +315,5 @@ fn largest_site() {
 #[test]
 fn largest_site_with_hubs() {
     let random = &mut Random::new(50);
-    run_largest(half_needed(largest_hubs(), 3, random), random);
+    run_largest(half_needed(largest_hubs(FULL), 3, random), random);
 }
