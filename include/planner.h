@@ -8,6 +8,10 @@
  * The record of a probe has two bytes a link, that of a fleet four; a fresh record is all zero.
  * A wake log has a number for each entry, of any value before it is used; the count of its used ones goes beside it.
  *
+ * The functions with display_ in their names are for the well-head display: parameters and answers as without it, at
+ * most 16 probes and 40 links (3 beyond). 16 needs, 40 lows, highs, costs and plan bytes and 160 working bytes are never
+ * too short for them.
+ *
  * A refusal is its number, and leaves every slice as it was:
  *    1 a line is missing or not of its length          20 a record of the wrong length
  *    2 a byte in it is no digit                        21 a byte over 2, or not 0 on another probe's link
@@ -29,6 +33,12 @@
 /* The bytes of the longest table text, and of a frame's line with its line feed. */
 #define PLANNER_MOST_TEXT 27922
 #define PLANNER_FRAME 15
+
+#define PLANNER_DISPLAY_MOST_PROBES 16
+#define PLANNER_DISPLAY_MOST_LINKS 40
+/* The bytes of the display's longest table text, and of its longest plan text. */
+#define PLANNER_DISPLAY_MOST_TEXT 618
+#define PLANNER_DISPLAY_MOST_PLAN_TEXT 686
 
 /* Packed answers start here; refusals are below. */
 #define PLANNER_ANSWER_BASE (UINT64_C(1) << 48)
@@ -101,6 +111,31 @@ uint64_t planner_write_table(
     const uint16_t *costs, size_t costs_length,
     uint8_t *out, size_t out_length);
 
+/* Whether the table is legal for the display: 0, or the refusal. */
+uint8_t planner_display_check_table(
+    uint16_t number, uint16_t probes, uint16_t links,
+    const uint16_t *needs, size_t needs_length,
+    const uint16_t *lows, size_t lows_length,
+    const uint16_t *highs, size_t highs_length,
+    const uint16_t *costs, size_t costs_length);
+
+/* Reads a table's text into lent slices, for the display. */
+uint64_t planner_display_read_table(
+    const uint8_t *text, size_t text_length,
+    uint16_t *needs, size_t needs_length,
+    uint16_t *lows, size_t lows_length,
+    uint16_t *highs, size_t highs_length,
+    uint16_t *costs, size_t costs_length);
+
+/* Writes the table's text into out, for the display. */
+uint64_t planner_display_write_table(
+    uint16_t number, uint16_t probes, uint16_t links,
+    const uint16_t *needs, size_t needs_length,
+    const uint16_t *lows, size_t lows_length,
+    const uint16_t *highs, size_t highs_length,
+    const uint16_t *costs, size_t costs_length,
+    uint8_t *out, size_t out_length);
+
 /* libplan_exports.a: the plan. */
 
 /* The plan by S-LSE: a byte a link into plan, 1 kept and 0 rested. */
@@ -124,6 +159,30 @@ uint64_t planner_plan_turns(
 
 /* What the plan program prints for an input, into out; 28,950 bytes hold every output. */
 uint64_t planner_plan_text(
+    const uint8_t *text, size_t text_length,
+    uint8_t *out, size_t out_length);
+
+/* The plan by S-LSE, for the display. */
+uint64_t planner_display_plan_slse(
+    uint16_t number, uint16_t probes, uint16_t links,
+    const uint16_t *needs, size_t needs_length,
+    const uint16_t *lows, size_t lows_length,
+    const uint16_t *highs, size_t highs_length,
+    const uint16_t *costs, size_t costs_length,
+    uint8_t *plan, size_t plan_length);
+
+/* The same plan by offers in turn, for the display. */
+uint64_t planner_display_plan_turns(
+    uint16_t number, uint16_t probes, uint16_t links,
+    const uint16_t *needs, size_t needs_length,
+    const uint16_t *lows, size_t lows_length,
+    const uint16_t *highs, size_t highs_length,
+    const uint16_t *costs, size_t costs_length,
+    uint8_t *plan, size_t plan_length,
+    uint8_t *work, size_t work_length);
+
+/* What the plan program prints for an input within the display's limits, into out; beyond them e003. */
+uint64_t planner_display_plan_text(
     const uint8_t *text, size_t text_length,
     uint8_t *out, size_t out_length);
 

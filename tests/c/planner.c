@@ -1,6 +1,6 @@
 /* Document 01's site M2 through planner.h: read, planned by both methods, and its script M11 run by a fleet, by ends
- * alone and as a text. Prints the plan and the log as the programs do. Then openings that open nothing, and M2 with a
- * need above the links. The status is 0 if all is as 01 and 02 have it. */
+ * alone and as a text. Prints the plan and the log as the programs do. Then openings that open nothing, M2 with a need
+ * above the links, and the display's calls. The status is 0 if all is as 01 and 02 have it. */
 #include "planner.h"
 
 #include <stdio.h>
@@ -275,6 +275,58 @@ static void short_probe(void) {
     expect(opened_nothing(answer, 0, 1), "short probe opens nothing", 0);
 }
 
+/* What the display reads, with slices of the sizes that are never too short for it. */
+static uint16_t few_needs[PLANNER_DISPLAY_MOST_PROBES], few_lows[PLANNER_DISPLAY_MOST_LINKS];
+static uint16_t few_highs[PLANNER_DISPLAY_MOST_LINKS], few_costs[PLANNER_DISPLAY_MOST_LINKS];
+#define FEW_SLICES                                                                                      \
+    few_needs, PLANNER_DISPLAY_MOST_PROBES, few_lows, PLANNER_DISPLAY_MOST_LINKS,                       \
+        few_highs, PLANNER_DISPLAY_MOST_LINKS, few_costs, PLANNER_DISPLAY_MOST_LINKS
+
+/* M2 through the display's calls. */
+static void display(void) {
+    static const uint8_t kept[LINKS] = {1, 0, 1};
+    uint8_t plan[PLANNER_DISPLAY_MOST_LINKS], work[4 * PLANNER_DISPLAY_MOST_LINKS];
+    uint8_t out[PLANNER_DISPLAY_MOST_TEXT], printed[PLANNER_DISPLAY_MOST_PLAN_TEXT];
+    uint64_t by_slse, by_turns, answer = planner_display_read_table(bytes(M2), sizeof M2 - 1, FEW_SLICES);
+
+    expect(!PLANNER_REFUSED(answer) && PLANNER_READ_LINKS(answer) == LINKS, "read by the display", 0);
+    expect(planner_display_check_table(1, PROBES, LINKS, FEW_SLICES) == 0, "check by the display", 0);
+    answer = planner_display_write_table(1, PROBES, LINKS, FEW_SLICES, out, sizeof out);
+    expect(PLANNER_LENGTH(answer) == sizeof M2 - 1 && memcmp(out, M2, sizeof M2 - 1) == 0, "write by the display", 0);
+
+    by_slse = planner_display_plan_slse(1, PROBES, LINKS, FEW_SLICES, plan, sizeof plan);
+    expect(PLANNER_PLAN_KEPT(by_slse) == 2 && PLANNER_PLAN_COST(by_slse) == 10, "display's plan by S-LSE", 0);
+    expect(memcmp(plan, kept, sizeof kept) == 0, "links that the display keeps by S-LSE", 0);
+    memset(plan, 9, sizeof plan);
+    by_turns = planner_display_plan_turns(1, PROBES, LINKS, FEW_SLICES, plan, sizeof plan, work, sizeof work);
+    expect(by_turns == by_slse && memcmp(plan, kept, sizeof kept) == 0, "display's plan by turns", 0);
+    answer = planner_display_plan_text(bytes(M2), sizeof M2 - 1, printed, sizeof printed);
+    expect(PLANNER_LENGTH(answer) == sizeof M2_PRINTED - 1, "length of the display's plan text", 0);
+    expect(memcmp(printed, M2_PRINTED, sizeof M2_PRINTED - 1) == 0, "display's plan text", 0);
+}
+
+/* 17 probes, 41 links, or a text whose header has 17 probes: 3 by the display alone. */
+static void display_limits(void) {
+    static const uint16_t many[PLANNER_DISPLAY_MOST_LINKS + 1] = {0};
+    static const char header[] = "000100110000\n";
+    const size_t probes = PLANNER_DISPLAY_MOST_PROBES + 1, links = PLANNER_DISPLAY_MOST_LINKS + 1;
+    const size_t text = 13 + 5 * PLANNER_DISPLAY_MOST_PROBES + 13 * PLANNER_DISPLAY_MOST_LINKS + 5;
+    uint8_t out[5];
+    uint64_t answer;
+
+    expect(text == PLANNER_DISPLAY_MOST_TEXT, "longest text of the display", 0);
+    expect(text + 4 + 4 * PLANNER_DISPLAY_MOST_PROBES == PLANNER_DISPLAY_MOST_PLAN_TEXT, "longest plan text", 0);
+    expect(planner_check_table(1, probes, 0, many, probes, many, 0, many, 0, many, 0) == 0, "17 probes", 0);
+    expect(planner_display_check_table(1, probes, 0, many, probes, many, 0, many, 0, many, 0) == 3, "17 probes", 1);
+    expect(planner_display_check_table(1, probes, 0, many, probes - 1, many, 0, many, 0, many, 0) == 8, "16 needs", 1);
+    expect(planner_check_table(1, 16, links, many, 16, many, links, many, links, many, links) == 4, "41 links", 0);
+    expect(planner_display_check_table(1, 16, links, many, 16, many, links, many, links, many, links) == 3, "41 links", 1);
+    expect(planner_read_table(bytes(header), sizeof header - 1, FEW_SLICES) == 1, "header of 17 probes", 0);
+    expect(planner_display_read_table(bytes(header), sizeof header - 1, FEW_SLICES) == 3, "header of 17 probes", 1);
+    answer = planner_display_plan_text(bytes(header), sizeof header - 1, out, sizeof out);
+    expect(PLANNER_LENGTH(answer) == 5 && memcmp(out, "e003\n", 5) == 0, "display's refusal printed", 0);
+}
+
 int main(void) {
     read_and_write();
     plan();
@@ -285,5 +337,7 @@ int main(void) {
     script();
     open_nothing();
     short_probe();
+    display();
+    display_limits();
     return failures == 0 ? 0 : 1;
 }

@@ -3,6 +3,7 @@
 mod both_programs;
 mod contracts;
 mod definitions;
+mod display;
 mod documents;
 mod ends;
 mod fleet;

@@ -1,4 +1,5 @@
-//! The named bad tables in slices, each with its refusal, for checking, writing and planning.
+//! The named bad tables in slices, each with its refusal, for checking, writing and planning by both
+//! callers.
 
 use planner_tests::compare;
 use planner_tests::faults::{each_choice, of_table};
@@ -17,29 +18,23 @@ fn m2_with(change: impl Fn(&mut Numbers)) -> Numbers {
     numbers
 }
 
-fn written(numbers: &Numbers, length: usize) -> Result<Vec<u8>, u8> {
-    compare::write(Caller::Full, numbers.slices(), length, &mut Random::new(3))
+fn written(caller: Caller, numbers: &Numbers, length: usize) -> Result<Vec<u8>, u8> {
+    compare::write(caller, numbers.slices(), length, &mut Random::new(3))
 }
 
 /// By both methods, with so many bytes more than are needed.
-fn planned(numbers: &Numbers, longer: usize) -> Result<Plan, u8> {
-    compare::plan(Caller::Full, numbers.slices(), longer, &mut Random::new(3))
+fn planned(caller: Caller, numbers: &Numbers, longer: usize) -> Result<Plan, u8> {
+    compare::plan(caller, numbers.slices(), longer, &mut Random::new(3))
 }
 
 /// A plan or working bytes one byte too short come among the first, 8.
 #[track_caller]
-fn refused_for_short_bytes(numbers: &Numbers) {
+fn refused_for_short_bytes(caller: Caller, numbers: &Numbers) {
     let (given, random) = (numbers.slices(), &mut Random::new(3));
     let (plan, work) = (numbers.links as usize, 4 * numbers.links as usize);
-    assert_eq!(
-        compare::plan_slse(Caller::Full, given, plan - 1, random),
-        Err(8)
-    );
+    assert_eq!(compare::plan_slse(caller, given, plan - 1, random), Err(8));
     for lengths in [[plan - 1, work], [plan, work - 1], [plan + 9, work - 1]] {
-        assert_eq!(
-            compare::plan_turns(Caller::Full, given, lengths, random),
-            Err(8)
-        );
+        assert_eq!(compare::plan_turns(caller, given, lengths, random), Err(8));
     }
 }
 
@@ -47,33 +42,39 @@ fn right_length(numbers: &Numbers) -> usize {
     text_length(numbers.probes.into(), numbers.links.into())
 }
 
+/// By both callers.
 #[track_caller]
 fn refused(numbers: Numbers, refusal: u8) {
-    assert_eq!(compare::check(Caller::Full, numbers.slices()), Err(refusal));
-    let length = right_length(&numbers);
-    assert_eq!(written(&numbers, length), Err(refusal));
-    assert_eq!(written(&numbers, length + 9), Err(refusal));
-    assert_eq!(written(&numbers, length - 1), Err(8));
-    assert_eq!(planned(&numbers, 0), Err(refusal));
-    assert_eq!(planned(&numbers, 9), Err(refusal));
-    refused_for_short_bytes(&numbers);
+    for caller in Caller::BOTH {
+        assert_eq!(compare::check(caller, numbers.slices()), Err(refusal));
+        let length = right_length(&numbers);
+        assert_eq!(written(caller, &numbers, length), Err(refusal));
+        assert_eq!(written(caller, &numbers, length + 9), Err(refusal));
+        assert_eq!(written(caller, &numbers, length - 1), Err(8));
+        assert_eq!(planned(caller, &numbers, 0), Err(refusal));
+        assert_eq!(planned(caller, &numbers, 9), Err(refusal));
+        refused_for_short_bytes(caller, &numbers);
+    }
 }
 
+/// By both callers.
 #[track_caller]
 fn accepted(numbers: Numbers) {
-    assert_eq!(compare::check(Caller::Full, numbers.slices()), Ok(()));
-    let length = right_length(&numbers);
-    for longer in [0, 1, 100] {
-        let text = written(&numbers, length + longer).expect("a legal table");
-        assert_eq!(text.len(), length);
+    for caller in Caller::BOTH {
+        assert_eq!(compare::check(caller, numbers.slices()), Ok(()));
+        let length = right_length(&numbers);
+        for longer in [0, 1, 100] {
+            let text = written(caller, &numbers, length + longer).expect("a legal table");
+            assert_eq!(text.len(), length);
+        }
+        for short in [0, 1, 12, 13, length - 6, length - 5, length - 1] {
+            assert_eq!(written(caller, &numbers, short), Err(8));
+        }
+        for longer in [0, 1, 100] {
+            assert!(planned(caller, &numbers, longer).is_ok());
+        }
+        refused_for_short_bytes(caller, &numbers);
     }
-    for short in [0, 1, 12, 13, length - 6, length - 5, length - 1] {
-        assert_eq!(written(&numbers, short), Err(8));
-    }
-    for longer in [0, 1, 100] {
-        assert!(planned(&numbers, longer).is_ok());
-    }
-    refused_for_short_bytes(&numbers);
 }
 
 /// Lends slices of other lengths; entries beyond the table's own are random.
@@ -84,7 +85,7 @@ fn lend(numbers: &mut Numbers, lengths: [usize; 4]) {
 #[test]
 fn m2_is_written() {
     accepted(m2());
-    assert_eq!(written(&m2(), 77), Ok(M2.as_bytes().to_vec()));
+    assert_eq!(written(Caller::Full, &m2(), 77), Ok(M2.as_bytes().to_vec()));
 }
 
 #[test]
@@ -173,7 +174,8 @@ fn need_equal_to_the_links_and_one_above() {
     for (probe, links) in [1, 2, 2, 1].into_iter().enumerate() {
         for need in [links, links + 1, 256, 65_535] {
             let changed = m2_with(|m2| m2.entries[0][probe] = need);
-            let text = written(&changed, right_length(&changed)).expect("a legal table");
+            let text =
+                written(Caller::Full, &changed, right_length(&changed)).expect("a legal table");
             assert_eq!(
                 text[13 + 5 * probe..][..5],
                 *format!("{need:04x}\n").as_bytes()
@@ -191,7 +193,7 @@ fn entries_beyond_the_table_count_for_nothing() {
         m2.entries[0][3] = 9;
         (m2.probes, m2.links) = (3, 2);
     });
-    let text = written(&fewer, right_length(&fewer)).expect("a legal table");
+    let text = written(Caller::Full, &fewer, right_length(&fewer)).expect("a legal table");
     assert!(text.starts_with(b"000100030002\n0000\n0001\n0001\n000000010005\n"));
     accepted(fewer);
 }
@@ -251,11 +253,12 @@ fn every_small_table() {
             entries: [needs.to_vec(), low.to_vec(), high.to_vec(), vec![7, 7]],
             lent: [3, 2, 2, 2],
         };
-        let checked = compare::check(Caller::Full, numbers.slices());
+        let given = numbers.slices();
+        let checked = compare::by_both(|caller| compare::check(caller, given));
         let length = right_length(&numbers);
-        let text = compare::write(Caller::Full, numbers.slices(), length, &mut random);
+        let text = compare::by_both(|caller| compare::write(caller, given, length, &mut random));
         assert_eq!(text.as_ref().err(), checked.as_ref().err());
-        let plan = compare::plan(Caller::Full, numbers.slices(), 0, &mut random);
+        let plan = compare::by_both(|caller| compare::plan(caller, given, 0, &mut random));
         assert_eq!(plan.err(), checked.err());
         accepted += text.is_ok() as usize;
     }

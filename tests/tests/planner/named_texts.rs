@@ -1,4 +1,4 @@
-//! The named bad texts, each with its refusal, for reading and for the plan's text.
+//! The named bad texts, each with its refusal, for reading and for the plan's text by both callers.
 
 use planner_tests::compare;
 use planner_tests::random::Random;
@@ -15,25 +15,31 @@ fn m2() -> Table {
     read(M2.as_bytes(), Behind::Nothing, FIT).expect("M2 is legal")
 }
 
-/// The plan's text is the refusal.
+/// The plan's text is the refusal, by both callers.
 #[track_caller]
 fn refusal_printed(text: &[u8], refusal: u8) {
-    let printed = |length| compare::plan_text(Caller::Full, text, length, &mut Random::new(2));
     let output = format!("e{refusal:03}\n").into_bytes();
-    assert_eq!(printed(4), Err(8));
-    assert_eq!(printed(5).as_ref(), Ok(&output));
-    assert_eq!(printed(30), Ok(output));
+    for caller in Caller::BOTH {
+        let printed = |length| compare::plan_text(caller, text, length, &mut Random::new(2));
+        assert_eq!(printed(4), Err(8));
+        assert_eq!(printed(5).as_ref(), Ok(&output));
+        assert_eq!(printed(30).as_ref(), Ok(&output));
+    }
 }
 
-/// Both readings refuse the text, whether or not the slices are long enough.
+/// All readings refuse the text, whether or not the slices are long enough.
 #[track_caller]
 fn refused(text: impl AsRef<[u8]>, refusal: u8) {
-    for behind in Behind::BOTH {
-        for lengths in [[0, 0, 0, 0], FIT, [300, 2100, 2100, 2100], [9, 1, 2, 3]] {
-            assert_eq!(read(text.as_ref(), behind, lengths), Err(refusal));
+    let (text, random) = (text.as_ref(), &mut Random::new(1));
+    for caller in Caller::BOTH {
+        for &behind in Behind::of(caller) {
+            for lengths in [[0, 0, 0, 0], FIT, [300, 2100, 2100, 2100], [9, 1, 2, 3]] {
+                let read = compare::read(caller, text, behind, lengths, random);
+                assert_eq!(read, Err(refusal));
+            }
         }
     }
-    refusal_printed(text.as_ref(), refusal);
+    refusal_printed(text, refusal);
 }
 
 /// M2's text with some of its lines, line feed included, replaced. Lines: 0 is the header, 1 to 4

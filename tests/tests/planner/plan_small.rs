@@ -1,18 +1,18 @@
 //! Every table of up to four probes with costs 0, 1 and 2 and needs up to two above the links: both
-//! methods and the plan's text.
+//! methods and the plan's text, the same for the display.
 
 use planner_tests::compare;
 use planner_tests::random::Random;
-use planner_tests::reference::{Caller, Table};
+use planner_tests::reference::Table;
 use planner_tests::sites::every_table;
 
-/// Plans the tables picked and answers how many there were, and how many without a short probe.
+/// Plans the tables picked for both callers and answers how many there were, and how many without a short probe.
 fn plan_each(probes: usize, picked: impl Fn(&Table) -> bool) -> [usize; 2] {
     let mut random = Random::new(19);
     let (mut tables, mut none_short) = (0, 0);
     every_table(probes, 3, |table| {
         if picked(table) {
-            compare::plan_table(Caller::Full, table, &mut random);
+            compare::by_both(|caller| compare::plan_table(caller, table, &mut random));
             tables += 1;
             none_short += usize::from(!table.has_short());
         }

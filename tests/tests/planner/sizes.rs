@@ -10,54 +10,49 @@ const LENT: [usize; 4] = [300, 2100, 2100, 2100];
 /// The legal table is read from its text, planned and written back the same, with slices that
 /// just fit and with longer ones.
 #[track_caller]
-fn round_trip(table: &Table, random: &mut Random) {
+pub fn round_trip(caller: Caller, table: &Table, random: &mut Random) {
     let text = table.text();
     let mut numbers = Numbers::of(table);
-    for behind in Behind::BOTH {
+    for &behind in Behind::of(caller) {
         for lengths in [numbers.lent, LENT] {
             assert_eq!(
-                compare::read(Caller::Full, &text, behind, lengths, random).as_ref(),
+                compare::read(caller, &text, behind, lengths, random).as_ref(),
                 Ok(table)
             );
         }
     }
     for lengths in [numbers.lent, LENT] {
         numbers.lend(lengths, random);
-        assert_eq!(compare::check(Caller::Full, numbers.slices()), Ok(()));
+        assert_eq!(compare::check(caller, numbers.slices()), Ok(()));
         for length in [text.len(), text.len() + 1, 30_000] {
-            let written = compare::write(Caller::Full, numbers.slices(), length, random);
+            let written = compare::write(caller, numbers.slices(), length, random);
             assert_eq!(written.as_ref(), Ok(&text));
         }
-        let short = compare::write(Caller::Full, numbers.slices(), text.len() - 1, random);
+        let short = compare::write(caller, numbers.slices(), text.len() - 1, random);
         assert_eq!(short, Err(8));
-        assert!(compare::plan(Caller::Full, numbers.slices(), 7, random).is_ok());
+        assert!(compare::plan(caller, numbers.slices(), 7, random).is_ok());
     }
-    compare::plan_table(Caller::Full, table, random);
+    compare::plan_table(caller, table, random);
 }
 
+/// The table is legal but for its size.
 #[track_caller]
-fn refused_by_3(table: &Table, random: &mut Random) {
+pub fn refused_by_3(caller: Caller, table: &Table, random: &mut Random) {
     let text = table.text();
-    for behind in Behind::BOTH {
-        assert_eq!(
-            compare::read(Caller::Full, &text, behind, LENT, random),
-            Err(3)
-        );
+    for &behind in Behind::of(caller) {
+        assert_eq!(compare::read(caller, &text, behind, LENT, random), Err(3));
         // The header alone decides.
         assert_eq!(
-            compare::read(Caller::Full, &text[..13], behind, LENT, random),
+            compare::read(caller, &text[..13], behind, LENT, random),
             Err(3)
         );
     }
     let numbers = Numbers::of(table);
-    assert_eq!(compare::check(Caller::Full, numbers.slices()), Err(3));
-    let written = compare::write(Caller::Full, numbers.slices(), text.len(), random);
+    assert_eq!(compare::check(caller, numbers.slices()), Err(3));
+    let written = compare::write(caller, numbers.slices(), text.len(), random);
     assert_eq!(written, Err(3));
-    assert_eq!(
-        compare::plan(Caller::Full, numbers.slices(), 0, random),
-        Err(3)
-    );
-    let printed = compare::plan_text(Caller::Full, &text, 5, random);
+    assert_eq!(compare::plan(caller, numbers.slices(), 0, random), Err(3));
+    let printed = compare::plan_text(caller, &text, 5, random);
     assert_eq!(printed, Ok(b"e003\n".to_vec()));
 }
 
@@ -67,7 +62,7 @@ fn longest_text() {
     for _ in 0..20 {
         let table = legal_of_size(256, 2048, &mut random);
         assert_eq!(table.text().len(), 27_922);
-        round_trip(&table, &mut random);
+        round_trip(Caller::Full, &table, &mut random);
     }
 }
 
@@ -93,8 +88,16 @@ fn longest_text_without_its_last_bytes() {
 fn one_probe_more() {
     let mut random = Random::new(8);
     for links in [0, 1, 2048] {
-        round_trip(&legal_of_size(256, links, &mut random), &mut random);
-        refused_by_3(&legal_of_size(257, links, &mut random), &mut random);
+        round_trip(
+            Caller::Full,
+            &legal_of_size(256, links, &mut random),
+            &mut random,
+        );
+        refused_by_3(
+            Caller::Full,
+            &legal_of_size(257, links, &mut random),
+            &mut random,
+        );
     }
 }
 
@@ -102,8 +105,16 @@ fn one_probe_more() {
 fn one_link_more() {
     let mut random = Random::new(9);
     for probes in [65, 100, 256] {
-        round_trip(&legal_of_size(probes, 2048, &mut random), &mut random);
-        refused_by_3(&legal_of_size(probes, 2049, &mut random), &mut random);
+        round_trip(
+            Caller::Full,
+            &legal_of_size(probes, 2048, &mut random),
+            &mut random,
+        );
+        refused_by_3(
+            Caller::Full,
+            &legal_of_size(probes, 2049, &mut random),
+            &mut random,
+        );
     }
 }
 
@@ -112,7 +123,11 @@ fn small_sizes() {
     let mut random = Random::new(10);
     for probes in 1..=12 {
         for links in 0..=probes * (probes - 1) / 2 {
-            round_trip(&legal_of_size(probes, links, &mut random), &mut random);
+            round_trip(
+                Caller::Full,
+                &legal_of_size(probes, links, &mut random),
+                &mut random,
+            );
         }
     }
 }
@@ -136,7 +151,7 @@ fn need_equal_to_the_links_and_one_above() {
     let mut random = Random::new(11);
     let [equal, above] = [1, 2].map(|need| {
         let table = star(need);
-        round_trip(&table, &mut random);
+        round_trip(Caller::Full, &table, &mut random);
         compare::plan_text(Caller::Full, &table.text(), LENT[1] * 13, &mut random)
             .expect("a legal table")
     });
