@@ -210,6 +210,6 @@ fn main() {
     println!("1,024 events on the largest site, as one script and as calls with all checks;");
     println!("least of {EVENT_RUNS} runs:");
     print_events(&mut random);
-    println!("Deepest stack of each planning call, for all and for the display of 16 probes and 40 links:");
+    println!("Deepest stack of each planning call, the display's on its own largest sites:");
     print_depths();
 }

@@ -5,7 +5,7 @@ use crate::ffi;
 use crate::random::Random;
 use crate::reference::{self, Behind, Caller, Lent, Plan, Slices, Table, WITHDRAWN};
 use crate::sites::Numbers;
-use std::fmt::Debug;
+use std::fmt::{Debug, Display};
 
 fn lend(buffers: &mut [Buffer<u16>; 4]) -> Lent<'_> {
     let [needs, lows, highs, costs] = buffers.each_mut().map(Buffer::lend);
@@ -19,7 +19,11 @@ fn lend(buffers: &mut [Buffer<u16>; 4]) -> Lent<'_> {
 
 /// The answers as numbers, then the buffers: the library's and the second implementation's.
 #[track_caller]
-pub fn assert_same<T: PartialEq>(call: &str, [answer, expected]: [u64; 2], buffers: [&T; 2]) {
+pub fn assert_same<T: PartialEq>(
+    call: impl Display,
+    [answer, expected]: [u64; 2],
+    buffers: [&T; 2],
+) {
     assert!(
         answer == expected,
         "{call}: answer {answer:x}, not {expected:x}"
@@ -71,7 +75,7 @@ pub fn read(
         Behind::Anything => "read prefix",
     };
     assert_same(
-        call,
+        format_args!("{caller:?} {call}"),
         [answer, ffi::read_answer(&result)],
         [&by_library, &by_reference],
     );
@@ -84,14 +88,15 @@ pub fn check(caller: Caller, given: Slices) -> Result<(), u8> {
     let answer = ffi::check(caller, given);
     let result = reference::check_table(caller, given);
     let expected = ffi::check_answer(&result);
-    assert_same("check", [answer.into(), expected.into()], [&(), &()]);
+    let call = format_args!("{caller:?} check");
+    assert_same(call, [answer.into(), expected.into()], [&(), &()]);
     result
 }
 
 /// Lends a slice of this length to a call that writes a text; hands back the written text.
 #[track_caller]
 pub fn written(
-    call: &str,
+    call: impl Display,
     length: usize,
     random: &mut Random,
     library: impl Fn(&mut [u8]) -> u64,
@@ -120,7 +125,8 @@ pub fn write(
 ) -> Result<Vec<u8>, u8> {
     let library = |out: &mut [u8]| ffi::write(caller, given, out);
     let reference = |out: &mut [u8]| reference::write_table(caller, given, out);
-    written("write", length, random, library, reference)
+    let call = format_args!("{caller:?} write");
+    written(call, length, random, library, reference)
 }
 
 #[track_caller]
@@ -132,7 +138,8 @@ pub fn plan_text(
 ) -> Result<Vec<u8>, u8> {
     let library = |out: &mut [u8]| ffi::print_plan(caller, text, out);
     let reference = |out: &mut [u8]| reference::plan_text(caller, text, out);
-    written("plan text", length, random, library, reference)
+    let call = format_args!("{caller:?} plan text");
+    written(call, length, random, library, reference)
 }
 
 /// The first bytes hold the plan, and only they may have changed.
@@ -157,7 +164,7 @@ pub fn plan_slse(
     let answer = ffi::plan_by_slse(caller, given, by_library.lend());
     let result = reference::fill_plan(caller, given, reference::plan, by_reference.lend());
     assert_same(
-        "S-LSE",
+        format_args!("{caller:?} S-LSE"),
         [answer, ffi::plan_answer(&result)],
         [&by_library, &by_reference],
     );
@@ -184,7 +191,7 @@ pub fn plan_turns(
     let [plan, work] = by_reference.each_mut().map(Buffer::lend);
     let result = reference::fill_plan_and_work(caller, given, reference::plan, plan, work);
     assert_same(
-        "by turns",
+        format_args!("{caller:?} by turns"),
         [answer, ffi::plan_answer(&result)],
         [&by_library, &by_reference],
     );

@@ -104,15 +104,18 @@ fn has_most_links(table: &Table) -> bool {
     table.links.len() == 40
 }
 
-const SHORTER: [Shorter; 6] = [
+/// The calls that are lent a table's slices: all but the plan's text.
+const OF_SLICES: [bool; 6] = [true, true, true, true, true, false];
+
+const SHORTER: [Shorter; 8] = [
     (
         |lent| lent.table[0] -= 1,
-        [true, true, true, true, true, false],
+        OF_SLICES,
         |table| table.needs.len() == 16,
     ),
     (
         |lent| lent.table = [16, 39, 39, 39],
-        [true, true, true, true, true, false],
+        OF_SLICES,
         has_most_links,
     ),
     (
@@ -131,11 +134,9 @@ const SHORTER: [Shorter; 6] = [
         |table| table.text().len() == TEXT,
     ),
     // Lows, highs and costs of unequal lengths are 8 for every table.
-    (
-        |lent| lent.table[2] -= 1,
-        [true, true, true, true, true, false],
-        |_| true,
-    ),
+    (|lent| lent.table[1] -= 1, OF_SLICES, |_| true),
+    (|lent| lent.table[2] -= 1, OF_SLICES, |_| true),
+    (|lent| lent.table[3] -= 1, OF_SLICES, |_| true),
 ];
 
 #[test]

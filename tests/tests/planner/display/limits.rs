@@ -18,7 +18,7 @@ const WITHIN: [[usize; 2]; 7] = [
     [1, 0],
 ];
 
-/// A probe more, a link more, or both.
+/// A probe more, a link more, or both; then the most of the full caller.
 const BEYOND: [[usize; 2]; 7] = [
     [17, 0],
     [17, 1],
@@ -91,6 +91,7 @@ fn full_answers(text: &[u8], random: &mut Random) -> usize {
 fn the_header_line_decides() {
     let mut random = Random::new(105);
     let mut full = [0; 9];
+    // All but the largest.
     for table in tables(BEYOND, &mut random).into_iter().take(6) {
         let text = table.text();
         for cut in 0..text.len() {
