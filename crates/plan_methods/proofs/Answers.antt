@@ -1,20 +1,26 @@
 -- How the code comes to its answer, and what the answer then is.
-use Prim.Native.Nat.{ℕ, _≤_, _<_}
+use Prim.Native.Nat.{ℕ, _*_, _≤_, _<_}
 use mathlib.Core.Path.{_≡_, _∙_, ap}
 use mathlib.Core.Bool.{Bool, true, false, cond}
 use mathlib.Core.List.{List}
 use native.Mathlib.Omega.{arith}
 use lib.Dec.{eqb}
 use lib.ListN.{length, replicate}
-use borrow.Author.Tests.{ne-eqb}
+use native.Mathlib.Decide.{decLt}
+use borrow.Author.Tests.{ne-eqb, lt-ltb}
 use Rattle.range.specs.Sum.{weigh, count}
 use Rattle.range.specs.Lists.{stored}
 use Rattle.range.specs.Reply.{refusal, values}
 use Rattle.range.proofs.Sums.{weigh-same}
+use Rattle.range.proofs.Faults.{or-left, or-right}
 use Rattle.table.specs.Table.{Table, ofSlices, dearer}
+use Rattle.table.specs.Legal.{tableFault, lentFault}
+use Rattle.table.specs.Slices.{Slices, slicesOf, tableOf, slicesRoomFault, sliceFault}
+use Rattle.table.proofs.Accepted.{table-wider}
+use Rattle.table.proofs.Slices.{legal-slices}
 use Rattle.plan_theory.specs.Plan.{kept, rested, keptCount, costOf, planByte, isKept}
 use Rattle.plan_theory.proofs.Plan.{stored-kept}
-use Rattle.plan_methods.specs.Planning.{planningReply, planValues, Plans, PlansAndClears}
+use Rattle.plan_methods.specs.Planning.{planFault, turnsFault, planningReply, planValues, SlseReady, Plans, PlansAndClears}
 use Rattle.plan_methods.specs.declared.Planning.{Planning}
 use Rattle.plan_methods.specs.declared.Planning.the-variants.{Plan, Refused}
 
@@ -51,6 +57,55 @@ turns-refused fault r t plan work e n =
 pub turns-made : (fault : ℕ) (t : Table) (r : Planning) (plan plan′ work work′ : List ℕ) → fault ≡ 0 → Plans fault t r plan plan′ → work′ ≡ replicate (length work) 0
     → PlansAndClears fault t r plan plan′ work work′
 turns-made fault t r plan plan′ work work′ z p w = record { plans = p; cleared = rw z w }
+
+lent-good : (lent needed : ℕ) → lentFault lent needed ≡ 0 → needed ≤ lent
+lent-good lent needed e = go (decLt lent needed)
+  where
+    go : Dec (lent < needed) → needed ≤ lent
+    go (yes l) = let a : _≡_ {A = ℕ} 8 0 = rw (lt-ltb lent needed l) at e in absurd (omega arith)
+    go (no n) = omega arith
+
+-- what a call that is not refused has: within the smaller limits, and so within the full ones
+module _ (pmax lmax probes links : ℕ) (needs lows highs costs : List ℕ) (plan : ℕ) (p : pmax ≤ 256) (l : lmax ≤ 2048) (e : planFault pmax lmax (slicesOf 0 probes links needs lows highs costs) plan ≡ 0) where
+  abbrev slices : Slices
+  slices = slicesOf 0 probes links needs lows highs costs
+
+  passed : sliceFault pmax lmax slices ≡ 0
+  passed = or-right (lentFault plan links) (sliceFault pmax lmax slices) e
+
+  pub legal : tableFault 256 2048 (tableOf slices) ≡ 0
+  legal = table-wider pmax lmax 256 2048 (tableOf slices) p l (or-right (slicesRoomFault slices) (tableFault pmax lmax (tableOf slices)) passed)
+
+  pub room : slicesRoomFault slices ≡ 0
+  room = or-left (slicesRoomFault slices) (tableFault pmax lmax (tableOf slices)) passed
+
+  pub few : (probes ≤ pmax) × (links ≤ lmax)
+  few = let k = legal-slices pmax lmax slices passed in (k .few, k .within)
+
+  pub in-plan : links ≤ plan
+  in-plan = lent-good plan links (or-left (lentFault plan links) (sliceFault pmax lmax slices) e)
+
+  pub slse-ready : (order half counts degrees : ℕ) → lmax ≤ order → lmax ≤ half → (1 < counts) × (counts ≤ 256) → pmax ≤ degrees
+      → SlseReady links needs lows highs costs plan order half counts degrees
+  slse-ready order half counts degrees lo lh base ld =
+      let k = few in
+      record {
+        probes = probes;
+        legal = legal;
+        room = room;
+        in-degrees = omega (arith, k .0);
+        in-plan = in-plan;
+        in-order = omega (arith, k .1);
+        in-half = omega (arith, k .1);
+        base = base;
+      }
+
+-- and one with working bytes
+pub turns-passed : (pmax lmax : ℕ) (x : Slices) (plan work : ℕ) → turnsFault pmax lmax x plan work ≡ 0 → (4 * x .links ≤ work) × (planFault pmax lmax x plan ≡ 0)
+turns-passed pmax lmax x plan work e = (
+  lent-good work (4 * x .links) (or-left (lentFault work (4 * x .links)) (planFault pmax lmax x plan) e),
+  or-right (lentFault work (4 * x .links)) (planFault pmax lmax x plan) e,
+)
 
 -- the answer, by the fault found
 pub plans-answer : {fault : ℕ} {t : Table} {r : Planning} {plan plan′ : List ℕ} → Plans fault t r plan plan′ → r ≡ cond (eqb fault 0) (Plan (keptCount t) (costOf t (kept t))) (Refused fault)

@@ -1,5 +1,5 @@
 -- What planning promises: the answer, and the lent buffers at exit. The sentences are those of document 01, "Two ways to one plan".
-use Prim.Native.Nat.{ℕ, _*_}
+use Prim.Native.Nat.{ℕ, _*_, _<_, _≤_}
 use mathlib.Core.Path.{_≡_}
 use mathlib.Core.Bool.{cond}
 use mathlib.Core.List.{List, [], _∷_}
@@ -8,8 +8,8 @@ use lib.ListN.{length, replicate}
 use Rattle.range.specs.First.{orElse}
 use Rattle.range.specs.Lists.{stored}
 use Rattle.range.specs.Reply.{Reply, refusal, values, replyOf}
-use Rattle.table.specs.Table.{Table}
-use Rattle.table.specs.Legal.{lentFault}
+use Rattle.table.specs.Table.{Table, ofSlices}
+use Rattle.table.specs.Legal.{tableFault, roomFault, lentFault}
 use Rattle.table.specs.Slices.{Slices, tableOf, sliceFault}
 use Rattle.plan_theory.specs.Plan.{kept, keptCount, costOf, planByte}
 use Rattle.plan_methods.specs.declared.Planning.{Planning}
@@ -22,6 +22,17 @@ planFault pmax lmax x plan = orElse (lentFault plan (x .links)) (sliceFault pmax
 -- "Working bytes lent for this, at least four a link": 8 for them, then as above
 abbrev pub turnsFault : ℕ → ℕ → Slices → ℕ → ℕ → ℕ
 turnsFault pmax lmax x plan work = orElse (lentFault work (4 * x .links)) (planFault pmax lmax x plan)
+
+-- what S-LSE asks: a legal table, of some probe count, in slices with room for it, and the lengths of the plan and of the slices that it works in
+pub record SlseReady (links : ℕ) (needs lows highs costs : List ℕ) (plan order half counts degrees : ℕ) : Type 0 where
+  pub probes : ℕ
+  pub legal : tableFault 256 2048 (ofSlices 0 probes links needs lows highs costs) ≡ 0
+  pub room : roomFault probes links (length needs) (length lows) (length highs) (length costs) ≡ 0
+  pub in-degrees : probes ≤ degrees
+  pub in-plan : links ≤ plan
+  pub in-order : links ≤ order
+  pub in-half : links ≤ half
+  pub base : (1 < counts) × (counts ≤ 256)
 
 -- "The answer holds the kept count and total cost"
 abbrev pub planningReply : Planning → Reply

@@ -25,7 +25,28 @@ pub fn plan_by_slse(
     ensures { λ r. let x = slicesOf number probes links (now (needs .entry)) (now (lows .entry)) (now (highs .entry)) (now (costs .entry)) in
         ⌜ PlansBySlse 256 2048 x r (now (plan .entry)) (now (plan .exit)) ⌝ }
 {
-    limited::slse_limited(256, 2048, probes, links, needs, lows, highs, costs, plan)
+    let n = probes as usize;
+    let m = links as usize;
+    let fault = limited::plan_fault(256, 2048, n, m, needs, lows, highs, costs, plan.len());
+    if fault != 0 {
+        return Planning::Refused(fault);
+    }
+    let mut order = [0u16; 2048];
+    let mut half = [0u16; 2048];
+    let mut counts = [0usize; 256];
+    let mut degrees = [0u16; 256];
+    limited::slse_answer(
+        plan,
+        &mut order,
+        &mut half,
+        &mut counts,
+        &mut degrees,
+        m,
+        needs,
+        lows,
+        highs,
+        costs,
+    )
 }
 
 // The plan by offers in turn, with working bytes lent, at least four a link.
@@ -43,16 +64,43 @@ pub fn plan_by_turns(
     ensures { λ r. let x = slicesOf number probes links (now (needs .entry)) (now (lows .entry)) (now (highs .entry)) (now (costs .entry)) in
         ⌜ PlansByTurns 256 2048 x r (now (plan .entry)) (now (plan .exit)) (now (work .entry)) (now (work .exit)) ⌝ }
 {
-    limited::turns_limited(
+    let n = probes as usize;
+    let m = links as usize;
+    let fault = limited::turns_fault(
         256,
         2048,
-        probes,
-        links,
+        n,
+        m,
         needs,
         lows,
         highs,
         costs,
+        plan.len(),
+        work.len(),
+    );
+    if fault != 0 {
+        return Planning::Refused(fault);
+    }
+    let mut spares = [0u16; 256];
+    let mut marks = [0u16; 1024];
+    let mut site = [0u16; 16642];
+    let mut order = [0u16; 2048];
+    let mut half = [0u16; 2048];
+    let mut counts = [0usize; 256];
+    limited::turns_answer(
         plan,
         work,
+        &mut spares,
+        &mut marks,
+        &mut site,
+        &mut order,
+        &mut half,
+        &mut counts,
+        n,
+        m,
+        needs,
+        lows,
+        highs,
+        costs,
     )
 }

@@ -1,7 +1,7 @@
-// Planning within limits, and the answer that goes with a plan. The public planners call these.
+// Planning within limits, in lent slices, and the answer that goes with a plan. The public planners call these.
 use super::Planning;
 ghost use mathlib.Core.Path.{_≡_};
-ghost use Prim.Native.Nat.{ℕ, _≤_};
+ghost use Prim.Native.Nat.{ℕ, _+_, _*_, _<_, _≤_};
 ghost use lib.ListN.{length};
 ghost use Rattle.range.specs.Sum.{weigh, count};
 ghost use Rattle.range.specs.Lists.{stored};
@@ -9,8 +9,52 @@ ghost use Rattle.table.specs.Table.{item, ofSlices};
 ghost use Rattle.table.specs.Slices.{slicesOf};
 ghost use Rattle.table.specs.Legal.{tableFault, roomFault};
 ghost use Rattle.plan_theory.specs.Plan.{kept, planByte, isKept};
-ghost use Rattle.plan_methods.specs.Planning.{PlansBySlse, PlansByTurns};
+ghost use Rattle.plan_methods.specs.Planning.{planFault, turnsFault, SlseReady, Plans, PlansAndClears};
 ghost use Rattle.plan_methods.specs.declared.Planning.the-variants.{Plan};
+
+// The fault of a call with a plan of this length, within the limits pmax and lmax.
+pub fn plan_fault(
+    pmax: usize,
+    lmax: usize,
+    probes: usize,
+    links: usize,
+    needs: &[u16],
+    lows: &[u16],
+    highs: &[u16],
+    costs: &[u16],
+    plan: usize,
+) -> u8
+    ensures { λ r. let x = slicesOf 0 probes links (now (needs .entry)) (now (lows .entry)) (now (highs .entry)) (now (costs .entry)) in
+        ⌜ r ≡ planFault pmax lmax x plan ⌝ }
+{
+    if plan < links {
+        return 8;
+    }
+    table::checks::slice_fault(pmax, lmax, probes, links, needs, lows, highs, costs)
+}
+
+// And with working bytes of this length.
+pub fn turns_fault(
+    pmax: usize,
+    lmax: usize,
+    probes: usize,
+    links: usize,
+    needs: &[u16],
+    lows: &[u16],
+    highs: &[u16],
+    costs: &[u16],
+    plan: usize,
+    work: usize,
+) -> u8
+    requires { ⌜ links < 65536 ⌝ }
+    ensures { λ r. let x = slicesOf 0 probes links (now (needs .entry)) (now (lows .entry)) (now (highs .entry)) (now (costs .entry)) in
+        ⌜ r ≡ turnsFault pmax lmax x plan work ⌝ }
+{
+    if work < 4 * links {
+        return 8;
+    }
+    plan_fault(pmax, lmax, probes, links, needs, lows, highs, costs, plan)
+}
 
 // The answer that goes with a plan.
 fn answer(plan: &[u8], links: usize, costs: &[u16]) -> Planning
@@ -26,83 +70,100 @@ fn answer(plan: &[u8], links: usize, costs: &[u16]) -> Planning
     }
 }
 
-// The plan by S-LSE of every legal table in these slices, whatever its probe count.
+// The plan by S-LSE of every legal table in these slices, whatever its probe count, if `degrees` has an entry for each probe. It
+// works in `order`, `half`, `counts` and `degrees`.
 pub fn slse_plan(
     plan: &mut [u8],
+    order: &mut [u16],
+    half: &mut [u16],
+    counts: &mut [usize],
+    degrees: &mut [u16],
     links: usize,
     needs: &[u16],
     lows: &[u16],
     highs: &[u16],
     costs: &[u16],
 )
-    requires { ⌜ ((probes : ℕ) × (tableFault 256 2048 (ofSlices 0 probes links (now needs) (now lows) (now highs) (now costs)) ≡ 0)
-        × (roomFault probes links (length (now needs)) (length (now lows)) (length (now highs)) (length (now costs)) ≡ 0)) × (links ≤ length (now plan)) ⌝ }
+    requires { ⌜ SlseReady links (now needs) (now lows) (now highs) (now costs) (length (now plan)) (length (now order)) (length (now half)) (length (now counts)) (length (now degrees)) ⌝ }
     ensures { λ _. ⌜ ((probes : ℕ) → let t = ofSlices 0 probes links (now (needs .entry)) (now (lows .entry)) (now (highs .entry)) (now (costs .entry)) in
-        tableFault 256 2048 t ≡ 0 → now (plan .exit) ≡ stored (λ i. planByte (kept t i)) links (now (plan .entry))) ⌝ }
+        probes ≤ length (now (degrees .entry)) → tableFault 256 2048 t ≡ 0 → now (plan .exit) ≡ stored (λ i. planByte (kept t i)) links (now (plan .entry))) ⌝ }
 {
-    let mut order = [0u16; 2048];
-    plan_order::sorting::order_links(&mut order, links, costs);
-    plan_slse::passes::plan_in_order(plan, links, &order, needs, lows, highs);
+    plan_order::sorting::order_links(order, half, counts, links, costs);
+    plan_slse::passes::plan_in_order(plan, degrees, links, order, needs, lows, highs);
 }
 
-// The plan by S-LSE within the limits pmax and lmax, for a table of any number.
-pub fn slse_limited(
-    pmax: usize,
-    lmax: usize,
-    probes: u16,
-    links: u16,
-    needs: &[u16],
-    lows: &[u16],
-    highs: &[u16],
-    costs: &[u16],
+// The same plan, and its answer.
+pub fn slse_answer(
     plan: &mut [u8],
-) -> Planning
-    requires { ⌜ (pmax ≤ 256) × (lmax ≤ 2048) ⌝ }
-    ensures { λ r. ⌜ ((number : ℕ) → let x = slicesOf number probes links (now (needs .entry)) (now (lows .entry)) (now (highs .entry)) (now (costs .entry)) in
-        PlansBySlse pmax lmax x r (now (plan .entry)) (now (plan .exit))) ⌝ }
-{
-    let n = probes as usize;
-    let m = links as usize;
-    if plan.len() < m {
-        return Planning::Refused(8);
-    }
-    let fault = table::checks::slice_fault(pmax, lmax, n, m, needs, lows, highs, costs);
-    if fault != 0 {
-        return Planning::Refused(fault);
-    }
-    slse_plan(plan, m, needs, lows, highs, costs);
-    answer(plan, m, costs)
-}
-
-// The plan by offers in turn within the limits pmax and lmax, for a table of any number.
-pub fn turns_limited(
-    pmax: usize,
-    lmax: usize,
-    probes: u16,
-    links: u16,
+    order: &mut [u16],
+    half: &mut [u16],
+    counts: &mut [usize],
+    degrees: &mut [u16],
+    links: usize,
     needs: &[u16],
     lows: &[u16],
     highs: &[u16],
     costs: &[u16],
+) -> Planning
+    requires { ⌜ SlseReady links (now needs) (now lows) (now highs) (now costs) (length (now plan)) (length (now order)) (length (now half)) (length (now counts)) (length (now degrees)) ⌝ }
+    ensures { λ r. ⌜ ((number probes : ℕ) → let t = ofSlices number probes links (now (needs .entry)) (now (lows .entry)) (now (highs .entry)) (now (costs .entry)) in
+        probes ≤ length (now (degrees .entry)) → tableFault 256 2048 t ≡ 0 → Plans 0 t r (now (plan .entry)) (now (plan .exit))) ⌝ }
+{
+    slse_plan(
+        plan,
+        order,
+        half,
+        counts,
+        degrees,
+        links,
+        needs,
+        lows,
+        highs,
+        costs,
+    );
+    answer(plan, links, costs)
+}
+
+// The plan by offers in turn of a legal table, and its answer. Behind the working bytes are the slices that it works in.
+pub fn turns_answer(
     plan: &mut [u8],
     work: &mut [u8],
+    spares: &mut [u16],
+    marks: &mut [u16],
+    site: &mut [u16],
+    order: &mut [u16],
+    half: &mut [u16],
+    counts: &mut [usize],
+    probes: usize,
+    links: usize,
+    needs: &[u16],
+    lows: &[u16],
+    highs: &[u16],
+    costs: &[u16],
 ) -> Planning
-    requires { ⌜ (pmax ≤ 256) × (lmax ≤ 2048) ⌝ }
-    ensures { λ r. ⌜ ((number : ℕ) → let x = slicesOf number probes links (now (needs .entry)) (now (lows .entry)) (now (highs .entry)) (now (costs .entry)) in
-        PlansByTurns pmax lmax x r (now (plan .entry)) (now (plan .exit)) (now (work .entry)) (now (work .exit))) ⌝ }
+    requires { let t = ofSlices 0 probes links (now needs) (now lows) (now highs) (now costs) in
+        ⌜ (tableFault 256 2048 t ≡ 0) × (roomFault probes links (length (now needs)) (length (now lows)) (length (now highs)) (length (now costs)) ≡ 0)
+        × (links ≤ length (now plan)) × (4 * links ≤ length (now work))
+        × (probes ≤ length (now spares)) × (4 * probes ≤ length (now marks)) × (8 * links + probes + 2 ≤ length (now site))
+        × (links ≤ length (now order)) × (links ≤ length (now half)) × (1 < length (now counts)) × (length (now counts) ≤ 256) ⌝ }
+    ensures { λ r. ⌜ ((number : ℕ) → let t = ofSlices number probes links (now (needs .entry)) (now (lows .entry)) (now (highs .entry)) (now (costs .entry)) in
+        PlansAndClears 0 t r (now (plan .entry)) (now (plan .exit)) (now (work .entry)) (now (work .exit))) ⌝ }
 {
-    let n = probes as usize;
-    let m = links as usize;
-    if work.len() < 4 * m {
-        return Planning::Refused(8);
-    }
-    if plan.len() < m {
-        return Planning::Refused(8);
-    }
-    let fault = table::checks::slice_fault(pmax, lmax, n, m, needs, lows, highs, costs);
-    if fault != 0 {
-        return Planning::Refused(fault);
-    }
-    plan_turns::method::by_turns(plan, work, n, m, needs, lows, highs, costs);
-    answer(plan, m, costs)
+    plan_turns::method::by_turns(
+        plan,
+        work,
+        spares,
+        marks,
+        site,
+        order,
+        half,
+        counts,
+        probes,
+        links,
+        needs,
+        lows,
+        highs,
+        costs,
+    );
+    answer(plan, links, costs)
 }

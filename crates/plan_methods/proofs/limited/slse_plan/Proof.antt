@@ -16,20 +16,13 @@ use Rattle.plan_slse.specs.FromDearest.{InOrder}
 use Rattle.plan_order.proofs.Order.{place-later}
 use Rattle.plan_slse.proofs.Turns.{size, order-fits}
 
-slice-aggregate-order-links : tie.Need-slice-aggregate-order-links
-slice-aggregate-order-links c = search needs
-
 order-links-requires : tie.Need-order-links-requires
 order-links-requires c κs =
-    let s = c .before .before .before .before .before .before in
-    let a = s .args in
-    let probes = s .pre .0 .0 in
-    let z = size probes (a .links) (a .needs .now) (a .lows .now) (a .highs .now) (a .costs .now) (s .pre .0 .1) in
-    let r = room-good probes (a .links) (length (a .needs .now)) (length (a .lows .now)) (length (a .highs .now)) (length (a .costs .now)) (s .pre .0 .2) in
-    (z .within, omega arith, omega arith)
-
-slice-aggregate-plan-in-order : tie.Need-slice-aggregate-plan-in-order
-slice-aggregate-plan-in-order c = search needs
+    let a = c .before .before .before .before .before .before .before .before .before .before .before .before .args in
+    let p = c .before .before .before .before .before .before .before .before .before .before .before .before .pre in
+    let z = size (p .probes) (a .links) (a .needs .now) (a .lows .now) (a .highs .now) (a .costs .now) (p .legal) in
+    let r = room-good (p .probes) (a .links) (length (a .needs .now)) (length (a .lows .now)) (length (a .highs .now)) (length (a .costs .now)) (p .room) in
+    (z .within, p .in-order, p .in-half, p .base .0, p .base .1, omega arith)
 
 -- the order that `order_links` stores is that of the table
 in-order : (probes links : ℕ) (needs lows highs costs order : List ℕ) → tableFault 256 2048 (ofSlices 0 probes links needs lows highs costs) ≡ 0 → ByPlace links (item costs) order
@@ -40,34 +33,42 @@ in-order probes links needs lows highs costs order legal o =
 
 plan-in-order-requires : tie.Need-plan-in-order-requires
 plan-in-order-requires c κs =
-    let at-order-links = c .before .before .before in
-    let at-start = c .before .before .before .before .before .before .before .before .before .before in
-    let a = at-start .args in
-    let probes = at-start .pre .0 .0 in
-    let call = at-order-links .order-links in
-    let z = size probes (a .links) (a .needs .now) (a .lows .now) (a .highs .now) (a .costs .now) (at-start .pre .0 .1) in
-    let r = room-good probes (a .links) (length (a .needs .now)) (length (a .lows .now)) (length (a .highs .now)) (length (a .costs .now)) (at-start .pre .0 .2) in
-    let long = call .kept .0 in
-    (order-fits probes (a .links) (a .needs .now) (a .lows .now) (a .highs .now) (a .costs .now) _ 256 (in-order probes (a .links) (a .needs .now) (a .lows .now) (a .highs .now) (a .costs .now) _ (at-start .pre .0 .1) (call .ensures)) (omega (arith, z .within)) (r .needed) (r .linked) (omega arith) (omega arith), at-start .pre .1)
+    let a = c .before .before .before .before .before .before .before .before .before .before .before .before .before .before .before .before .before .before .before .before .before .before .args in
+    let p = c .before .before .before .before .before .before .before .before .before .before .before .before .before .before .before .before .before .before .before .before .before .before .pre in
+    let call = c .before .before .before .before .before .before .before .before .before .order-links in
+    let r = room-good (p .probes) (a .links) (length (a .needs .now)) (length (a .lows .now)) (length (a .highs .now)) (length (a .costs .now)) (p .room) in
+    (order-fits (p .probes) (a .links) (a .needs .now) (a .lows .now) (a .highs .now) (a .costs .now) _ (length (a .degrees .now)) (in-order (p .probes) (a .links) (a .needs .now) (a .lows .now) (a .highs .now) (a .costs .now) _ (p .legal) (call .ensures)) (omega (arith, call .kept .0, p .in-order)) (r .needed) (r .linked) (omega arith) (p .in-degrees), p .in-plan)
 
 same-length : tie.Need-same-length
 same-length c = search needs
 
+same-length-2 : tie.Need-same-length-2
+same-length-2 c = search needs
+
+same-length-3 : tie.Need-same-length-3
+same-length-3 c = search needs
+
+same-length-4 : tie.Need-same-length-4
+same-length-4 c = search needs
+
+same-length-5 : tie.Need-same-length-5
+same-length-5 c = search needs
+
 returns : tie.Need-returns
-returns c probes legal =
-    let at-order-links = c .before .before .before .before .before .before in
-    let at-start = c .before .before .before .before .before .before .before .before .before .before .before .before .before in
-    let a = at-start .args in
-    let call = at-order-links .order-links in
-    c .before .before .plan-in-order .ensures probes (a .costs .now) (in-order probes (a .links) (a .needs .now) (a .lows .now) (a .highs .now) (a .costs .now) _ legal (call .ensures))
+returns c =
+    λ probes wide legal.
+    let a = c .before .before .before .before .before .before .before .before .before .before .before .before .before .before .before .before .before .before .before .before .before .before .before .before .before .before .before .args in
+    c .before .before .before .before .plan-in-order .ensures probes (a .costs .now) wide (in-order probes (a .links) (a .needs .now) (a .lows .now) (a .highs .now) (a .costs .now) _ legal (c .before .before .before .before .before .before .before .before .before .before .before .before .before .before .order-links .ensures))
 
 pub slse-plan-spec : {M : Type 1} → statement M
 slse-plan-spec =
     tie.close
     (tie.spec
-    slice-aggregate-order-links
     order-links-requires
-    slice-aggregate-plan-in-order
     plan-in-order-requires
     same-length
+    same-length-2
+    same-length-3
+    same-length-4
+    same-length-5
     returns)
