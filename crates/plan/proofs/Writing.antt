@@ -18,25 +18,25 @@ use Rattle.standard_io.specs.Writing.{Wrote}
 use Rattle.standard_io.proofs.Writing.{wrote-is}
 use Rattle.plan.specs.Writing.{PlanWrites}
 
-same-output : (input : List ℕ) → outputOf (take 27923 input) ≡ outputOf input
+same-output : (input : List ℕ) → outputOf 256 2048 (take 27923 input) ≡ outputOf 256 2048 input
 same-output input = go (decLt 27922 (length input))
   where
-    go : Dec (27922 < length input) → outputOf (take 27923 input) ≡ outputOf input
+    go : Dec (27922 < length input) → outputOf 256 2048 (take 27923 input) ≡ outputOf 256 2048 input
     go (yes l) = sym (long-output input l)
-    go (no d) = ap outputOf (take-all 27923 input (omega arith))
+    go (no d) = ap (outputOf 256 2048) (take-all 27923 input (omega arith))
 
 pub plan-writes : (input : List ℕ) → PlanWrites input
 plan-writes input = record { writes = whole; plan = λ written w e. rw (whole written w) (printed-plan input e) }
   where
-    whole : (written : List ℕ) → Wrote (outputOf (take 27923 input)) written → written ≡ outputOf input
-    whole written w = wrote-is (outputOf (take 27923 input)) written w ∙ same-output input
+    whole : (written : List ℕ) → Wrote (outputOf 256 2048 (take 27923 input)) written → written ≡ outputOf 256 2048 input
+    whole written w = wrote-is (outputOf 256 2048 (take 27923 input)) written w ∙ same-output input
 
 -- the program's slice holds every output, so the text is printed and no refusal occurs
-module _ (s : List ℕ) (r : Output) (out out′ : List ℕ) (long : 28950 ≤ length out) (p : Prints (outputFault (length out) (outputOf s)) (outputOf s) r out out′) where
-  pub print-done : (n : ℕ) → r ≡ Length n → Prints 0 (outputOf s) (Length n) out out′
+module _ (s : List ℕ) (r : Output) (out out′ : List ℕ) (long : 28950 ≤ length out) (p : Prints (outputFault (length out) (outputOf 256 2048 s)) (outputOf 256 2048 s) r out out′) where
+  pub print-done : (n : ℕ) → r ≡ Length n → Prints 0 (outputOf 256 2048 s) (Length n) out out′
   print-done n e =
       let k = most s in
-      let q = rw (long-enough (length out) (outputOf s) (omega arith)) at p in
+      let q = rw (long-enough (length out) (outputOf 256 2048 s) (omega arith)) at p in
       record { answer = ap outputReply (sym e) ∙ q .answer; out = q .out }
 
   pub never-refused : (m : ℕ) → r ≡ Refused m → ⊥

@@ -10,6 +10,6 @@ use Rattle.plan_output.specs.Output.{outputOf, PrintedPlan}
 
 -- "The plan program reads a table on standard input. It prints ..": what is written after `print` on the first bytes of the input
 pub record PlanWrites (input : List ℕ) : Type 0 where
-  pub writes : (written : List ℕ) → Wrote (outputOf (take 27923 input)) written → written ≡ outputOf input
+  pub writes : (written : List ℕ) → Wrote (outputOf 256 2048 (take 27923 input)) written → written ≡ outputOf 256 2048 input
   -- of a table that is not refused: its plan, in which no link is awake for nothing (02, No. 14)
-  pub plan : (written : List ℕ) → Wrote (outputOf (take 27923 input)) written → textFault 256 2048 false input ≡ 0 → PrintedPlan input written
+  pub plan : (written : List ℕ) → Wrote (outputOf 256 2048 (take 27923 input)) written → textFault 256 2048 false input ≡ 0 → PrintedPlan input written

@@ -37,7 +37,7 @@ fn skip_rest() -> bool {
 // Prints what a text prints, in a slice that holds any output (law `always-printed`).
 fn print(text: &[u8], out: &mut [u8]) -> usize
     requires { ⌜ 28950 ≤ length (now out) ⌝ }
-    ensures { λ r. ⌜ Prints 0 (outputOf (now (text .entry))) (Length r) (now (out .entry)) (now (out .exit)) ⌝ }
+    ensures { λ r. ⌜ Prints 0 (outputOf 256 2048 (now (text .entry))) (Length r) (now (out .entry)) (now (out .exit)) ⌝ }
 {
     let printed = plan_output::plan_text(text, out);
     match printed {

@@ -62,7 +62,7 @@ pub extern "C" fn planner_plan_turns(
 // `plan_output::plan_text`, its answer packed.
 #[no_mangle]
 pub extern "C" fn planner_plan_text(text: &[u8], out: &mut [u8]) -> u64
-    ensures { λ r. let printed = outputOf (now (text .entry)) in
+    ensures { λ r. let printed = outputOf 256 2048 (now (text .entry)) in
         ⌜ PrintsPacked (outputFault (length (now (out .entry))) printed) printed r (now (out .entry)) (now (out .exit)) ⌝ }
 {
     packed_output(plan_output::plan_text(text, out))

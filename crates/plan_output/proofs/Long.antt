@@ -19,5 +19,5 @@ module _ (s : List ℕ) (l : 27922 < length s) where
       let k = eqb-true (length s) (textEnd (ofText s)) (text-good 256 2048 false s e .end) in
       omega arith
 
-  pub long-output : outputOf s ≡ outputOf (take 27923 s)
+  pub long-output : outputOf 256 2048 s ≡ outputOf 256 2048 (take 27923 s)
   long-output = rw (← long-text s l, ne-eqb (textFault 256 2048 false s) 0 refused)

@@ -1,5 +1,5 @@
--- 28,950 bytes hold every output, so the buffer of the plan program always suffices.
-use Prim.Native.Nat.{ℕ, _≤_}
+-- 22 bytes, 13 a link and 9 a probe hold every output: 28,950 in the full limits, so the buffer of the plan program always suffices.
+use Prim.Native.Nat.{ℕ, _+_, _*_, _≤_}
 use mathlib.Core.Path.{_≡_, _∙_}
 use mathlib.Core.Bool.{false}
 use mathlib.Core.List.{List}
@@ -19,19 +19,20 @@ use Rattle.output.specs.declared.Output.the-variants.{Length}
 use Rattle.output.proofs.Printing.{prints-answer, long-enough}
 use Rattle.plan_output.proofs.Printing.{length-plan}
 
-pub most : (s : List ℕ) → length (outputOf s) ≤ 28950
-most s = go (ℕ-discrete (textFault 256 2048 false s) 0)
+pub most : (pmax lmax : ℕ) (s : List ℕ) → length (outputOf pmax lmax s) ≤ 22 + 13 * lmax + 9 * pmax
+most pmax lmax s = go (ℕ-discrete (textFault pmax lmax false s) 0)
   where
-    go : Dec (textFault 256 2048 false s ≡ 0) → length (outputOf s) ≤ 28950
+    go : Dec (textFault pmax lmax false s ≡ 0) → length (outputOf pmax lmax s) ≤ 22 + 13 * lmax + 9 * pmax
     go (yes e) =
-        let z = text-head 256 2048 false s e .size in
+        let z = text-head pmax lmax false s e .size in
         let l = length-plan (ofText s) in
         let n = count-le (ofText s .links) (kept (ofText s)) in
         let m = count-le (ofText s .probes) (isShort (ofText s)) in
-        rw (eq-eqb (textFault 256 2048 false s) 0 e) (omega arith)
-    go (no n) = rw (ne-eqb (textFault 256 2048 false s) 0 n) (omega arith)
+        rw (eq-eqb (textFault pmax lmax false s) 0 e) (omega arith)
+    go (no n) = rw (ne-eqb (textFault pmax lmax false s) 0 n) (omega arith)
 
-pub always-printed : (s : List ℕ) (r : Output) (out out′ : List ℕ) → 28950 ≤ length out → Prints (outputFault (length out) (outputOf s)) (outputOf s) r out out′ → r ≡ Length (length (outputOf s))
-always-printed s r out out′ l p =
-    let k = most s in
-    prints-answer p ∙ rw (long-enough (length out) (outputOf s) (omega arith))
+pub always-printed : (pmax lmax : ℕ) (s : List ℕ) (r : Output) (out out′ : List ℕ) → 22 + 13 * lmax + 9 * pmax ≤ length out
+    → Prints (outputFault (length out) (outputOf pmax lmax s)) (outputOf pmax lmax s) r out out′ → r ≡ Length (length (outputOf pmax lmax s))
+always-printed pmax lmax s r out out′ l p =
+    let k = most pmax lmax s in
+    prints-answer p ∙ rw (long-enough (length out) (outputOf pmax lmax s) (omega arith))

@@ -27,10 +27,10 @@ shortLines t = joined (λ v. shortLine (isShort t v) v (missing t v)) (t .probes
 unfoldable pub planText : Table → List ℕ
 planText t = headLine (t .number) (keptCount t) (costOf t (kept t)) ++ (keptLines t ++ (shortLines t ++ closingLine))
 
--- "The plan program reads a table"; "a refused table prints only that"
-abbrev pub outputOf : List ℕ → List ℕ
-outputOf s =
-    let fault = textFault 256 2048 false s in
+-- "The plan program reads a table"; "a refused table prints only that". The limits are parameters
+abbrev pub outputOf : ℕ → ℕ → List ℕ → List ℕ
+outputOf pmax lmax s =
+    let fault = textFault pmax lmax false s in
     cond (eqb fault 0) (planText (ofText s)) (refusalLine fault)
 
 -- the bytes printed for a text that is not refused: its plan, and of the links in it demand 3's needs and cost, and 02, No. 14

@@ -8,7 +8,7 @@ pub mod text;
 
 // Prints the plan of the table that a text gives, or the text's refusal.
 pub fn plan_text(text: &[u8], out: &mut [u8]) -> Output
-    ensures { λ r. let printed = outputOf (now (text .entry)) in
+    ensures { λ r. let printed = outputOf 256 2048 (now (text .entry)) in
         ⌜ Prints (outputFault (length (now (out .entry))) printed) printed r (now (out .entry)) (now (out .exit)) ⌝ }
 {
     let mut needs = [0u16; 256];
@@ -22,16 +22,28 @@ pub fn plan_text(text: &[u8], out: &mut [u8]) -> Output
             probes,
             links,
             rest: _,
-        } => text::print_plan(
-            out,
-            number,
-            probes as usize,
-            links as usize,
-            &needs,
-            &lows,
-            &highs,
-            &costs,
-        ),
+        } => {
+            let mut plan = [0u8; 2048];
+            let mut order = [0u16; 2048];
+            let mut half = [0u16; 2048];
+            let mut counts = [0usize; 256];
+            let mut degrees = [0u16; 256];
+            text::print_plan(
+                out,
+                &mut plan,
+                &mut order,
+                &mut half,
+                &mut counts,
+                &mut degrees,
+                number,
+                probes as usize,
+                links as usize,
+                &needs,
+                &lows,
+                &highs,
+                &costs,
+            )
+        }
         table_read::Reading::Refused(fault) => output::refusals::print_refusal(out, fault),
     }
 }

@@ -52,8 +52,8 @@ module _ (input : List ℕ) where
   -- the table read stands in these slices
   refused : (m : ℕ) (b : Lent) → ReadsTable 256 2048 true (tableText input) (Unread m) zeroSlices b → refusalLine m ≡ scriptOutput input
   refused m b read =
-      let u = refusal-is true (tableText input) (Unread m) zeroSlices b read m refl in
-      let e = u .0 ∙ blank-found true (tableText input) ∙ ap (textFault 256 2048 true) same in
+      let u = refusal-is 256 2048 true (tableText input) (Unread m) zeroSlices b read m refl in
+      let e = u .0 ∙ blank-found 256 2048 true (tableText input) ∙ ap (textFault 256 2048 true) same in
       own-refusal input n (part-of input .headed) (part-of input .own) m e (λ w. u .1 (sym (u .0) ∙ w))
 
 pub script-writes : (input : List ℕ) → ScriptWrites input
@@ -63,9 +63,9 @@ script-writes input =
       refused = refused input;
       writes = λ number probes links rest b read n out′ a e.
           let r = Read number probes links rest in
-          let z = accepted true text r zeroSlices b read (read-none true text r zeroSlices b read number probes links rest refl) in
+          let z = accepted 256 2048 true text r zeroSlices b read (read-none 256 2048 true text r zeroSlices b read number probes links rest refl) in
           let x = lentSlices number probes links b in
-          let fine = read-fine true text r _ b read number probes links rest refl in
+          let fine = read-fine 256 2048 true text r _ b read number probes links rest refl in
           let left = leftAfterPieces (freshPiece x (a .line)) (a .calls) in
           let printed = endText x (left .bytes) (left .progress .held) (left .progress .changed) in
           let all = script-of-calls x fine (a .line) (a .long) (a .calls) (a .kept) in

@@ -34,28 +34,28 @@ module _ (s : List ℕ) (e : textFault 256 2048 true s ≡ 0) where
 
 -- the text was read into slices of zeros
 module _ (s : List ℕ) (r : Reading) (needs lows highs costs : List ℕ)
-    (read : ReadsTable 256 2048 true s r blank (lentOf needs lows highs costs)) where
+    (read : ReadsTable 256 2048 true s r (blank 256 2048) (lentOf needs lows highs costs)) where
   abbrev b : Lent
   b = lentOf needs lows highs costs
 
   pub refusal-printed : (n : ℕ) (o : Output) (out out′ : List ℕ) → r ≡ Unread n → Prints (outputFault (length out) (refusalLine n)) (refusalLine n) o out out′
       → Prints (outputFault (length out) (scriptOutput s)) (scriptOutput s) o out out′
   refusal-printed n o out out′ e p =
-      let u = refusal-is true s r blank b read n e in
-      rw (ne-eqb (textFault 256 2048 true s) 0 (λ z. u .1 (blank-found true s ∙ z)), ← u .0 ∙ blank-found true s) p
+      let u = refusal-is 256 2048 true s r (blank 256 2048) b read n e in
+      rw (ne-eqb (textFault 256 2048 true s) 0 (λ z. u .1 (blank-found 256 2048 true s ∙ z)), ← u .0 ∙ blank-found 256 2048 true s) p
 
   module _ (number probes links rest : ℕ) (e : r ≡ Read number probes links rest) where
     none : readFault 256 2048 true s 256 2048 2048 2048 ≡ 0
-    none = read-none true s r blank b read number probes links rest e
+    none = read-none 256 2048 true s r (blank 256 2048) b read number probes links rest e
 
     is : (number ≡ ofText s .number) × (probes ≡ ofText s .probes) × (links ≡ ofText s .links) × (rest ≡ textEnd (ofText s))
-    is = read-numbers true s r blank b read number probes links rest e
+    is = read-numbers 256 2048 true s r (blank 256 2048) b read number probes links rest e
 
     pub slices-are : slicesOf number probes links needs lows highs costs ≡ inSlices (ofText s)
     slices-are = rw (is .0, is .1, is .2, rw none at (read .lent .need), rw none at (read .lent .low), rw none at (read .lent .high), rw none at (read .lent .cost))
 
     pub rest-within : (23 ≤ rest) × (rest ≤ length s)
-    rest-within = rw (is .3) (end-within s (accepted true s r blank b read none))
+    rest-within = rw (is .3) (end-within s (accepted 256 2048 true s r (blank 256 2048) b read none))
 
     -- the rest of the text, as the code takes it
     abbrev behind : List ℕ
@@ -72,5 +72,5 @@ module _ (s : List ℕ) (r : Reading) (needs lows highs costs : List ℕ)
         ap (λ (x : Slices). scriptText x 1024 behind) slices-are
         ∙ ap (λ (z : List ℕ). scriptText (inSlices (ofText s)) 1024 z) behind-is
         ∙ ap (λ (m : ℕ). scriptText (inSlices (ofText s)) 1024 (drop m s)) (is .3)
-        ∙ sym (output-read s (accepted true s r blank b read none)) in
+        ∙ sym (output-read s (accepted 256 2048 true s r (blank 256 2048) b read none)) in
         subst (λ (z : List ℕ). Prints (outputFault (length out) z) z o out out′) same p

@@ -37,7 +37,7 @@ use Rattle.table_write.specs.declared.Writing.{Writing}
 use Rattle.table_write.specs.declared.Writing.the-variants.{Length, Refused as Unwritten}
 use Rattle.table_write.proofs.Answers.{writes-answer, room-enough}
 use Rattle.table_laws.specs.Functions.{lentSlices, HoldsTable}
-use Rattle.table_laws.proofs.Reading.{room-none}
+use Rattle.table_laws.proofs.Reading.{room-none, none-short}
 use Rattle.table_display.specs.Display.{over, ChecksTable, HeldToPair, SameTable, SameText, NeverTooShort, DisplayTables}
 
 -- The size of a table that is within the pair, and of one that is over it.
@@ -177,19 +177,6 @@ module _ (a : Lent) (holds : HoldsTable 16 40 a) where
       room-none probes links a
       record { needed = le-trans p (holds .needed); linked = le-trans l (holds .linked); equal = holds .equal; equal₂ = holds .equal₂ }
 
-  text-alone : (more : Bool) (s : List ℕ) → readingFault 16 40 more s a ≡ textFault 16 40 more s
-  unfolding readFault
-  text-alone more s = go (ℕ-discrete (textFault 16 40 more s) 0)
-    where
-      room : ℕ
-      room = roomFault (ofText s .probes) (ofText s .links) (length (a .needs)) (length (a .lows)) (length (a .highs)) (length (a .costs))
-
-      go : Dec (textFault 16 40 more s ≡ 0) → orElse (textFault 16 40 more s) room ≡ textFault 16 40 more s
-      go (yes z) =
-          let size = legal-table 16 40 (ofText s) (text-legal 16 40 more s z) .size in
-          or-none (textFault 16 40 more s) room z ∙ enough (ofText s .probes) (ofText s .links) (size .few) (size .within) ∙ sym z
-      go (no n) = or-some (textFault 16 40 more s) room n
-
   module _ (number probes links : ℕ) (o : over 16 40 (tableOf (lentSlices number probes links a)) ≡ false) where
     abbrev x : Slices
     x = lentSlices number probes links a
@@ -220,14 +207,14 @@ module _ (a : Lent) (holds : HoldsTable 16 40 a) where
       let t = ofText s in
       let fault = readingFault 16 40 more s a in
       let q = unread-is fault 8 (t .number) (t .probes) (t .links) (textEnd t) (eqb fault 0) (sym e ∙ reads-answer w) in
-      let p = text-alone more s in
+      let p = none-short 16 40 more s a holds in
       let l = text-most 16 40 more s in
       omega arith
 
   pub never-too-short : NeverTooShort a
   never-too-short =
       record {
-        read-fault = text-alone;
+        read-fault = λ more s. none-short 16 40 more s a holds;
         read = read-not;
         room = room;
         check = λ number probes links r o. check-not number probes links o r;

@@ -47,15 +47,15 @@ writing-legal x out e =
 pub read-then-write : ReadThenWrite
 read-then-write s out out′ a b number probes links rest w read enough write =
     let t = ofText s in
-    let none = read-none false s _ a b read number probes links rest refl in
-    let n = read-numbers false s _ a b read number probes links rest refl in
+    let none = read-none 256 2048 false s _ a b read number probes links rest refl in
+    let n = read-numbers 256 2048 false s _ a b read number probes links rest refl in
     let u = tableOf (lentSlices (t .number) (t .probes) (t .links) b) in
-    let same = entries false s _ a b read none in
-    let good = accepted false s _ a b read none in
+    let same = entries 256 2048 false s _ a b read none in
+    let good = accepted 256 2048 false s _ a b read none in
     let text : textOf u ≡ s = same-text u t same ∙ text-whole 256 2048 s good in
     let end : textEnd u ≡ length s = sym (length-text u) ∙ ap length text in
     let legal = same-fault u t same 256 2048 ∙ text-legal 256 2048 false s good in
-    let fault = writing-none (t .number) (t .probes) (t .links) b (length out) (omega arith) (holds false s _ a b read none) legal in
+    let fault = writing-none (t .number) (t .probes) (t .links) b (length out) (omega arith) (holds 256 2048 false s _ a b read none) legal in
     let written = rw (n .0, n .1, n .2) at write in
     (writes-answer written ∙ rw (fault, end), written .out ∙ rw (fault, text))
 
@@ -71,7 +71,7 @@ module _ (s : List ℕ) (t : Table) (r : Reading) (b b′ : Lent) (none : textFa
 
   back-entries : Same (tableOf (lentSlices (t .number) (t .probes) (t .links) b′)) t
   back-entries =
-      let e = entries false s r b b′ read fault-none in
+      let e = entries 256 2048 false s r b b′ read fault-none in
       let p = same .probes in
       let m = same .links in
       record {

@@ -3,10 +3,11 @@ use Prim.Native.Nat.{ℕ, _≤_, _<_}
 use mathlib.Core.Path.{_≡_, refl, sym, _∙_}
 use mathlib.Core.Bool.{Bool, true, false, cond}
 use mathlib.Core.List.{List}
+use native.Mathlib.Nat.{le-trans}
 use native.Mathlib.Omega.{arith}
 use native.Mathlib.Decide.{ℕ-discrete}
 use lib.Dec.{eqb}
-use lib.ListN.{length, replicate}
+use lib.ListN.{length, replicate, length-replicate}
 use borrow.Author.Tests.{eqb-true, eqb-false, eq-eqb, le-ltb}
 use Rattle.range.proofs.Faults.{or-none, or-some}
 use Rattle.range.proofs.Lists.{stored-at, same-length}
@@ -21,7 +22,7 @@ use Rattle.table_read.specs.declared.Reading.{Reading}
 use Rattle.table_read.specs.declared.Reading.the-variants.{Table as Read, Refused as Unread}
 use Rattle.table_read.proofs.Answers.{reads-answer, read-text, read-room}
 use Rattle.table.specs.Same.{Same}
-use Rattle.table.specs.Slices.{tableOf, slicesRoomFault, slicesFault}
+use Rattle.table.specs.Slices.{tableOf, slicesRoomFault, sliceFault}
 use Rattle.table_laws.specs.Functions.{lentSlices, HoldsTable}
 use Rattle.table.proofs.Same.{same-fault}
 
@@ -43,19 +44,19 @@ pub room-none : (probes links : ℕ) (a : Lent) → HoldsTable probes links a �
 room-none probes links a g = rw (le-ltb _ _ (g .needed), eq-eqb _ _ (g .equal), eq-eqb _ _ (g .equal₂), le-ltb _ _ (g .linked))
 
 -- A call that answers r and leaves the slices as b.
-module _ (more : Bool) (s : List ℕ) (r : Reading) (a b : Lent) (read : ReadsTable 256 2048 more s r a b) where
+module _ (pmax lmax : ℕ) (more : Bool) (s : List ℕ) (r : Reading) (a b : Lent) (read : ReadsTable pmax lmax more s r a b) where
   abbrev t : Table
   t = ofText s
 
   abbrev fault : ℕ
-  fault = readingFault 256 2048 more s a
+  fault = readingFault pmax lmax more s a
 
   module _ (none : fault ≡ 0) where
-    pub accepted : textFault 256 2048 more s ≡ 0
-    accepted = read-text 256 2048 more s (length (a .needs)) (length (a .lows)) (length (a .highs)) (length (a .costs)) none
+    pub accepted : textFault pmax lmax more s ≡ 0
+    accepted = read-text pmax lmax more s (length (a .needs)) (length (a .lows)) (length (a .highs)) (length (a .costs)) none
 
     room : HoldsTable (t .probes) (t .links) a
-    room = room-good _ _ _ _ _ _ (read-room 256 2048 more s (length (a .needs)) (length (a .lows)) (length (a .highs)) (length (a .costs)) none)
+    room = room-good _ _ _ _ _ _ (read-room pmax lmax more s (length (a .needs)) (length (a .lows)) (length (a .highs)) (length (a .costs)) none)
 
     entry : (f : ℕ → ℕ) (n : ℕ) (d e : List ℕ) → e ≡ filledOf fault f n d → n ≤ length d → (i : ℕ) → i < n → item e i ≡ f i
     entry f n d e q fits i l = rw (rw none at q) (stored-at f n d i fits l)
@@ -102,29 +103,35 @@ module _ (more : Bool) (s : List ℕ) (r : Reading) (a b : Lent) (read : ReadsTa
     pub read-same : Same (tableOf (lentSlices number probes links b)) t
     read-same = rw (said .1, said .2, said .3) (entries read-none)
 
-    pub read-legal : tableFault 256 2048 (tableOf (lentSlices number probes links b)) ≡ 0
-    read-legal = same-fault (tableOf (lentSlices number probes links b)) t read-same 256 2048 ∙ text-legal 256 2048 more s (accepted read-none)
+    pub read-legal : tableFault pmax lmax (tableOf (lentSlices number probes links b)) ≡ 0
+    read-legal = same-fault (tableOf (lentSlices number probes links b)) t read-same pmax lmax ∙ text-legal pmax lmax more s (accepted read-none)
 
     held : roomFault probes links (length (b .needs)) (length (b .lows)) (length (b .highs)) (length (b .costs)) ≡ 0
     held = room-none probes links b (rw (said .2, said .3) (holds read-none))
 
     -- so the slices pass
-    pub read-fine : slicesFault (lentSlices number probes links b) ≡ 0
-    read-fine = or-none (slicesRoomFault (lentSlices number probes links b)) (tableFault 256 2048 (tableOf (lentSlices number probes links b))) held ∙ read-legal
+    pub read-fine : sliceFault pmax lmax (lentSlices number probes links b) ≡ 0
+    read-fine = or-none (slicesRoomFault (lentSlices number probes links b)) (tableFault pmax lmax (tableOf (lentSlices number probes links b))) held ∙ read-legal
+
+-- slices that hold every table within the limits: 8 is not found
+pub none-short : (pmax lmax : ℕ) (more : Bool) (s : List ℕ) (a : Lent) → HoldsTable pmax lmax a → readingFault pmax lmax more s a ≡ textFault pmax lmax more s
+unfolding readFault
+none-short pmax lmax more s a g = go (ℕ-discrete (textFault pmax lmax more s) 0)
+  where
+    go : Dec (textFault pmax lmax more s ≡ 0) → readingFault pmax lmax more s a ≡ textFault pmax lmax more s
+    go (yes e) =
+        let z = text-head pmax lmax more s e .size in
+        or-none (textFault pmax lmax more s) _ e
+        ∙ room-none (ofText s .probes) (ofText s .links) a record { needed = le-trans (z .few) (g .needed); linked = le-trans (z .within) (g .linked); equal = g .equal; equal₂ = g .equal₂ }
+        ∙ sym e
+    go (no n) = or-some (textFault pmax lmax more s) _ n
 
 -- slices of zeros, as long as the largest table's
-abbrev pub blank : Lent
-blank = record { needs = replicate 256 0; lows = replicate 2048 0; highs = replicate 2048 0; costs = replicate 2048 0 }
+abbrev pub blank : ℕ → ℕ → Lent
+blank pmax lmax = record { needs = replicate pmax 0; lows = replicate lmax 0; highs = replicate lmax 0; costs = replicate lmax 0 }
 
--- they hold every table within the limits, so that 8 is not found
-pub blank-found : (more : Bool) (s : List ℕ) → readFault 256 2048 more s 256 2048 2048 2048 ≡ textFault 256 2048 more s
-unfolding readFault
-blank-found more s = go (ℕ-discrete (textFault 256 2048 more s) 0)
-  where
-    go : Dec (textFault 256 2048 more s ≡ 0) → readFault 256 2048 more s 256 2048 2048 2048 ≡ textFault 256 2048 more s
-    go (yes e) =
-        let z = text-head 256 2048 more s e .size in
-        or-none (textFault 256 2048 more s) _ e
-        ∙ room-none (ofText s .probes) (ofText s .links) blank record { needed = z .few; linked = z .within; equal = refl; equal₂ = refl }
-        ∙ sym e
-    go (no n) = or-some (textFault 256 2048 more s) _ n
+pub blank-found : (pmax lmax : ℕ) (more : Bool) (s : List ℕ) → readingFault pmax lmax more s (blank pmax lmax) ≡ textFault pmax lmax more s
+blank-found pmax lmax more s =
+    let p = length-replicate {A = ℕ} pmax 0 in
+    let l = length-replicate {A = ℕ} lmax 0 in
+    none-short pmax lmax more s (blank pmax lmax) record { needed = omega arith; linked = omega arith; equal = refl; equal₂ = refl }

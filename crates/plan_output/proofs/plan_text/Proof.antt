@@ -2,10 +2,12 @@
 use borrow.Author.Needs.{needs}
 use Rattle.plan_output.proofs.plan_text.Statement.{statement}
 use Rattle.plan_output.proofs.plan_text.Tie as tie
-use Rattle.table_read.specs.Reading.{Lent}
-use Rattle.plan_output.proofs.Reading.{refusal-printed, plan-printed}
+use Prim.Native.Nat.{ℕ}
 use mathlib.Core.Bool.{false}
-use Rattle.table_laws.proofs.Reading.{read-fine}
+use native.Mathlib.Omega.{arith}
+use lib.ListN.{length-replicate}
+use Rattle.table_read.specs.Reading.{Lent}
+use Rattle.plan_output.proofs.Reading.{refusal-printed, plan-printed, print-ready}
 
 slice-aggregate-read-table : tie.Need-slice-aggregate-read-table
 slice-aggregate-read-table c = search needs
@@ -25,12 +27,6 @@ read-table-requires c κs = search needs
 enum-known-read : tie.Need-enum-known-read
 enum-known-read c = search needs
 
-cast-print-plan : tie.Need-cast-print-plan
-cast-print-plan c = search needs
-
-cast-print-plan-2 : tie.Need-cast-print-plan-2
-cast-print-plan-2 c = search needs
-
 slice-aggregate-print-plan : tie.Need-slice-aggregate-print-plan
 slice-aggregate-print-plan c = search needs
 
@@ -43,15 +39,36 @@ slice-aggregate-print-plan-3 c = search needs
 slice-aggregate-print-plan-4 : tie.Need-slice-aggregate-print-plan-4
 slice-aggregate-print-plan-4 c = search needs
 
+slice-aggregate-print-plan-5 : tie.Need-slice-aggregate-print-plan-5
+slice-aggregate-print-plan-5 c = search needs
+
+cast-print-plan : tie.Need-cast-print-plan
+cast-print-plan c = search needs
+
+cast-print-plan-2 : tie.Need-cast-print-plan-2
+cast-print-plan-2 c = search needs
+
+slice-aggregate-print-plan-6 : tie.Need-slice-aggregate-print-plan-6
+slice-aggregate-print-plan-6 c = search needs
+
+slice-aggregate-print-plan-7 : tie.Need-slice-aggregate-print-plan-7
+slice-aggregate-print-plan-7 c = search needs
+
+slice-aggregate-print-plan-8 : tie.Need-slice-aggregate-print-plan-8
+slice-aggregate-print-plan-8 c = search needs
+
+slice-aggregate-print-plan-9 : tie.Need-slice-aggregate-print-plan-9
+slice-aggregate-print-plan-9 c = search needs
+
 print-plan-requires : tie.Need-print-plan-requires
 print-plan-requires c κs =
-    let at-read = c .before .before .before .before .before .before in
-    let at-read-table = at-read .before .before .before .before .before .before in
-    let a = c .before .before .before .before .before .before .before .before .before .before .before .before .before .before .before .before .before .before .before .args in
-    let k = at-read-table .read-table in
+    let a = c .before .before .before .before .before .before .before .before .before .before .before .before .before .before .before .before .before .before .before .before .before .before .before .before .args in
+    let k = c .before .before .before .before .before .before .before .before .before .before .before .before .before .before .before .before .before .read-table in
     let b : Lent = record { needs = k .last .1 .0; lows = k .last .1 .1 .0; highs = k .last .1 .1 .1 .0; costs = k .last .1 .1 .1 .1 .0 } in
-    let e = at-read .read .given .1 in
-    read-fine false (a .text .now) _ _ b (k .ensures) _ _ _ _ e
+    let f = print-ready 256 2048 (a .text .now) _ b (k .ensures) (omega arith) (omega arith) _ _ _ _ (c .before .before .before .before .before .before .before .before .before .before .before .read .given .1) in
+    let l = length-replicate {A = ℕ} 2048 0 in
+    let p = length-replicate {A = ℕ} 256 0 in
+    (f .0, omega (arith, f .1), omega (arith, f .1), omega (arith, f .1), omega arith, omega arith, omega (arith, f .2))
 
 enum-known-read-2 : tie.Need-enum-known-read-2
 enum-known-read-2 c = search needs
@@ -64,25 +81,20 @@ same-length c = search needs
 
 returns : tie.Need-returns
 returns c =
-    let at-read = c .before .before .before .before .before .before .before .before .before in
-    let at-read-table = at-read .before .before .before .before .before .before in
-    let a = c .before .before .before .before .before .before .before .before .before .before .before .before .before .before .before .before .before .before .before .before .before .before .args in
-    let k = at-read-table .read-table in
+    let a = c .before .before .before .before .before .before .before .before .before .before .before .before .before .before .before .before .before .before .before .before .before .before .before .before .before .before .before .before .before .before .before .before .args in
+    let k = c .before .before .before .before .before .before .before .before .before .before .before .before .before .before .before .before .before .before .before .before .before .before .before .before .before .read-table in
     let b : Lent = record { needs = k .last .1 .0; lows = k .last .1 .1 .0; highs = k .last .1 .1 .1 .0; costs = k .last .1 .1 .1 .1 .0 } in
-    let e = at-read .read .given .1 in
-    plan-printed (a .text .now) _ b (k .ensures) _ _ _ _ e _ (a .out .now) _ (c .before .before .print-plan .ensures)
+    plan-printed 256 2048 (a .text .now) _ b (k .ensures) (omega arith) (omega arith) _ _ _ _ (c .before .before .before .before .before .before .before .before .before .before .before .before .before .before .before .before .before .before .before .read .given .1) _ (a .out .now) _ (c .before .before .before .before .before .before .before .print-plan .ensures)
 
 same-length-2 : tie.Need-same-length-2
 same-length-2 c = search needs
 
 returns-2 : tie.Need-returns-2
 returns-2 c =
-    let at-read2 = c .before .before .before .before .before in
-    let at-read-table = at-read2 .before .before .before .before .before .before in
     let a = c .before .before .before .before .before .before .before .before .before .before .before .before .before .before .before .before .before .before .args in
-    let k = at-read-table .read-table in
+    let k = c .before .before .before .before .before .before .before .before .before .before .before .read-table in
     let b : Lent = record { needs = k .last .1 .0; lows = k .last .1 .1 .0; highs = k .last .1 .1 .1 .0; costs = k .last .1 .1 .1 .1 .0 } in
-    refusal-printed (a .text .now) _ b (k .ensures) _ _ (a .out .now) _ (at-read2 .read2 .given .1) (c .before .before .print-refusal .ensures)
+    refusal-printed 256 2048 (a .text .now) _ b (k .ensures) _ _ (a .out .now) _ (c .before .before .before .before .before .read2 .given .1) (c .before .before .print-refusal .ensures)
 
 pub plan-text-spec : {M : Type 1} → statement M
 plan-text-spec =
@@ -94,12 +106,17 @@ plan-text-spec =
     slice-aggregate-read-table-4
     read-table-requires
     enum-known-read
-    cast-print-plan
-    cast-print-plan-2
     slice-aggregate-print-plan
     slice-aggregate-print-plan-2
     slice-aggregate-print-plan-3
     slice-aggregate-print-plan-4
+    slice-aggregate-print-plan-5
+    cast-print-plan
+    cast-print-plan-2
+    slice-aggregate-print-plan-6
+    slice-aggregate-print-plan-7
+    slice-aggregate-print-plan-8
+    slice-aggregate-print-plan-9
     print-plan-requires
     enum-known-read-2
     print-refusal-requires

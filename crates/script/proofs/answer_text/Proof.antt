@@ -65,7 +65,7 @@ answer-script-requires c κs =
     let at-read-table-prefix = at-read .before .before .before .before .before .before in
     let s = at-read-table-prefix .before .before .before .before .before .before .before in
     let m = length-take-le 4096 (s .args .text .now) (s .pre .1) in
-    (read-fine true _ _ _ _ (at-read-table-prefix .read-table-prefix .ensures) _ _ _ _ (at-read .read .given .1), omega arith, search needs)
+    (read-fine 256 2048 true _ _ _ _ (at-read-table-prefix .read-table-prefix .ensures) _ _ _ _ (at-read .read .given .1), omega arith, search needs)
 
 enum-known-ending : tie.Need-enum-known-ending
 enum-known-ending c = search needs

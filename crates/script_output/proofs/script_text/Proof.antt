@@ -66,7 +66,7 @@ print-script-requires c κs =
     let at-read = c .before .before .before .before .before .before .before in
     let at-read-table-prefix = at-read .before .before .before .before .before .before in
     let a = at-read-table-prefix .before .before .before .before .before .before .before .args in
-    read-fine true (a .text .now) _ _ _ (at-read-table-prefix .read-table-prefix .ensures) _ _ _ _ (at-read .read .given .1)
+    read-fine 256 2048 true (a .text .now) _ _ _ (at-read-table-prefix .read-table-prefix .ensures) _ _ _ _ (at-read .read .given .1)
 
 enum-known-read-2 : tie.Need-enum-known-read-2
 enum-known-read-2 c = search needs
