@@ -26,7 +26,7 @@ same-output input = go (decLt 27922 (length input))
     go (no d) = ap (outputOf 256 2048) (take-all 27923 input (omega arith))
 
 pub plan-writes : (input : List ℕ) → PlanWrites input
-plan-writes input = record { writes = whole; plan = λ written w e. rw (whole written w) (printed-plan input e) }
+plan-writes input = record { writes = whole; plan = λ written w e. rw (whole written w) (printed-plan 256 2048 (omega arith) (omega arith) input e) }
   where
     whole : (written : List ℕ) → Wrote (outputOf 256 2048 (take 27923 input)) written → written ≡ outputOf 256 2048 input
     whole written w = wrote-is (outputOf 256 2048 (take 27923 input)) written w ∙ same-output input
@@ -35,12 +35,12 @@ plan-writes input = record { writes = whole; plan = λ written w e. rw (whole wr
 module _ (s : List ℕ) (r : Output) (out out′ : List ℕ) (long : 28950 ≤ length out) (p : Prints (outputFault (length out) (outputOf 256 2048 s)) (outputOf 256 2048 s) r out out′) where
   pub print-done : (n : ℕ) → r ≡ Length n → Prints 0 (outputOf 256 2048 s) (Length n) out out′
   print-done n e =
-      let k = most s in
+      let k = most 256 2048 s in
       let q = rw (long-enough (length out) (outputOf 256 2048 s) (omega arith)) at p in
       record { answer = ap outputReply (sym e) ∙ q .answer; out = q .out }
 
   pub never-refused : (m : ℕ) → r ≡ Refused m → ⊥
   never-refused m e =
-      let a = sym e ∙ always-printed s r out out′ long p in
+      let a = sym e ∙ always-printed 256 2048 s r out out′ long p in
       let z : _≡_ {A = ℕ} 0 1 = cc in
       omega arith

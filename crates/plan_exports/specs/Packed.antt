@@ -13,13 +13,13 @@ use Rattle.packed_answers.specs.Packed.{answerBase, packedBy}
 abbrev pub packedPlanning : Reply → ℕ
 packedPlanning = packedBy (λ vs. answerBase + getD vs 0 0 * 2 ^ 32 + getD vs 1 0)
 
--- `plan_by_slse` and `plan_by_turns` on the slices x
+-- `plan_by_slse` and `plan_by_turns` on the slices x, within limits
 
-pub record SlsePacked (x : Slices) (r : ℕ) (before after : List ℕ) : Type 0 where
-  pub answer : r ≡ packedPlanning (replyOf (planFault 256 2048 x (length before)) (planValues (tableOf x)))
-  pub plan : after ≡ plannedOf (planFault 256 2048 x (length before)) (tableOf x) before
+pub record SlsePacked (pmax lmax : ℕ) (x : Slices) (r : ℕ) (before after : List ℕ) : Type 0 where
+  pub answer : r ≡ packedPlanning (replyOf (planFault pmax lmax x (length before)) (planValues (tableOf x)))
+  pub plan : after ≡ plannedOf (planFault pmax lmax x (length before)) (tableOf x) before
 
-pub record TurnsPacked (x : Slices) (r : ℕ) (before after work work′ : List ℕ) : Type 0 where
-  pub answer : r ≡ packedPlanning (replyOf (turnsFault 256 2048 x (length before) (length work)) (planValues (tableOf x)))
-  pub plan : after ≡ plannedOf (turnsFault 256 2048 x (length before) (length work)) (tableOf x) before
-  pub cleared : work′ ≡ clearedOf (turnsFault 256 2048 x (length before) (length work)) work
+pub record TurnsPacked (pmax lmax : ℕ) (x : Slices) (r : ℕ) (before after work work′ : List ℕ) : Type 0 where
+  pub answer : r ≡ packedPlanning (replyOf (turnsFault pmax lmax x (length before) (length work)) (planValues (tableOf x)))
+  pub plan : after ≡ plannedOf (turnsFault pmax lmax x (length before) (length work)) (tableOf x) before
+  pub cleared : work′ ≡ clearedOf (turnsFault pmax lmax x (length before) (length work)) work

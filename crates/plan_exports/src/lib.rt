@@ -1,4 +1,4 @@
-// The library of plans for C and Rust: both methods, and the plan program's output.
+// The library of plans for C and Rust: both methods, and the plan program's output, each for all and for the display.
 ghost use mathlib.Core.Path.{_≡_};
 ghost use lib.ListN.{length};
 ghost use Rattle.table.specs.Slices.{slicesOf};
@@ -35,7 +35,7 @@ pub extern "C" fn planner_plan_slse(
     plan: &mut [u8],
 ) -> u64
     ensures { λ r. let x = slicesOf number probes links (now (needs .entry)) (now (lows .entry)) (now (highs .entry)) (now (costs .entry)) in
-        ⌜ SlsePacked x r (now (plan .entry)) (now (plan .exit)) ⌝ }
+        ⌜ SlsePacked 256 2048 x r (now (plan .entry)) (now (plan .exit)) ⌝ }
 {
     packed_planning(plan_by_slse(number, probes, links, needs, lows, highs, costs, plan))
 }
@@ -54,7 +54,7 @@ pub extern "C" fn planner_plan_turns(
     work: &mut [u8],
 ) -> u64
     ensures { λ r. let x = slicesOf number probes links (now (needs .entry)) (now (lows .entry)) (now (highs .entry)) (now (costs .entry)) in
-        ⌜ TurnsPacked x r (now (plan .entry)) (now (plan .exit)) (now (work .entry)) (now (work .exit)) ⌝ }
+        ⌜ TurnsPacked 256 2048 x r (now (plan .entry)) (now (plan .exit)) (now (work .entry)) (now (work .exit)) ⌝ }
 {
     packed_planning(plan_by_turns(number, probes, links, needs, lows, highs, costs, plan, work))
 }
@@ -66,4 +66,69 @@ pub extern "C" fn planner_plan_text(text: &[u8], out: &mut [u8]) -> u64
         ⌜ PrintsPacked (outputFault (length (now (out .entry))) printed) printed r (now (out .entry)) (now (out .exit)) ⌝ }
 {
     packed_output(plan_output::plan_text(text, out))
+}
+
+// `plan_display::plan_by_slse`, its answer packed.
+#[no_mangle]
+pub extern "C" fn planner_display_plan_slse(
+    number: u16,
+    probes: u16,
+    links: u16,
+    needs: &[u16],
+    lows: &[u16],
+    highs: &[u16],
+    costs: &[u16],
+    plan: &mut [u8],
+) -> u64
+    ensures { λ r. let x = slicesOf number probes links (now (needs .entry)) (now (lows .entry)) (now (highs .entry)) (now (costs .entry)) in
+        ⌜ SlsePacked 16 40 x r (now (plan .entry)) (now (plan .exit)) ⌝ }
+{
+    packed_planning(plan_display::plan_by_slse(
+        number,
+        probes,
+        links,
+        needs,
+        lows,
+        highs,
+        costs,
+        plan,
+    ))
+}
+
+// `plan_display::plan_by_turns`, its answer packed.
+#[no_mangle]
+pub extern "C" fn planner_display_plan_turns(
+    number: u16,
+    probes: u16,
+    links: u16,
+    needs: &[u16],
+    lows: &[u16],
+    highs: &[u16],
+    costs: &[u16],
+    plan: &mut [u8],
+    work: &mut [u8],
+) -> u64
+    ensures { λ r. let x = slicesOf number probes links (now (needs .entry)) (now (lows .entry)) (now (highs .entry)) (now (costs .entry)) in
+        ⌜ TurnsPacked 16 40 x r (now (plan .entry)) (now (plan .exit)) (now (work .entry)) (now (work .exit)) ⌝ }
+{
+    packed_planning(plan_display::plan_by_turns(
+        number,
+        probes,
+        links,
+        needs,
+        lows,
+        highs,
+        costs,
+        plan,
+        work,
+    ))
+}
+
+// `plan_display::plan_text`, its answer packed.
+#[no_mangle]
+pub extern "C" fn planner_display_plan_text(text: &[u8], out: &mut [u8]) -> u64
+    ensures { λ r. let printed = outputOf 16 40 (now (text .entry)) in
+        ⌜ PrintsPacked (outputFault (length (now (out .entry))) printed) printed r (now (out .entry)) (now (out .exit)) ⌝ }
+{
+    packed_output(plan_display::plan_text(text, out))
 }

@@ -5,7 +5,6 @@ use mathlib.Core.Bool.{Bool, true, false, cond, _||_}
 use mathlib.Core.List.{List, [], _∷_, _++_}
 use native.Mathlib.Omega.{arith}
 use native.Mathlib.Nat.{le-trans}
-use native.Mathlib.Decide.{ℕ-discrete}
 use lib.Dec.{ltb, eqb}
 use lib.ListN.{length, length-append}
 use lib.Seq.{take-at}
@@ -13,7 +12,7 @@ use borrow.Author.Tests.{ltb-false, le-ltb}
 use Rattle.range.specs.First.{orElse, first}
 use Rattle.range.specs.Reply.{replyOf}
 use Rattle.range.proofs.Bools.{or-intro-right, or-false-left, or-false-right}
-use Rattle.range.proofs.Faults.{or-none, or-some, or-same}
+use Rattle.range.proofs.Faults.{or-none, or-same}
 use Rattle.lines.specs.Digits.{lineFault}
 use Rattle.lines.proofs.Lines.{good-line}
 use Rattle.lines.proofs.Numbers.{lineOf, length-line, line-reads}
@@ -25,8 +24,6 @@ use Rattle.table.specs.Text.{tripleLine, ofText, textEnd, headFault, bodyFault,
 use Rattle.table.specs.declared.Checking.{Checking}
 use Rattle.table.specs.declared.Checking.the-variants.{Fine, Refused}
 use Rattle.table.proofs.Answers.{checking-is}
-use Rattle.table.proofs.Accepted.{text-legal}
-use Rattle.table.proofs.LegalLaws.{legal-table}
 use Rattle.table.proofs.Largest.{table-most, text-most}
 use Rattle.table_read.specs.Reading.{Lent, lentOf, readingFault, Reads, ReadsTable}
 use Rattle.table_read.specs.declared.Reading.{Reading}

@@ -18,7 +18,7 @@ returns : tie.Need-returns
 returns c =
     let at-plan-by-slse = c .before .before .before in
     let a = c .before .before .before .before .before .before .before .before .before .before .args in
-    slse-packed (slicesOf (a .number) (a .probes) (a .links) (a .needs .now) (a .lows .now) (a .highs .now) (a .costs .now)) _ _ (a .plan .now) _ (at-plan-by-slse .plan-by-slse .ensures) (c .packed-planning .ensures)
+    slse-packed 256 2048 (slicesOf (a .number) (a .probes) (a .links) (a .needs .now) (a .lows .now) (a .highs .now) (a .costs .now)) _ _ (a .plan .now) _ (at-plan-by-slse .plan-by-slse .ensures) (c .packed-planning .ensures)
 
 pub planner-plan-slse-spec : {M : Type 1} → statement M
 planner-plan-slse-spec =

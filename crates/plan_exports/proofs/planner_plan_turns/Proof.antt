@@ -21,7 +21,7 @@ returns : tie.Need-returns
 returns c =
     let at-plan-by-turns = c .before .before .before .before .before in
     let a = c .before .before .before .before .before .before .before .before .before .before .before .before .before .before .args in
-    turns-packed (slicesOf (a .number) (a .probes) (a .links) (a .needs .now) (a .lows .now) (a .highs .now) (a .costs .now)) _ _ (a .plan .now) _ (a .work .now) _ (at-plan-by-turns .plan-by-turns .ensures) (c .packed-planning .ensures)
+    turns-packed 256 2048 (slicesOf (a .number) (a .probes) (a .links) (a .needs .now) (a .lows .now) (a .highs .now) (a .costs .now)) _ _ (a .plan .now) _ (a .work .now) _ (at-plan-by-turns .plan-by-turns .ensures) (c .packed-planning .ensures)
 
 pub planner-plan-turns-spec : {M : Type 1} → statement M
 planner-plan-turns-spec =

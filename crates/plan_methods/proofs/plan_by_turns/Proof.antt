@@ -3,7 +3,7 @@ use borrow.Author.Needs.{needs}
 use Rattle.plan_methods.proofs.plan_by_turns.Statement.{statement}
 use Rattle.plan_methods.proofs.plan_by_turns.Tie as tie
 use Prim.Native.Nat.{ℕ}
-use mathlib.Core.Path.{_≡_, sym, _∙_}
+use mathlib.Core.Path.{sym, _∙_}
 use native.Mathlib.Omega.{arith}
 use lib.ListN.{length, length-replicate}
 use Rattle.table.specs.Table.{ofSlices}

@@ -3,7 +3,6 @@ use borrow.Author.Needs.{needs}
 use Rattle.plan_output.proofs.plan_text.Statement.{statement}
 use Rattle.plan_output.proofs.plan_text.Tie as tie
 use Prim.Native.Nat.{ℕ}
-use mathlib.Core.Bool.{false}
 use native.Mathlib.Omega.{arith}
 use lib.ListN.{length-replicate}
 use Rattle.table_read.specs.Reading.{Lent}

@@ -3,7 +3,6 @@ use borrow.Author.Needs.{needs}
 use Rattle.plan_methods.proofs.limited.plan_fault.Statement.{statement}
 use Rattle.plan_methods.proofs.limited.plan_fault.Tie as tie
 use mathlib.Core.Path.{sym, _∙_}
-use lib.ListN.{length}
 use Rattle.table_write.proofs.Answers.{room-short, room-enough}
 
 returns : tie.Need-returns
