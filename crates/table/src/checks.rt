@@ -163,11 +163,10 @@ pub fn slice_fault(
     table_fault(pmax, lmax, probes, links, lows, highs)
 }
 
-// The answer of a check within the limits pmax and lmax. The number of a table is never at fault.
+// The answer of a check within the limits pmax and lmax.
 pub fn check_limited(
     pmax: usize,
     lmax: usize,
-    number: u16,
     probes: u16,
     links: u16,
     needs: &[u16],
@@ -175,7 +174,7 @@ pub fn check_limited(
     highs: &[u16],
     costs: &[u16],
 ) -> Checking
-    ensures { λ r. let x = slicesOf number probes links (now (needs .entry)) (now (lows .entry)) (now (highs .entry)) (now (costs .entry)) in
+    ensures { λ r. let x = slicesOf 0 probes links (now (needs .entry)) (now (lows .entry)) (now (highs .entry)) (now (costs .entry)) in
         ⌜ checkingReply r ≡ replyOf (sliceFault pmax lmax x) [] ⌝ }
 {
     let fault = slice_fault(

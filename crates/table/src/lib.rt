@@ -46,5 +46,5 @@ pub fn check_table(
     ensures { λ r. let x = slicesOf number probes links (now (needs .entry)) (now (lows .entry)) (now (highs .entry)) (now (costs .entry)) in
         ⌜ checkingReply r ≡ replyOf (slicesFault x) [] ⌝ }
 {
-    checks::check_limited(256, 2048, number, probes, links, needs, lows, highs, costs)
+    checks::check_limited(256, 2048, probes, links, needs, lows, highs, costs)
 }

@@ -32,7 +32,7 @@ pub fn check_table(
     ensures { λ r. let x = slicesOf number probes links (now (needs .entry)) (now (lows .entry)) (now (highs .entry)) (now (costs .entry)) in
         ⌜ checkingReply r ≡ replyOf (sliceFault 16 40 x) [] ⌝ }
 {
-    check_limited(PMAX, LMAX, number, probes, links, needs, lows, highs, costs)
+    check_limited(PMAX, LMAX, probes, links, needs, lows, highs, costs)
 }
 
 // `table_read::read_table` at the display's limits.
