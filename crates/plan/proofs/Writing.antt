@@ -6,11 +6,11 @@ use native.Mathlib.Omega.{arith}
 use native.Mathlib.Decide.{decLt}
 use lib.ListN.{length, take}
 use lib.Seq.{take-all}
-use Rattle.output.specs.Output.{outputFault, outputReply, Prints}
+use Rattle.output.specs.Output.{outputReply, Prints}
 use Rattle.output.specs.declared.Output.{Output}
 use Rattle.output.specs.declared.Output.the-variants.{Length, Refused}
 use Rattle.output.proofs.Printing.{long-enough}
-use Rattle.plan_output.specs.Output.{outputOf}
+use Rattle.plan_output.specs.Output.{outputOf, PrintsText}
 use Rattle.plan_output.proofs.Long.{long-output}
 use Rattle.plan_output.proofs.Most.{most, always-printed}
 use Rattle.plan_output.proofs.Claims.{printed-plan}
@@ -32,7 +32,7 @@ plan-writes input = record { writes = whole; plan = λ written w e. rw (whole wr
     whole written w = wrote-is (outputOf 256 2048 (take 27923 input)) written w ∙ same-output input
 
 -- the program's slice holds every output, so the text is printed and no refusal occurs
-module _ (s : List ℕ) (r : Output) (out out′ : List ℕ) (long : 28950 ≤ length out) (p : Prints (outputFault (length out) (outputOf 256 2048 s)) (outputOf 256 2048 s) r out out′) where
+module _ (s : List ℕ) (r : Output) (out out′ : List ℕ) (long : 28950 ≤ length out) (p : PrintsText 256 2048 s r out out′) where
   pub print-done : (n : ℕ) → r ≡ Length n → Prints 0 (outputOf 256 2048 s) (Length n) out out′
   print-done n e =
       let k = most 256 2048 s in

@@ -16,15 +16,15 @@ use Rattle.table_read.specs.Reading.{Lent}
 use Rattle.table_write.proofs.Answers.{room-enough}
 use Rattle.table_laws.specs.Functions.{lentSlices, HoldsTable}
 use Rattle.table_display.specs.Display.{over}
-use Rattle.table_display.proofs.Display.{within, held-to-pair, same-table, same-text, never-too-short}
+use Rattle.table_display.proofs.Display.{within, held-to-pair, same-table, same-text, fault-most}
 use Rattle.plan_methods.specs.Planning.{planFault, turnsFault, Plans, PlansAndClears, PlansBySlse, PlansByTurns}
 use Rattle.plan_methods.specs.declared.Planning.{Planning}
 use Rattle.plan_methods.specs.declared.Planning.the-variants.{Plan, Refused}
 use Rattle.plan_methods.proofs.Answers.{plans-answer}
-use Rattle.output.proofs.Printing.{prints-answer}
-use Rattle.plan_output.specs.Output.{outputOf}
+use Rattle.output.proofs.Printing.{prints-answer, long-enough}
+use Rattle.plan_output.specs.Output.{outputOf, PrintsText}
 use Rattle.plan_output.proofs.Most.{always-printed}
-use Rattle.plan_display.specs.Display.{PrintsText, PlansHeld, SamePlan, SamePrint, PlansEnough, DisplayPlans}
+use Rattle.plan_display.specs.Display.{PlansHeld, SamePlan, SamePrint, PlansEnough, DisplayPlans}
 
 plans-three : (t : Table) (r : Planning) (plan after : List ℕ) → Plans 3 t r plan after → (r ≡ Refused 3) × (after ≡ plan)
 plans-three t r plan after p = (plans-answer p, p .plan)
@@ -46,7 +46,9 @@ plans-held pmax lmax =
           let q : PlansAndClears 3 (tableOf x) r plan after work after-work = rw (turns-enough pmax lmax x (length plan) fits (length work) long ∙ held-to-pair pmax lmax .slices x o room) at p in
           let a = plans-three (tableOf x) r plan after (q .plans) in
           (a .0, a .1, q .cleared);
-      print = λ s o line. rw (held-to-pair pmax lmax .text false s o line);
+      print = λ s r out after o line room p.
+          let q : Prints 0 (refusalLine 3) r out after = rw (held-to-pair pmax lmax .text false s o line, long-enough (length out) (refusalLine 3) room) at p in
+          (prints-answer q, q .out);
     }
 
 same-answer : (fault : ℕ) (t : Table) (r r′ : Planning) (plan after after′ : List ℕ) → Plans fault t r plan after → Plans fault t r′ plan after′ → (r ≡ r′) × (after ≡ after′)
@@ -85,15 +87,12 @@ module _ (a : Lent) (holds : HoldsTable 16 40 a) (number probes links : ℕ) (o 
   few : links ≤ 40
   few = within 16 40 (tableOf x) o .1
 
-  fault-small : sliceFault 16 40 x ≤ 6
-  fault-small = rw (or-none (slicesRoomFault x) (tableFault 16 40 (tableOf x)) (never-too-short a holds .room number probes links o)) (table-most 16 40 (tableOf x))
-
   slse-not : (r : Planning) (plan after : List ℕ) → 40 ≤ length plan → PlansBySlse 16 40 x r plan after → r ≡ Refused 8 → ⊥
   slse-not r plan after fits p e =
       let k = few in
       let n = refused-is _ 8 _ _ (eqb (planFault 16 40 x (length plan)) 0) (sym e ∙ plans-answer p) in
       let q = plan-enough 16 40 x (length plan) (omega arith) in
-      let l = fault-small in
+      let l = fault-most a holds number probes links o in
       omega arith
 
   turns-not : (r : Planning) (plan after work cleared : List ℕ) → 40 ≤ length plan → 160 ≤ length work → PlansByTurns 16 40 x r plan after work cleared → r ≡ Refused 8 → ⊥
@@ -101,7 +100,7 @@ module _ (a : Lent) (holds : HoldsTable 16 40 a) (number probes links : ℕ) (o 
       let k = few in
       let n = refused-is _ 8 _ _ (eqb (turnsFault 16 40 x (length plan) (length work)) 0) (sym e ∙ plans-answer (p .plans)) in
       let q = turns-enough 16 40 x (length plan) (omega arith) (length work) (omega arith) in
-      let l = fault-small in
+      let l = fault-most a holds number probes links o in
       omega arith
 
 plans-enough : (a : Lent) → HoldsTable 16 40 a → PlansEnough a

@@ -2,8 +2,8 @@
 use Prim.Native.Nat.{ℕ, _*_, _≤_}
 use mathlib.Core.Path.{_≡_}
 use mathlib.Core.Bool.{true, false}
-use mathlib.Core.List.{List}
-use lib.ListN.{length}
+use mathlib.Core.List.{List, _++_}
+use lib.ListN.{length, drop}
 use Rattle.table.specs.Slices.{Slices, tableOf, slicesRoomFault}
 use Rattle.lines.specs.Digits.{lineFault}
 use Rattle.table.specs.Text.{ofText}
@@ -13,15 +13,10 @@ use Rattle.table_display.specs.Display.{over}
 use Rattle.plan_methods.specs.Planning.{PlansBySlse, PlansByTurns}
 use Rattle.plan_methods.specs.declared.Planning.{Planning}
 use Rattle.plan_methods.specs.declared.Planning.the-variants.{Refused}
-use Rattle.output.specs.Output.{refusalLine, outputFault, Prints}
+use Rattle.output.specs.Output.{refusalLine}
 use Rattle.output.specs.declared.Output.{Output}
 use Rattle.output.specs.declared.Output.the-variants.{Length}
-use Rattle.plan_output.specs.Output.{outputOf}
-
--- `plan_text` on the text s, within limits: it answers r and leaves the lent text `before` as `after`
-abbrev pub PrintsText : ℕ → ℕ → List ℕ → Output → List ℕ → List ℕ → Type 0
-PrintsText pmax lmax s r before after =
-    Prints (outputFault (length before) (outputOf pmax lmax s)) (outputOf pmax lmax s) r before after
+use Rattle.plan_output.specs.Output.{outputOf, PrintsText}
 
 -- "Each caller is held to its own pair, by the refusal that 01 already has for the header": of slices with room for their table, and of a text with a good header line
 pub record PlansHeld (pmax lmax : ℕ) : Type 0 where
@@ -30,7 +25,8 @@ pub record PlansHeld (pmax lmax : ℕ) : Type 0 where
   pub turns : (x : Slices) (r : Planning) (plan after work after-work : List ℕ) → over pmax lmax (tableOf x) ≡ true → slicesRoomFault x ≡ 0
       → x .links ≤ length plan → 4 * x .links ≤ length work
       → PlansByTurns pmax lmax x r plan after work after-work → (r ≡ Refused 3) × (after ≡ plan) × (after-work ≡ work)
-  pub print : (s : List ℕ) → over pmax lmax (ofText s) ≡ true → lineFault s 0 12 ≡ 0 → outputOf pmax lmax s ≡ refusalLine 3
+  pub print : (s : List ℕ) (r : Output) (out after : List ℕ) → over pmax lmax (ofText s) ≡ true → lineFault s 0 12 ≡ 0 → 5 ≤ length out
+      → PrintsText pmax lmax s r out after → (r ≡ Length 5) × (after ≡ refusalLine 3 ++ drop 5 out)
 
 -- "A table within the smaller pair gives the same plan to both": the calls of the display and the full ones answer the same kept count and cost, or the same refusal, and leave the same.
 

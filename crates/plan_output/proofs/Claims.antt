@@ -9,10 +9,10 @@ use Rattle.table.specs.Legal.{Legal}
 use Rattle.table.specs.Text.{ofText, textFault}
 use Rattle.table.proofs.Accepted.{table-wider, text-legal}
 use Rattle.plan_theory.proofs.Bound.{plan-bounds, none-for-nothing}
-use Rattle.output.specs.Output.{outputFault, Prints}
+use Rattle.output.specs.Output.{Prints}
 use Rattle.output.specs.declared.Output.{Output}
 use Rattle.output.proofs.Printing.{long-enough, prints-answer}
-use Rattle.plan_output.specs.Output.{planText, outputOf, PrintedPlan, PrintsPlan}
+use Rattle.plan_output.specs.Output.{planText, outputOf, PrintsText, PrintedPlan, PrintsPlan}
 
 module _ (pmax lmax : ℕ) (p : pmax ≤ 256) (l : lmax ≤ 2048) where
   pub printed-plan : (s : List ℕ) → textFault pmax lmax false s ≡ 0 → PrintedPlan s (outputOf pmax lmax s)
@@ -21,7 +21,7 @@ module _ (pmax lmax : ℕ) (p : pmax ≤ 256) (l : lmax ≤ 2048) where
       record { lines = rw e; bounds = plan-bounds (ofText s) legal; none-for-nothing = none-for-nothing (ofText s) legal }
 
   pub prints-plan : (s : List ℕ) (r : Output) (out out′ : List ℕ) → textFault pmax lmax false s ≡ 0 → length (planText (ofText s)) ≤ length out
-      → Prints (outputFault (length out) (outputOf pmax lmax s)) (outputOf pmax lmax s) r out out′ → PrintsPlan s r out′
+      → PrintsText pmax lmax s r out out′ → PrintsPlan s r out′
   prints-plan s r out out′ e room prints =
       let plan = printed-plan s e in
       let printed = outputOf pmax lmax s in

@@ -12,8 +12,7 @@ use Rattle.table.specs.Table.{isShort}
 use Rattle.table.specs.Text.{ofText, textFault}
 use Rattle.table_text.proofs.Good.{text-head}
 use Rattle.plan_theory.specs.Plan.{kept}
-use Rattle.plan_output.specs.Output.{outputOf}
-use Rattle.output.specs.Output.{outputFault, Prints}
+use Rattle.plan_output.specs.Output.{outputOf, PrintsText}
 use Rattle.output.specs.declared.Output.{Output}
 use Rattle.output.specs.declared.Output.the-variants.{Length}
 use Rattle.output.proofs.Printing.{prints-answer, long-enough}
@@ -32,7 +31,7 @@ most pmax lmax s = go (ℕ-discrete (textFault pmax lmax false s) 0)
     go (no n) = rw (ne-eqb (textFault pmax lmax false s) 0 n) (omega arith)
 
 pub always-printed : (pmax lmax : ℕ) (s : List ℕ) (r : Output) (out out′ : List ℕ) → 22 + 13 * lmax + 9 * pmax ≤ length out
-    → Prints (outputFault (length out) (outputOf pmax lmax s)) (outputOf pmax lmax s) r out out′ → r ≡ Length (length (outputOf pmax lmax s))
+    → PrintsText pmax lmax s r out out′ → r ≡ Length (length (outputOf pmax lmax s))
 always-printed pmax lmax s r out out′ l p =
     let k = most pmax lmax s in
     prints-answer p ∙ rw (long-enough (length out) (outputOf pmax lmax s) (omega arith))

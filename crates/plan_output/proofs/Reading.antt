@@ -18,19 +18,19 @@ use Rattle.table_laws.specs.Functions.{lentSlices}
 use Rattle.table_laws.proofs.Reading.{blank, blank-found, accepted, refusal-is, read-none, read-same, read-legal, read-fine}
 use Rattle.output.specs.Output.{refusalLine, outputFault, Prints}
 use Rattle.output.specs.declared.Output.{Output}
-use Rattle.plan_output.specs.Output.{planText, outputOf}
+use Rattle.plan_output.specs.Output.{planText, PrintsText}
 use Rattle.plan_output.proofs.Same.{same-plan}
 
 module _ (pmax lmax : ℕ) (s : List ℕ) (r : Reading) (b : Lent) (read : ReadsTable pmax lmax false s r (blank pmax lmax) b) where
   pub refusal-printed : (refusal : ℕ) (o : Output) (out out′ : List ℕ) → r ≡ Unread refusal → Prints (outputFault (length out) (refusalLine refusal)) (refusalLine refusal) o out out′
-      → Prints (outputFault (length out) (outputOf pmax lmax s)) (outputOf pmax lmax s) o out out′
+      → PrintsText pmax lmax s o out out′
   refusal-printed refusal o out out′ e p =
       let n = refusal-is pmax lmax false s r (blank pmax lmax) b read refusal e in
       rw (ne-eqb (textFault pmax lmax false s) 0 (λ z. n .1 (blank-found pmax lmax false s ∙ z)), ← n .0 ∙ blank-found pmax lmax false s) p
 
   pub plan-printed : pmax ≤ 256 → lmax ≤ 2048 → (number probes links rest : ℕ) → r ≡ Read number probes links rest → (o : Output) (out out′ : List ℕ)
       → Prints (outputFault (length out) (planText (tableOf (lentSlices number probes links b)))) (planText (tableOf (lentSlices number probes links b))) o out out′
-      → Prints (outputFault (length out) (outputOf pmax lmax s)) (outputOf pmax lmax s) o out out′
+      → PrintsText pmax lmax s o out out′
   plan-printed p′ l′ number probes links rest e o out out′ p =
       let t = tableOf (lentSlices number probes links b) in
       let z = accepted pmax lmax false s r (blank pmax lmax) b read (read-none pmax lmax false s r (blank pmax lmax) b read number probes links rest e) in

@@ -4,13 +4,13 @@ use mathlib.Core.Path.{_≡_}
 use mathlib.Core.Bool.{false, cond}
 use mathlib.Core.List.{List, _++_}
 use lib.Dec.{eqb}
-use lib.ListN.{take}
+use lib.ListN.{length, take}
 use Rattle.range.specs.Lists.{joined}
 use Rattle.table.specs.Table.{Table, isShort, missing}
 use Rattle.table.specs.Text.{closingLine, ofText, textFault}
 use Rattle.plan_theory.specs.Plan.{kept, keptCount, costOf}
 use Rattle.plan_theory.specs.Bounds.{PlanBounds, NoneForNothing}
-use Rattle.output.specs.Output.{refusalLine}
+use Rattle.output.specs.Output.{refusalLine, outputFault, Prints}
 use Rattle.output.specs.declared.Output.{Output}
 use Rattle.output.specs.declared.Output.the-variants.{Length}
 use Rattle.plan_lines.specs.Lines.{headLine, keptLine, shortLine}
@@ -32,6 +32,12 @@ abbrev pub outputOf : ℕ → ℕ → List ℕ → List ℕ
 outputOf pmax lmax s =
     let fault = textFault pmax lmax false s in
     cond (eqb fault 0) (planText (ofText s)) (refusalLine fault)
+
+-- `plan_text` on the text s, within limits: it answers r and leaves the lent text `before` as `after`
+abbrev pub PrintsText : ℕ → ℕ → List ℕ → Output → List ℕ → List ℕ → Type 0
+PrintsText pmax lmax s r before after =
+    let printed = outputOf pmax lmax s in
+    Prints (outputFault (length before) printed) printed r before after
 
 -- the bytes printed for a text that is not refused: its plan, and of the links in it demand 3's needs and cost, and 02, No. 14
 pub record PrintedPlan (s printed : List ℕ) : Type 0 where

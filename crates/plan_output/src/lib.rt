@@ -1,15 +1,12 @@
 // The plan of a table's text, as the plan program prints it.
 use output::Output;
-ghost use lib.ListN.{length};
-ghost use Rattle.output.specs.Output.{outputFault, Prints};
-ghost use Rattle.plan_output.specs.Output.{outputOf};
+ghost use Rattle.plan_output.specs.Output.{PrintsText};
 
 pub mod text;
 
 // Prints the plan of the table that a text gives, or the text's refusal.
 pub fn plan_text(text: &[u8], out: &mut [u8]) -> Output
-    ensures { λ r. let printed = outputOf 256 2048 (now (text .entry)) in
-        ⌜ Prints (outputFault (length (now (out .entry))) printed) printed r (now (out .entry)) (now (out .exit)) ⌝ }
+    ensures { λ r. ⌜ PrintsText 256 2048 (now (text .entry)) r (now (out .entry)) (now (out .exit)) ⌝ }
 {
     let mut needs = [0u16; 256];
     let mut lows = [0u16; 2048];

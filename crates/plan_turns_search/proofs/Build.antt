@@ -18,7 +18,7 @@ use Rattle.plan_order.specs.Order.{falling, ByPlace}
 use Rattle.plan_order.proofs.Order.{By, is-by, later-order}
 use Rattle.plan_turns_search.specs.Chain.{opposite, Below, ChainBelow, Directions, Falls, LinkedBy}
 use Rattle.plan_turns_search.specs.Record.{ofDirection, targetOf, sourceOf, keyOf, turnedKey, mark, SiteInSlice, SiteOfLinks, Started}
-use Rattle.plan_turns_search.proofs.Record.{opposite-from, opposite-back, opposite-half, opposite-below}
+use Rattle.plan_turns_search.proofs.Record.{opposite-half, opposite-below, source-from, source-back}
 
 -- the order of links as one number
 abbrev linkKey : List ℕ → ℕ → ℕ
@@ -259,8 +259,8 @@ module _ (links : ℕ) (costs : List ℕ) (few : links ≤ 2048) (cheap : (i : �
       unfolding keyOf
       down-keys =
           record {
-            from = λ i l. ap (targetOf x) (opposite-from i) ∙ k .targets i l .1;
-            back = λ i l. ap (targetOf x) (opposite-back i) ∙ k .targets i l .0;
+            from = source-from probes links lows highs costs spares x k;
+            back = source-back probes links lows highs costs spares x k;
             keys = λ d l. let a = k .costs-in d l in omega arith;
           }
 

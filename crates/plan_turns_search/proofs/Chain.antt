@@ -1,4 +1,4 @@
--- Searches along a probe's chains: down its (linksOf slice), and up its held offers.
+-- Searches along a probe's chains: down its links, and up its held offers.
 use Prim.Native.Nat.{ℕ, _+_, _*_, _≤_, _<_}
 use mathlib.Core.Path.{_≡_, sym, _∙_, ap}
 use mathlib.Core.Logic.{inl, inr}
@@ -132,7 +132,7 @@ module _ (slice : List ℕ) (fits : SiteInSlice slice) where
     abbrev dearer-one : ℕ → ℕ → Bool
     dearer-one d g = (eqb (targetOf slice g) (targetOf slice d) && ltb (keyOf slice d) (keyOf slice g)) && eqb (o g) 1
 
-    -- a dearer-one of an offer to v is held by v
+    -- what is dearer than an offer to v, and counted there, is held by v
     dearer-held : (d : ℕ) → targetOf slice d ≡ v → (g : ℕ) → dearer-one d g ≡ true → holder g ≡ true
     dearer-held d at g h =
         let x = eqb (targetOf slice g) (targetOf slice d) in

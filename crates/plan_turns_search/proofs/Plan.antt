@@ -27,7 +27,7 @@ use Rattle.plan_theory.proofs.Settled.{settled-is-plan}
 use Rattle.plan_turns_search.specs.Record.{atSource, atTarget, targetOf, sourceOf, keyOf, spareOf, siteOf, SiteOfTable, SiteOfLinks, keptByte, Over}
 use Rattle.plan_turns_search.specs.Offers.{on, WouldRefuse}
 use Rattle.plan_turns_search.proofs.Offers.{explained}
-use Rattle.plan_turns_search.proofs.Record.{opposite-from, opposite-back, distinct}
+use Rattle.plan_turns_search.proofs.Record.{source-from, source-back, distinct}
 
 -- a count over directions, link by link
 sides : (p : ℕ → Bool) (n : ℕ) → count (2 * n) p ≡ sum n (λ i. cond (p (2 * i)) 1 0 + cond (p (2 * i + 1)) 1 0)
@@ -77,6 +77,14 @@ turn-byte : (x y b : Bool) → x ≡ b → y ≡ b → _≡_ {A = ℕ} (cond (x 
 turn-byte x y true e f = rw (e, f)
 turn-byte x y false e f = rw e
 
+-- a number past the probes is no end
+past-ends : {probes low high v : ℕ} → Ends probes low high → probes ≤ v → (eqb v low || eqb v high) ≡ true → ⊥
+past-ends {probes} {low} {high} {v} e m h = go (or-cases (eqb v low) (eqb v high) h)
+  where
+    go : (eqb v low ≡ true) ⊎ (eqb v high ≡ true) → ⊥
+    go (inl q) = let a = eqb-true v low q in let b = e .rises in let k = e .below in omega arith
+    go (inr q) = let a = eqb-true v high q in let k = e .below in omega arith
+
 -- what a legal table in slices gives
 module _ (probes links : ℕ) (needs lows highs costs : List ℕ) (legal : Legal (ofSlices 0 probes links needs lows highs costs)) where
   abbrev table : Table
@@ -96,19 +104,15 @@ module _ (probes links : ℕ) (needs lows highs costs : List ℕ) (legal : Legal
 
   -- past the probes there are no links
   no-links : (s : ℕ → Bool) (v : ℕ) → probes ≤ v → linksAt table s v ≡ 0
-  no-links s v m = none-count links (λ i. touches table v i && s i) (λ i l h. end i l (or-cases (eqb v (item lows i)) (eqb v (item highs i)) (and-left (touches table v i) (s i) h)))
-    where
-      end : (i : ℕ) → i < links → (eqb v (item lows i) ≡ true) ⊎ (eqb v (item highs i) ≡ true) → ⊥
-      end i l (inl h) = let a = eqb-true v (item lows i) h in let b = ends i l .rises in let k = ends i l .below in omega arith
-      end i l (inr h) = let a = eqb-true v (item highs i) h in let k = ends i l .below in omega arith
+  no-links s v m = none-count links (λ i. touches table v i && s i) (λ i l h. past-ends (ends i l) m (and-left (touches table v i) (s i) h))
 
   -- in the slice x
   module _ (spares x : List ℕ) (k : SiteOfLinks probes links lows highs costs spares x) where
-    source-from : (i : ℕ) → i < links → sourceOf x (2 * i) ≡ item lows i
-    source-from i l = ap (targetOf x) (opposite-from i) ∙ k .targets i l .1
+    from : (i : ℕ) → i < links → sourceOf x (2 * i) ≡ item lows i
+    from = source-from probes links lows highs costs spares x k
 
-    source-back : (i : ℕ) → i < links → sourceOf x (2 * i + 1) ≡ item highs i
-    source-back i l = ap (targetOf x) (opposite-back i) ∙ k .targets i l .0
+    back : (i : ℕ) → i < links → sourceOf x (2 * i + 1) ≡ item highs i
+    back = source-back probes links lows highs costs spares x k
 
     -- the keys' order is the table's
     key-dearer : (d f : ℕ) → d < 2 * links → f < 2 * links → ltb (keyOf x d) (keyOf x f) ≡ dearer table (f / 2) (d / 2)
@@ -138,8 +142,8 @@ module _ (probes links : ℕ) (needs lows highs costs : List ℕ) (legal : Legal
       site-of-table =
           record {
             both = ap (λ (n : ℕ). 2 * n) (k .link-count);
-            up = λ i l. (source-from i l, k .targets i l .0);
-            down = λ i l. (source-back i l, k .targets i l .1);
+            up = λ i l. (from i l, k .targets i l .0);
+            down = λ i l. (back i l, k .targets i l .1);
             order = rw (k .link-count) key-dearer;
             spares = spare-in;
           }
@@ -158,7 +162,7 @@ module _ (probes links : ℕ) (needs lows highs costs : List ℕ) (legal : Legal
         apart-back i l e = apart i l (sym e)
 
         standing-at : (v : ℕ) (q : ℕ → Bool) → count (2 * links) (λ f. (eqb (sourceOf x f) v && q (f / 2)) && eqb (atSource r f) 1) ≡ linksAt table (λ i. q i && stand v i) v
-        standing-at v q = by-links links lows highs r v (touches table v) q apart (λ i. refl) (sourceOf x) source-from source-back
+        standing-at v q = by-links links lows highs r v (touches table v) q apart (λ i. refl) (sourceOf x) from back
 
         held-at : (v : ℕ) (q : ℕ → Bool) → count (2 * links) (λ f. (eqb (targetOf x f) v && q (f / 2)) && eqb (atSource r f) 1) ≡ linksAt table (λ i. q i && held v i) v
         held-at v q = by-links links highs lows r v (touches table v) q apart-back (λ i. or-turn (eqb v (item lows i)) (eqb v (item highs i))) (targetOf x) (λ i l. k .targets i l .0) (λ i l. k .targets i l .1)
@@ -238,12 +242,12 @@ module _ (probes links : ℕ) (needs lows highs costs : List ℕ) (legal : Legal
             reason i u w l up e =
                 let z = ends i l .rises in
                 let y = ends i l .below in
-                why i (item lows i) (item highs i) (2 * i) l (omega arith) (omega arith) (source-from i l) (k .targets i l .0) (omega arith) (omega arith)
+                why i (item lows i) (item highs i) (2 * i) l (omega arith) (omega arith) (from i l) (k .targets i l .0) (omega arith) (omega arith)
                 (not-one (atSource r (2 * i)) (sym (stand-low i) ∙ e))
             reason i u w l down e =
                 let z = ends i l .rises in
                 let y = ends i l .below in
-                why i (item highs i) (item lows i) (2 * i + 1) l (omega arith) (omega arith) (source-back i l) (k .targets i l .1) (omega arith) (omega arith)
+                why i (item highs i) (item lows i) (2 * i + 1) l (omega arith) (omega arith) (back i l) (k .targets i l .1) (omega arith) (omega arith)
                 (not-one (atSource r (2 * i + 1)) (sym (stand-high i l) ∙ e))
 
         pub plan-bytes : (plan : List ℕ) → stored (keptByte r) links plan ≡ stored (λ i. cond (kept table i) 1 0) links plan
@@ -263,11 +267,7 @@ pub spares-right : (probes links : ℕ) (needs lows highs counts spares : List �
 spares-right probes links needs lows highs counts spares ends right room e v = rw e (go (decLt v probes)) ∙ sym (spare-given (ofSlices 0 probes links needs lows highs []) v)
   where
     none : probes ≤ v → item counts v ≡ 0
-    none m = right v ∙ none-count links (touches (ofSlices 0 probes links [] lows highs []) v) (λ i l h. end i l (or-cases (eqb v (item lows i)) (eqb v (item highs i)) h))
-      where
-        end : (i : ℕ) → i < links → (eqb v (item lows i) ≡ true) ⊎ (eqb v (item highs i) ≡ true) → ⊥
-        end i l (inl h) = let a = eqb-true v (item lows i) h in let b = ends i l .rises in let k = ends i l .below in omega arith
-        end i l (inr h) = let a = eqb-true v (item highs i) h in let k = ends i l .below in omega arith
+    none m = right v ∙ none-count links (touches (ofSlices 0 probes links [] lows highs []) v) (λ i l h. past-ends (ends i l) m h)
 
     go : Dec (v < probes) → item (stored (λ k. item counts k - item needs k) probes counts) v ≡ degree (ofSlices 0 probes links needs lows highs []) v - item needs v
     go (yes l) = stored-at (λ k. item counts k - item needs k) probes counts v room l ∙ ap (λ (x : ℕ). x - item needs v) (right v)

@@ -13,7 +13,7 @@ use borrow.Author.Tests.{ltb-true, lt-ltb, eqb-true, eq-eqb, ne-eqb}
 use Rattle.range.proofs.Bools.{same-bool}
 use Rattle.range.proofs.Sums.{weigh-le, count-less}
 use Rattle.plan_turns_search.specs.Chain.{opposite}
-use Rattle.plan_turns_search.specs.Record.{atSource, atTarget, probesOf, linksOf, ofDirection, targetOf, sourceOf, keyOf, siteOf, put, untriedCount, SiteInSlice, Paired, OffersReady}
+use Rattle.plan_turns_search.specs.Record.{atSource, atTarget, probesOf, linksOf, ofDirection, targetOf, sourceOf, keyOf, siteOf, put, untriedCount, SiteInSlice, SiteOfLinks, Paired, OffersReady}
 use Rattle.plan_turns_search.specs.Offers.{WouldTake, WouldRefuse}
 use Rattle.plan_turns_search.proofs.Taking.{Distinct, not-taken, not-taken-count}
 
@@ -26,10 +26,10 @@ opposite-odd : (d : ℕ) → (d % 2 ≡ 0 → ⊥) → opposite d ≡ d - 1
 unfolding opposite
 opposite-odd d n = rw (ne-eqb (d % 2) 0 n)
 
-pub opposite-from : (i : ℕ) → opposite (2 * i) ≡ 2 * i + 1
+opposite-from : (i : ℕ) → opposite (2 * i) ≡ 2 * i + 1
 opposite-from i = opposite-even (2 * i) (omega arith)
 
-pub opposite-back : (i : ℕ) → opposite (2 * i + 1) ≡ 2 * i
+opposite-back : (i : ℕ) → opposite (2 * i + 1) ≡ 2 * i
 opposite-back i = opposite-odd (2 * i + 1) (λ z. omega arith) ∙ (let e : 2 * i + 1 - 1 ≡ 2 * i = omega arith in e)
 
 pub opposite-half : (d : ℕ) → opposite d / 2 ≡ d / 2
@@ -124,6 +124,14 @@ module _ (links : ℕ) (r r′ : List ℕ) (tried : (e : ℕ) → atSource r′ 
   pub untried-less : (d : ℕ) → d < 2 * links → atSource r d ≡ 0 → (atSource r′ d ≡ 0 → ⊥) → untriedCount links r′ < untriedCount links r
   untried-less d l z n =
       count-less (2 * links) (λ e. eqb (atSource r′ e) 0) (λ e. eqb (atSource r e) 0) d zero-was l (ne-eqb (atSource r′ d) 0 n) (eq-eqb (atSource r d) 0 z)
+
+-- the sources of a link's directions
+module _ (probes links : ℕ) (lows highs costs spares slice : List ℕ) (k : SiteOfLinks probes links lows highs costs spares slice) where
+  pub source-from : (i : ℕ) → i < links → sourceOf slice (2 * i) ≡ item lows i
+  source-from i l = ap (targetOf slice) (opposite-from i) ∙ k .targets i l .1
+
+  pub source-back : (i : ℕ) → i < links → sourceOf slice (2 * i + 1) ≡ item highs i
+  source-back i l = ap (targetOf slice) (opposite-back i) ∙ k .targets i l .0
 
 module _ (slice : List ℕ) (fits : SiteInSlice slice) where
   pub opposite-key : (d : ℕ) → d < 2 * linksOf slice → keyOf slice (opposite d) ≡ keyOf slice d

@@ -71,12 +71,12 @@ stored-at f (suc n) d i fits l = go (stored-at f n d i (omega arith)) (ℕ-discr
     go before (yes e) = rw e (getD-set-same (stored f n d) n (f n) 0 (let k = length-stored f n d in omega arith))
     go before (no e) = getD-set-other (stored f n d) n i (f n) 0 e ∙ before (omega arith)
 
--- "entries beyond the table's own stay untouched"
 pub stored-zeros : (d : List ℕ) → stored (λ i. 0) (length d) d ≡ replicate (length d) 0
 stored-zeros d =
     ext-getD 0 (stored (λ i. 0) (length d) d) (replicate (length d) 0) (length-stored (λ i. 0) (length d) d ∙ sym (length-replicate (length d) 0))
     (λ i l. let k = length-stored (λ i. 0) (length d) d in stored-at (λ i. 0) (length d) d i (omega arith) (omega arith) ∙ sym (zeros-at (length d) i))
 
+-- "entries beyond the table's own stay untouched"
 pub stored-beyond : (f : ℕ → ℕ) (n : ℕ) (d : List ℕ) (i : ℕ) → n ≤ i → getD (stored f n d) i 0 ≡ getD d i 0
 unfolding stored
 stored-beyond f zero d i l = refl

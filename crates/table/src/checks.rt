@@ -6,11 +6,10 @@ ghost use mathlib.Core.List.{[]};
 ghost use Prim.Native.Nat.{_-_, _<_, _≤_};
 ghost use lib.ListN.{length};
 ghost use Rattle.range.specs.First.{first};
-ghost use Rattle.range.specs.Reply.{replyOf};
 ghost use Rattle.table.specs.Table.{item, ofSlices};
 ghost use Rattle.table.specs.Legal.{sizeFault, endsFault, orderFault, linkFault, tableFault, roomFault};
 ghost use Rattle.table.specs.Slices.{sliceFault, slicesOf};
-ghost use Rattle.table.specs.Checking.{checkingReply};
+ghost use Rattle.table.specs.Checking.{ChecksTable};
 
 // 3
 pub fn size_fault(pmax: usize, lmax: usize, probes: usize, links: usize) -> u8
@@ -175,7 +174,7 @@ pub fn check_limited(
     costs: &[u16],
 ) -> Checking
     ensures { λ r. let x = slicesOf 0 probes links (now (needs .entry)) (now (lows .entry)) (now (highs .entry)) (now (costs .entry)) in
-        ⌜ checkingReply r ≡ replyOf (sliceFault pmax lmax x) [] ⌝ }
+        ⌜ ChecksTable pmax lmax x r ⌝ }
 {
     let fault = slice_fault(
         pmax,

@@ -1,9 +1,6 @@
 // A table in slices: whether it is legal.
-ghost use mathlib.Core.Path.{_≡_};
-ghost use mathlib.Core.List.{[]};
-ghost use Rattle.range.specs.Reply.{replyOf};
-ghost use Rattle.table.specs.Slices.{slicesFault, slicesOf};
-ghost use Rattle.table.specs.Checking.{checkingReply};
+ghost use Rattle.table.specs.Slices.{slicesOf};
+ghost use Rattle.table.specs.Checking.{ChecksTable};
 
 pub mod checks;
 pub mod degrees;
@@ -44,7 +41,7 @@ pub fn check_table(
     costs: &[u16],
 ) -> Checking
     ensures { λ r. let x = slicesOf number probes links (now (needs .entry)) (now (lows .entry)) (now (highs .entry)) (now (costs .entry)) in
-        ⌜ checkingReply r ≡ replyOf (slicesFault x) [] ⌝ }
+        ⌜ ChecksTable 256 2048 x r ⌝ }
 {
     checks::check_limited(256, 2048, probes, links, needs, lows, highs, costs)
 }

@@ -17,7 +17,7 @@ use Rattle.lines.specs.Digits.{lineFault}
 use Rattle.lines.proofs.Lines.{good-line}
 use Rattle.lines.proofs.Numbers.{lineOf, length-line, line-reads}
 use Rattle.table.specs.Table.{Table}
-use Rattle.table.specs.Checking.{checkingReply}
+use Rattle.table.specs.Checking.{checkingReply, ChecksTable}
 use Rattle.table.specs.Legal.{sizeFault, linkFault, tableFault, roomFault, lentFault}
 use Rattle.table.specs.Slices.{Slices, tableOf, slicesRoomFault, sliceFault}
 use Rattle.table.specs.Text.{tripleLine, ofText, textEnd, headFault, bodyFault, textFault, readFault}
@@ -34,8 +34,8 @@ use Rattle.table_write.specs.declared.Writing.{Writing}
 use Rattle.table_write.specs.declared.Writing.the-variants.{Length, Refused as Unwritten}
 use Rattle.table_write.proofs.Answers.{writes-answer, room-enough}
 use Rattle.table_laws.specs.Functions.{lentSlices, HoldsTable}
-use Rattle.table_laws.proofs.Reading.{room-none, none-short}
-use Rattle.table_display.specs.Display.{over, ChecksTable, HeldToPair, SameTable, SameText, NeverTooShort, DisplayTables}
+use Rattle.table_laws.proofs.Reading.{room-none, none-short, refusal-is}
+use Rattle.table_display.specs.Display.{over, HeldToPair, SameTable, SameText, NeverTooShort, DisplayTables}
 
 -- The size of a table that is within the pair, and of one that is over it.
 
@@ -164,10 +164,6 @@ unwritten-is : (fault n m : ℕ) (none : Bool) → Unwritten n ≡ cond none (Le
 unwritten-is fault n m true e = let z : _≡_ {A = ℕ} 0 1 = cc in absurd (omega arith)
 unwritten-is fault n m false e = cc
 
-unread-is : (fault n number probes links rest : ℕ) (none : Bool) → Unread n ≡ cond none (Read number probes links rest) (Unread fault) → n ≡ fault
-unread-is fault n number probes links rest true e = let z : _≡_ {A = ℕ} 0 1 = cc in absurd (omega arith)
-unread-is fault n number probes links rest false e = cc
-
 module _ (a : Lent) (holds : HoldsTable 16 40 a) where
   enough : (probes links : ℕ) → probes ≤ 16 → links ≤ 40 → roomFault probes links (length (a .needs)) (length (a .lows)) (length (a .highs)) (length (a .costs)) ≡ 0
   enough probes links p l =
@@ -181,32 +177,31 @@ module _ (a : Lent) (holds : HoldsTable 16 40 a) where
     room : slicesRoomFault x ≡ 0
     room = let w = within 16 40 (tableOf x) o in enough probes links (w .0) (w .1)
 
-    most : sliceFault 16 40 x ≤ 6
-    most = rw (or-none (slicesRoomFault x) (tableFault 16 40 (tableOf x)) room) (table-most 16 40 (tableOf x))
+    pub fault-most : sliceFault 16 40 x ≤ 6
+    fault-most = rw (or-none (slicesRoomFault x) (tableFault 16 40 (tableOf x)) room) (table-most 16 40 (tableOf x))
 
     check-not : (r : Checking) → ChecksTable 16 40 x r → r ≡ Refused 8 → ⊥
     check-not r w e =
         let fault = sliceFault 16 40 x in
         let q = refused-is fault 8 (eqb fault 0) (sym e ∙ checking-is r fault w) in
-        let l = most in
+        let l = fault-most in
         omega arith
 
-    write-not : (r : Writing) (out after : List ℕ) → textEnd (tableOf x) ≤ length out → WritesTable 16 40 x r out after → r ≡ Unwritten 8 → ⊥
+    write-not : (r : Writing) (out after : List ℕ) → 618 ≤ length out → WritesTable 16 40 x r out after → r ≡ Unwritten 8 → ⊥
     write-not r out after long w e =
         let fault = writeFault 16 40 x (length out) in
         let q = unwritten-is fault 8 (textEnd (tableOf x)) (eqb fault 0) (sym e ∙ writes-answer w) in
-        let p = room-enough (length out) (textEnd (tableOf x)) (sliceFault 16 40 x) long in
-        let l = most in
+        let k = within 16 40 (tableOf x) o in
+        let p = room-enough (length out) (textEnd (tableOf x)) (sliceFault 16 40 x) (omega (arith, k .0, k .1)) in
+        let l = fault-most in
         omega arith
 
   read-not : (more : Bool) (s : List ℕ) (r : Reading) (after : Lent) → ReadsTable 16 40 more s r a after → r ≡ Unread 8 → ⊥
   read-not more s r after w e =
-      let t = ofText s in
-      let fault = readingFault 16 40 more s a in
-      let q = unread-is fault 8 (t .number) (t .probes) (t .links) (textEnd t) (eqb fault 0) (sym e ∙ reads-answer w) in
+      let q = refusal-is 16 40 more s r a after w 8 e in
       let p = none-short 16 40 more s a holds in
       let l = text-most 16 40 more s in
-      omega arith
+      omega (arith, q .0)
 
   pub never-too-short : NeverTooShort a
   never-too-short =

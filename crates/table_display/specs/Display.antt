@@ -5,12 +5,11 @@ use mathlib.Core.Bool.{Bool, true, false, _||_}
 use mathlib.Core.List.{List, [], _++_}
 use lib.Dec.{ltb}
 use lib.ListN.{length}
-use Rattle.range.specs.Reply.{replyOf}
 use Rattle.lines.specs.Digits.{lineFault}
 use Rattle.table.specs.Table.{Table}
 use Rattle.table.specs.Slices.{Slices, tableOf, slicesRoomFault, sliceFault}
 use Rattle.table.specs.Text.{tripleLine, ofText, textEnd, textFault}
-use Rattle.table.specs.Checking.{checkingReply}
+use Rattle.table.specs.Checking.{ChecksTable}
 use Rattle.table.specs.declared.Checking.{Checking}
 use Rattle.table.specs.declared.Checking.the-variants.{Refused}
 use Rattle.table_read.specs.Reading.{Lent, readingFault, ReadsTable}
@@ -24,10 +23,6 @@ use Rattle.table_laws.specs.Functions.{lentSlices, HoldsTable}
 -- the table has more probes or more links than the pair allows; otherwise it is within the pair
 abbrev pub over : ℕ → ℕ → Table → Bool
 over pmax lmax t = ltb pmax (t .probes) || ltb lmax (t .links)
-
--- the promise of `check_table` on the slices x, within limits
-abbrev pub ChecksTable : ℕ → ℕ → Slices → Checking → Type 0
-ChecksTable pmax lmax x r = checkingReply r ≡ replyOf (sliceFault pmax lmax x) []
 
 -- "Each caller is held to its own pair, by the refusal that 01 already has for the header": of slices with room for their table,
 -- and of a text with a good header line, whatever follows it and however short the lent slices are
@@ -58,7 +53,7 @@ pub record SameText (s : List ℕ) : Type 0 where
   pub read : (more : Bool) (r r′ : Reading) (lent after after′ : Lent)
       → ReadsTable 16 40 more s r lent after → ReadsTable 256 2048 more s r′ lent after′ → (r ≡ r′) × (after ≡ after′)
 
--- "slices for 16 probes and 40 links are never too short for it": the lent slices a, with any text and with any table in them that is within the pair
+-- "slices for 16 probes and 40 links are never too short for it": the lent slices a, with any text and with any table in them that is within the pair; 618 bytes are those of its longest text
 pub record NeverTooShort (a : Lent) : Type 0 where
   pub read-fault : (more : Bool) (s : List ℕ) → readingFault 16 40 more s a ≡ textFault 16 40 more s
   pub read : (more : Bool) (s : List ℕ) (r : Reading) (after : Lent) → ReadsTable 16 40 more s r a after → r ≡ Unread 8 → ⊥
@@ -67,7 +62,7 @@ pub record NeverTooShort (a : Lent) : Type 0 where
   pub check : (number probes links : ℕ) (r : Checking) → let x = lentSlices number probes links a in
       over 16 40 (tableOf x) ≡ false → ChecksTable 16 40 x r → r ≡ Refused 8 → ⊥
   pub write : (number probes links : ℕ) (r : Writing) (out after : List ℕ) → let x = lentSlices number probes links a in
-      over 16 40 (tableOf x) ≡ false → textEnd (tableOf x) ≤ length out → WritesTable 16 40 x r out after → r ≡ Unwritten 8 → ⊥
+      over 16 40 (tableOf x) ≡ false → 618 ≤ length out → WritesTable 16 40 x r out after → r ≡ Unwritten 8 → ⊥
 
 -- in whole; `HoldsTable`: at least 16 needs, and lows, highs and costs of one length, at least 40
 pub record DisplayTables : Type 0 where

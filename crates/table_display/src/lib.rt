@@ -5,12 +5,9 @@ use table_read::Reading;
 use table_read::limited::read_limited;
 use table_write::Writing;
 use table_write::limited::write_limited;
-ghost use mathlib.Core.Path.{_≡_};
 ghost use mathlib.Core.Bool.{false};
-ghost use mathlib.Core.List.{[]};
-ghost use Rattle.range.specs.Reply.{replyOf};
-ghost use Rattle.table.specs.Slices.{sliceFault, slicesOf};
-ghost use Rattle.table.specs.Checking.{checkingReply};
+ghost use Rattle.table.specs.Slices.{slicesOf};
+ghost use Rattle.table.specs.Checking.{ChecksTable};
 ghost use Rattle.table_read.specs.Reading.{lentOf, ReadsTable};
 ghost use Rattle.table_write.specs.Writing.{WritesTable};
 
@@ -30,7 +27,7 @@ pub fn check_table(
     costs: &[u16],
 ) -> Checking
     ensures { λ r. let x = slicesOf number probes links (now (needs .entry)) (now (lows .entry)) (now (highs .entry)) (now (costs .entry)) in
-        ⌜ checkingReply r ≡ replyOf (sliceFault 16 40 x) [] ⌝ }
+        ⌜ ChecksTable 16 40 x r ⌝ }
 {
     check_limited(PMAX, LMAX, probes, links, needs, lows, highs, costs)
 }
