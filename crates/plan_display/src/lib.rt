@@ -35,7 +35,7 @@ pub fn plan_by_slse(
     }
     let mut order = [0u16; 40];
     let mut half = [0u16; 40];
-    let mut counts = [0usize; 16];
+    let mut counts = [0u16; 16];
     let mut degrees = [0u16; 16];
     slse_answer(
         plan,
@@ -88,7 +88,7 @@ pub fn plan_by_turns(
     let mut site = [0u16; 338];
     let mut order = [0u16; 40];
     let mut half = [0u16; 40];
-    let mut counts = [0usize; 16];
+    let mut counts = [0u16; 16];
     turns_answer(
         plan,
         work,
@@ -127,7 +127,7 @@ pub fn plan_text(text: &[u8], out: &mut [u8]) -> Output
             let mut plan = [0u8; 40];
             let mut order = [0u16; 40];
             let mut half = [0u16; 40];
-            let mut counts = [0usize; 16];
+            let mut counts = [0u16; 16];
             let mut degrees = [0u16; 16];
             plan_output::text::print_plan(
                 out,

@@ -33,7 +33,7 @@ pub fn plan_by_slse(
     }
     let mut order = [0u16; 2048];
     let mut half = [0u16; 2048];
-    let mut counts = [0usize; 256];
+    let mut counts = [0u16; 256];
     let mut degrees = [0u16; 256];
     limited::slse_answer(
         plan,
@@ -86,7 +86,7 @@ pub fn plan_by_turns(
     let mut site = [0u16; 16642];
     let mut order = [0u16; 2048];
     let mut half = [0u16; 2048];
-    let mut counts = [0usize; 256];
+    let mut counts = [0u16; 256];
     limited::turns_answer(
         plan,
         work,

@@ -14,7 +14,7 @@ pub fn print_plan(
     plan: &mut [u8],
     order: &mut [u16],
     half: &mut [u16],
-    counts: &mut [usize],
+    counts: &mut [u16],
     degrees: &mut [u16],
     number: u16,
     probes: usize,

@@ -86,7 +86,7 @@ pub fn by_turns(
     site: &mut [u16],
     order: &mut [u16],
     half: &mut [u16],
-    counts: &mut [usize],
+    counts: &mut [u16],
     probes: usize,
     links: usize,
     needs: &[u16],

@@ -149,7 +149,7 @@ pub fn link_up(
     site: &mut [u16],
     order: &mut [u16],
     half: &mut [u16],
-    counts: &mut [usize],
+    counts: &mut [u16],
     probes: usize,
     links: usize,
     lows: &[u16],
