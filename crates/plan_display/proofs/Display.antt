@@ -6,12 +6,9 @@ use mathlib.Core.List.{List}
 use native.Mathlib.Omega.{arith}
 use lib.Dec.{eqb}
 use lib.ListN.{length}
-use Rattle.range.proofs.Faults.{or-none}
 use Rattle.table.specs.Table.{Table}
-use Rattle.table.specs.Legal.{tableFault}
-use Rattle.table.specs.Slices.{Slices, tableOf, slicesRoomFault, sliceFault}
+use Rattle.table.specs.Slices.{Slices, tableOf, sliceFault}
 use Rattle.table.specs.Text.{ofText}
-use Rattle.table.proofs.Largest.{table-most}
 use Rattle.table_read.specs.Reading.{Lent}
 use Rattle.table_write.proofs.Answers.{room-enough}
 use Rattle.table_laws.specs.Functions.{lentSlices, HoldsTable}
@@ -21,6 +18,7 @@ use Rattle.plan_methods.specs.Planning.{planFault, turnsFault, Plans, PlansAndC
 use Rattle.plan_methods.specs.declared.Planning.{Planning}
 use Rattle.plan_methods.specs.declared.Planning.the-variants.{Plan, Refused}
 use Rattle.plan_methods.proofs.Answers.{plans-answer}
+use Rattle.output.specs.Output.{refusalLine, Prints}
 use Rattle.output.proofs.Printing.{prints-answer, long-enough}
 use Rattle.plan_output.specs.Output.{outputOf, PrintsText}
 use Rattle.plan_output.proofs.Most.{always-printed}

@@ -7,11 +7,9 @@ use plan_methods::limited::turns_answer;
 use plan_methods::limited::turns_fault;
 use table_display::LMAX;
 use table_display::PMAX;
-ghost use lib.ListN.{length};
 ghost use Rattle.table.specs.Slices.{slicesOf};
 ghost use Rattle.plan_methods.specs.Planning.{PlansBySlse, PlansByTurns};
-ghost use Rattle.output.specs.Output.{outputFault, Prints};
-ghost use Rattle.plan_output.specs.Output.{outputOf};
+ghost use Rattle.plan_output.specs.Output.{PrintsText};
 
 // `plan_methods::plan_by_slse` at the display's limits.
 pub fn plan_by_slse(
@@ -35,14 +33,14 @@ pub fn plan_by_slse(
     }
     let mut order = [0u16; 40];
     let mut half = [0u16; 40];
+    let mut digits = [0u16; 16];
     let mut counts = [0u16; 16];
-    let mut degrees = [0u16; 16];
     slse_answer(
         plan,
         &mut order,
         &mut half,
+        &mut digits,
         &mut counts,
-        &mut degrees,
         m,
         needs,
         lows,
@@ -88,7 +86,7 @@ pub fn plan_by_turns(
     let mut site = [0u16; 338];
     let mut order = [0u16; 40];
     let mut half = [0u16; 40];
-    let mut counts = [0u16; 16];
+    let mut digits = [0u16; 16];
     turns_answer(
         plan,
         work,
@@ -97,7 +95,7 @@ pub fn plan_by_turns(
         &mut site,
         &mut order,
         &mut half,
-        &mut counts,
+        &mut digits,
         n,
         m,
         needs,
@@ -109,8 +107,7 @@ pub fn plan_by_turns(
 
 // `plan_output::plan_text` at the display's limits.
 pub fn plan_text(text: &[u8], out: &mut [u8]) -> Output
-    ensures { λ r. let printed = outputOf 16 40 (now (text .entry)) in
-        ⌜ Prints (outputFault (length (now (out .entry))) printed) printed r (now (out .entry)) (now (out .exit)) ⌝ }
+    ensures { λ r. ⌜ PrintsText 16 40 (now (text .entry)) r (now (out .entry)) (now (out .exit)) ⌝ }
 {
     let mut needs = [0u16; 16];
     let mut lows = [0u16; 40];
@@ -127,14 +124,14 @@ pub fn plan_text(text: &[u8], out: &mut [u8]) -> Output
             let mut plan = [0u8; 40];
             let mut order = [0u16; 40];
             let mut half = [0u16; 40];
-            let mut counts = [0u16; 16];
+            let mut digits = [0u16; 16];
             let mut degrees = [0u16; 16];
             plan_output::text::print_plan(
                 out,
                 &mut plan,
                 &mut order,
                 &mut half,
-                &mut counts,
+                &mut digits,
                 &mut degrees,
                 number,
                 probes as usize,

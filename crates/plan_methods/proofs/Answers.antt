@@ -1,5 +1,5 @@
 -- How the code comes to its answer, and what the answer then is.
-use Prim.Native.Nat.{ℕ, _*_, _≤_, _<_}
+use Prim.Native.Nat.{ℕ, _+_, _*_, _≤_, _<_}
 use mathlib.Core.Path.{_≡_, _∙_, ap}
 use mathlib.Core.Bool.{Bool, true, false, cond}
 use mathlib.Core.List.{List}
@@ -20,6 +20,7 @@ use Rattle.table.proofs.Accepted.{table-wider}
 use Rattle.table.proofs.Slices.{legal-slices}
 use Rattle.plan_theory.specs.Plan.{kept, rested, keptCount, costOf, planByte, isKept}
 use Rattle.plan_theory.proofs.Plan.{stored-kept}
+use Rattle.plan_turns_search.specs.Record.{WorkingRoom}
 use Rattle.plan_methods.specs.Planning.{planFault, turnsFault, planningReply, planValues, SlseReady, Plans, PlansAndClears}
 use Rattle.plan_methods.specs.declared.Planning.{Planning}
 use Rattle.plan_methods.specs.declared.Planning.the-variants.{Plan, Refused}
@@ -85,16 +86,29 @@ module _ (pmax lmax probes links : ℕ) (needs lows highs costs : List ℕ) (pla
   pub in-plan : links ≤ plan
   in-plan = lent-good plan links (or-left (lentFault plan links) (sliceFault pmax lmax slices) e)
 
-  pub slse-ready : (order half counts degrees : ℕ) → lmax ≤ order → lmax ≤ half → (1 < counts) × (counts ≤ 256) → pmax ≤ degrees
-      → SlseReady links needs lows highs costs plan order half counts degrees
-  slse-ready order half counts degrees lo lh base ld =
+  pub slse-ready : (order half digits counts : ℕ) → lmax ≤ order → lmax ≤ half → (1 < digits) × (digits ≤ 256) → pmax ≤ counts
+      → SlseReady links needs lows highs costs plan order half digits counts
+  slse-ready order half digits counts lo lh base lc =
       let k = few in
       record {
         probes = probes;
         legal = legal;
         room = room;
-        in-degrees = omega (arith, k .0);
+        in-counts = omega (arith, k .0);
         in-plan = in-plan;
+        in-order = omega (arith, k .1);
+        in-half = omega (arith, k .1);
+        base = base;
+      }
+
+  pub turns-room : (spares marks site order half digits : ℕ) → pmax ≤ spares → 4 * pmax ≤ marks → 8 * lmax + pmax + 2 ≤ site → lmax ≤ order → lmax ≤ half → (1 < digits) × (digits ≤ 256)
+      → WorkingRoom probes links spares marks site order half digits
+  turns-room spares marks site order half digits ls lm lx lo lh base =
+      let k = few in
+      record {
+        in-spares = omega (arith, k .0);
+        in-marks = omega (arith, k .0);
+        in-site = omega (arith, k .0, k .1);
         in-order = omega (arith, k .1);
         in-half = omega (arith, k .1);
         base = base;

@@ -24,15 +24,15 @@ abbrev pub turnsFault : ℕ → ℕ → Slices → ℕ → ℕ → ℕ
 turnsFault pmax lmax x plan work = orElse (lentFault work (4 * x .links)) (planFault pmax lmax x plan)
 
 -- what S-LSE asks: a legal table, of some probe count, in slices with room for it, and the lengths of the plan and of the slices that it works in
-pub record SlseReady (links : ℕ) (needs lows highs costs : List ℕ) (plan order half counts degrees : ℕ) : Type 0 where
+pub record SlseReady (links : ℕ) (needs lows highs costs : List ℕ) (plan order half digits counts : ℕ) : Type 0 where
   pub probes : ℕ
   pub legal : tableFault 256 2048 (ofSlices 0 probes links needs lows highs costs) ≡ 0
   pub room : roomFault probes links (length needs) (length lows) (length highs) (length costs) ≡ 0
-  pub in-degrees : probes ≤ degrees
+  pub in-counts : probes ≤ counts
   pub in-plan : links ≤ plan
   pub in-order : links ≤ order
   pub in-half : links ≤ half
-  pub base : (1 < counts) × (counts ≤ 256)
+  pub base : (1 < digits) × (digits ≤ 256)
 
 -- "The answer holds the kept count and total cost"
 abbrev pub planningReply : Planning → Reply

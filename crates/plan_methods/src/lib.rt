@@ -33,14 +33,14 @@ pub fn plan_by_slse(
     }
     let mut order = [0u16; 2048];
     let mut half = [0u16; 2048];
+    let mut digits = [0u16; 256];
     let mut counts = [0u16; 256];
-    let mut degrees = [0u16; 256];
     limited::slse_answer(
         plan,
         &mut order,
         &mut half,
+        &mut digits,
         &mut counts,
-        &mut degrees,
         m,
         needs,
         lows,
@@ -86,7 +86,7 @@ pub fn plan_by_turns(
     let mut site = [0u16; 16642];
     let mut order = [0u16; 2048];
     let mut half = [0u16; 2048];
-    let mut counts = [0u16; 256];
+    let mut digits = [0u16; 256];
     limited::turns_answer(
         plan,
         work,
@@ -95,7 +95,7 @@ pub fn plan_by_turns(
         &mut site,
         &mut order,
         &mut half,
-        &mut counts,
+        &mut digits,
         n,
         m,
         needs,

@@ -1,7 +1,7 @@
 // Planning within limits, in lent slices, and the answer that goes with a plan. The public planners call these.
 use super::Planning;
 ghost use mathlib.Core.Path.{_≡_};
-ghost use Prim.Native.Nat.{ℕ, _+_, _*_, _<_, _≤_};
+ghost use Prim.Native.Nat.{ℕ, _*_, _<_, _≤_};
 ghost use lib.ListN.{length};
 ghost use Rattle.range.specs.Sum.{weigh, count};
 ghost use Rattle.range.specs.Lists.{stored};
@@ -9,6 +9,7 @@ ghost use Rattle.table.specs.Table.{item, ofSlices};
 ghost use Rattle.table.specs.Slices.{slicesOf};
 ghost use Rattle.table.specs.Legal.{tableFault, roomFault};
 ghost use Rattle.plan_theory.specs.Plan.{kept, planByte, isKept};
+ghost use Rattle.plan_turns_search.specs.Record.{WorkingRoom};
 ghost use Rattle.plan_methods.specs.Planning.{planFault, turnsFault, SlseReady, Plans, PlansAndClears};
 ghost use Rattle.plan_methods.specs.declared.Planning.the-variants.{Plan};
 
@@ -70,26 +71,26 @@ fn answer(plan: &[u8], links: usize, costs: &[u16]) -> Planning
     }
 }
 
-// The plan by S-LSE of every legal table in these slices, whatever its probe count, if `degrees` has an entry for each probe. It
-// works in `order`, `half`, `counts` and `degrees`.
+// The plan by S-LSE of every legal table in these slices, whatever its probe count, if `counts` has an entry for each probe. It
+// works in `order`, `half`, `digits` and `counts`.
 pub fn slse_plan(
     plan: &mut [u8],
     order: &mut [u16],
     half: &mut [u16],
+    digits: &mut [u16],
     counts: &mut [u16],
-    degrees: &mut [u16],
     links: usize,
     needs: &[u16],
     lows: &[u16],
     highs: &[u16],
     costs: &[u16],
 )
-    requires { ⌜ SlseReady links (now needs) (now lows) (now highs) (now costs) (length (now plan)) (length (now order)) (length (now half)) (length (now counts)) (length (now degrees)) ⌝ }
+    requires { ⌜ SlseReady links (now needs) (now lows) (now highs) (now costs) (length (now plan)) (length (now order)) (length (now half)) (length (now digits)) (length (now counts)) ⌝ }
     ensures { λ _. ⌜ ((probes : ℕ) → let t = ofSlices 0 probes links (now (needs .entry)) (now (lows .entry)) (now (highs .entry)) (now (costs .entry)) in
-        probes ≤ length (now (degrees .entry)) → tableFault 256 2048 t ≡ 0 → now (plan .exit) ≡ stored (λ i. planByte (kept t i)) links (now (plan .entry))) ⌝ }
+        probes ≤ length (now (counts .entry)) → tableFault 256 2048 t ≡ 0 → now (plan .exit) ≡ stored (λ i. planByte (kept t i)) links (now (plan .entry))) ⌝ }
 {
-    plan_order::sorting::order_links(order, half, counts, links, costs);
-    plan_slse::passes::plan_in_order(plan, degrees, links, order, needs, lows, highs);
+    plan_order::sorting::order_links(order, half, digits, links, costs);
+    plan_slse::passes::plan_in_order(plan, counts, links, order, needs, lows, highs);
 }
 
 // The same plan, and its answer.
@@ -97,24 +98,24 @@ pub fn slse_answer(
     plan: &mut [u8],
     order: &mut [u16],
     half: &mut [u16],
+    digits: &mut [u16],
     counts: &mut [u16],
-    degrees: &mut [u16],
     links: usize,
     needs: &[u16],
     lows: &[u16],
     highs: &[u16],
     costs: &[u16],
 ) -> Planning
-    requires { ⌜ SlseReady links (now needs) (now lows) (now highs) (now costs) (length (now plan)) (length (now order)) (length (now half)) (length (now counts)) (length (now degrees)) ⌝ }
+    requires { ⌜ SlseReady links (now needs) (now lows) (now highs) (now costs) (length (now plan)) (length (now order)) (length (now half)) (length (now digits)) (length (now counts)) ⌝ }
     ensures { λ r. ⌜ ((number probes : ℕ) → let t = ofSlices number probes links (now (needs .entry)) (now (lows .entry)) (now (highs .entry)) (now (costs .entry)) in
-        probes ≤ length (now (degrees .entry)) → tableFault 256 2048 t ≡ 0 → Plans 0 t r (now (plan .entry)) (now (plan .exit))) ⌝ }
+        probes ≤ length (now (counts .entry)) → tableFault 256 2048 t ≡ 0 → Plans 0 t r (now (plan .entry)) (now (plan .exit))) ⌝ }
 {
     slse_plan(
         plan,
         order,
         half,
+        digits,
         counts,
-        degrees,
         links,
         needs,
         lows,
@@ -133,7 +134,7 @@ pub fn turns_answer(
     site: &mut [u16],
     order: &mut [u16],
     half: &mut [u16],
-    counts: &mut [u16],
+    digits: &mut [u16],
     probes: usize,
     links: usize,
     needs: &[u16],
@@ -144,8 +145,7 @@ pub fn turns_answer(
     requires { let t = ofSlices 0 probes links (now needs) (now lows) (now highs) (now costs) in
         ⌜ (tableFault 256 2048 t ≡ 0) × (roomFault probes links (length (now needs)) (length (now lows)) (length (now highs)) (length (now costs)) ≡ 0)
         × (links ≤ length (now plan)) × (4 * links ≤ length (now work))
-        × (probes ≤ length (now spares)) × (4 * probes ≤ length (now marks)) × (8 * links + probes + 2 ≤ length (now site))
-        × (links ≤ length (now order)) × (links ≤ length (now half)) × (1 < length (now counts)) × (length (now counts) ≤ 256) ⌝ }
+        × WorkingRoom probes links (length (now spares)) (length (now marks)) (length (now site)) (length (now order)) (length (now half)) (length (now digits)) ⌝ }
     ensures { λ r. ⌜ ((number : ℕ) → let t = ofSlices number probes links (now (needs .entry)) (now (lows .entry)) (now (highs .entry)) (now (costs .entry)) in
         PlansAndClears 0 t r (now (plan .entry)) (now (plan .exit)) (now (work .entry)) (now (work .exit))) ⌝ }
 {
@@ -157,7 +157,7 @@ pub fn turns_answer(
         site,
         order,
         half,
-        counts,
+        digits,
         probes,
         links,
         needs,

@@ -23,14 +23,14 @@ pub fn plan_text(text: &[u8], out: &mut [u8]) -> Output
             let mut plan = [0u8; 2048];
             let mut order = [0u16; 2048];
             let mut half = [0u16; 2048];
-            let mut counts = [0u16; 256];
+            let mut digits = [0u16; 256];
             let mut degrees = [0u16; 256];
             text::print_plan(
                 out,
                 &mut plan,
                 &mut order,
                 &mut half,
-                &mut counts,
+                &mut digits,
                 &mut degrees,
                 number,
                 probes as usize,

@@ -8,13 +8,13 @@ ghost use Rattle.table.specs.Slices.{slicesOf, tableOf, slicesFault};
 ghost use Rattle.output.specs.Output.{outputFault, Prints};
 ghost use Rattle.plan_output.specs.Output.{planText};
 
-// Prints the plan of the legal table in these slices. It works in `plan`, `order`, `half`, `counts` and `degrees`.
+// Prints the plan of the legal table in these slices. It works in `plan`, `order`, `half`, `digits` and `degrees`.
 pub fn print_plan(
     out: &mut [u8],
     plan: &mut [u8],
     order: &mut [u16],
     half: &mut [u16],
-    counts: &mut [u16],
+    digits: &mut [u16],
     degrees: &mut [u16],
     number: u16,
     probes: usize,
@@ -26,7 +26,7 @@ pub fn print_plan(
 ) -> Output
     requires { let x = slicesOf number probes links (now needs) (now lows) (now highs) (now costs) in
         ⌜ (slicesFault x ≡ 0) × (links ≤ length (now plan)) × (links ≤ length (now order)) × (links ≤ length (now half))
-        × (1 < length (now counts)) × (length (now counts) ≤ 256) × (probes ≤ length (now degrees)) ⌝ }
+        × (1 < length (now digits)) × (length (now digits) ≤ 256) × (probes ≤ length (now degrees)) ⌝ }
     ensures { λ r. let x = slicesOf number probes links (now (needs .entry)) (now (lows .entry)) (now (highs .entry)) (now (costs .entry)) in
         let printed = planText (tableOf x) in
         ⌜ Prints (outputFault (length (now (out .entry))) printed) printed r (now (out .entry)) (now (out .exit)) ⌝ }
@@ -35,7 +35,7 @@ pub fn print_plan(
         plan,
         order,
         half,
-        counts,
+        digits,
         degrees,
         links,
         needs,

@@ -9,7 +9,7 @@ ghost use Rattle.range.specs.Lists.{stored};
 ghost use Rattle.table.specs.Table.{item, ofSlices, spare};
 ghost use Rattle.table.specs.Legal.{linkFault, tableFault};
 ghost use Rattle.plan_theory.specs.Plan.{kept, planByte};
-ghost use Rattle.plan_turns_search.specs.Record.{keptByte};
+ghost use Rattle.plan_turns_search.specs.Record.{WorkingRoom, keptByte};
 
 // Takes the probes' needs off their numbers of links, down to 0.
 fn take_needs(counts: &mut [u16], probes: usize, needs: &[u16])
@@ -86,7 +86,7 @@ pub fn by_turns(
     site: &mut [u16],
     order: &mut [u16],
     half: &mut [u16],
-    counts: &mut [u16],
+    digits: &mut [u16],
     probes: usize,
     links: usize,
     needs: &[u16],
@@ -98,8 +98,7 @@ pub fn by_turns(
         ⌜ (tableFault 256 2048 t ≡ 0)
         × (probes ≤ length (now needs)) × (links ≤ length (now lows)) × (links ≤ length (now highs)) × (links ≤ length (now costs))
         × (links ≤ length (now plan)) × (4 * links ≤ length (now work))
-        × (probes ≤ length (now spares)) × (4 * probes ≤ length (now marks)) × (8 * links + probes + 2 ≤ length (now site))
-        × (links ≤ length (now order)) × (links ≤ length (now half)) × (1 < length (now counts)) × (length (now counts) ≤ 256) ⌝ }
+        × WorkingRoom probes links (length (now spares)) (length (now marks)) (length (now site)) (length (now order)) (length (now half)) (length (now digits)) ⌝ }
     ensures { λ _. let t = ofSlices 0 probes links (now (needs .entry)) (now (lows .entry)) (now (highs .entry)) (now (costs .entry)) in
         ⌜ now (plan .exit) ≡ stored (λ i. planByte (kept t i)) links (now (plan .entry)) ⌝ }
     ensures { λ _. ⌜ now (work .exit) ≡ replicate (length (now (work .entry))) 0 ⌝ }
@@ -111,7 +110,7 @@ pub fn by_turns(
         site,
         order,
         half,
-        counts,
+        digits,
         probes,
         links,
         lows,

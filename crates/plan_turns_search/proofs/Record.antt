@@ -12,6 +12,7 @@ use lib.Seq.{getD-set-same, getD-set-other}
 use borrow.Author.Tests.{ltb-true, lt-ltb, eqb-true, eq-eqb, ne-eqb}
 use Rattle.range.proofs.Bools.{same-bool}
 use Rattle.range.proofs.Sums.{weigh-le, count-less}
+use Rattle.table.specs.Table.{item}
 use Rattle.plan_turns_search.specs.Chain.{opposite}
 use Rattle.plan_turns_search.specs.Record.{atSource, atTarget, probesOf, linksOf, ofDirection, targetOf, sourceOf, keyOf, siteOf, put, untriedCount, SiteInSlice, SiteOfLinks, Paired, OffersReady}
 use Rattle.plan_turns_search.specs.Offers.{WouldTake, WouldRefuse}

@@ -103,6 +103,15 @@ pub record MarksAgree (x r marks : List ℕ) : Type 0 where
   pub cursors : (u : ℕ) → u < probesOf x → OfferSearch (siteOf x) (atSource r) u (mark marks u 2)
   pub lasts : (v : ℕ) → v < probesOf x → (d : ℕ) → d < 2 * linksOf x → targetOf x d ≡ v → HeldSearch (siteOf x) (atSource r) v (mark marks v 3)
 
+-- the slices that offers by turn work in are long enough
+pub record WorkingRoom (probes links spares marks site order half digits : ℕ) : Type 0 where
+  pub in-spares : probes ≤ spares
+  pub in-marks : 4 * probes ≤ marks
+  pub in-site : 8 * links + probes + 2 ≤ site
+  pub in-order : links ≤ order
+  pub in-half : links ≤ half
+  pub base : (1 < digits) × (digits ≤ 256)
+
 -- x has these links and spares
 pub record SiteOfLinks (probes links : ℕ) (lows highs costs spares x : List ℕ) : Type 0 where
   pub probe-count : probesOf x ≡ probes

@@ -5,7 +5,7 @@ ghost use lib.ListN.{length, set};
 ghost use Rattle.range.specs.Lists.{stored};
 ghost use Rattle.table.specs.Table.{item};
 ghost use Rattle.plan_turns_search.specs.Chain.{LinkedBy};
-ghost use Rattle.plan_turns_search.specs.Record.{ofDirection, mark, firstMark, SiteInSlice, SiteOfLinks, Started, LinkPut, LinksPut, SparesPut};
+ghost use Rattle.plan_turns_search.specs.Record.{ofDirection, mark, firstMark, SiteInSlice, WorkingRoom, SiteOfLinks, Started, LinkPut, LinksPut, SparesPut};
 use super::directions::COST;
 use super::directions::HELD_CURSOR;
 use super::directions::LINKS;
@@ -143,13 +143,13 @@ fn put_site(
     store(site, LINKS, links);
 }
 
-// The site, and the probes' marks before the first offer. It works in `order`, `half` and `counts`.
+// The site, and the probes' marks before the first offer. It works in `order`, `half` and `digits`.
 pub fn link_up(
     marks: &mut [u16],
     site: &mut [u16],
     order: &mut [u16],
     half: &mut [u16],
-    counts: &mut [u16],
+    digits: &mut [u16],
     probes: usize,
     links: usize,
     lows: &[u16],
@@ -157,15 +157,14 @@ pub fn link_up(
     costs: &[u16],
     spares: &[u16],
 )
-    requires { ⌜ (links ≤ 2048) × (probes ≤ 256) × (links ≤ length (now lows)) × (links ≤ length (now highs)) × (links ≤ length (now costs)) × (probes ≤ length (now spares))
-        × (links ≤ length (now order)) × (links ≤ length (now half)) × (1 < length (now counts)) × (length (now counts) ≤ 256)
-        × (4 * probes ≤ length (now marks)) × (8 * links + probes + 2 ≤ length (now site))
+    requires { ⌜ (links ≤ 2048) × (probes ≤ 256) × (links ≤ length (now lows)) × (links ≤ length (now highs)) × (links ≤ length (now costs))
+        × WorkingRoom probes links (length (now spares)) (length (now marks)) (length (now site)) (length (now order)) (length (now half)) (length (now digits))
         × ((i : ℕ) → i < links → (item (now lows) i < item (now highs) i) × (item (now highs) i < probes)) ⌝ }
     ensures { λ _. let x = now (site .exit) in
         ⌜ SiteInSlice x × SiteOfLinks probes links (now (lows .entry)) (now (highs .entry)) (now (costs .entry)) (now (spares .entry)) x × Started x (now (marks .exit)) ⌝ }
 {
     start_marks(marks);
-    plan_order::sorting::order_links(order, half, counts, links, costs);
+    plan_order::sorting::order_links(order, half, digits, links, costs);
     chain_links(marks, site, OFFER_CURSOR, links, lows, highs, order);
     turn_round(half, order, links);
     chain_links(marks, site, HELD_CURSOR, links, lows, highs, half);

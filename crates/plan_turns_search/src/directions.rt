@@ -17,7 +17,7 @@ pub const OFFER_CURSOR: usize = 2;
 
 pub const HELD_CURSOR: usize = 3;
 
-// A direction's entries: its target, its cost, and where the two searches go on.
+// A direction's entries: its target, its cost, and where the two searches go on, in the places of their cursors.
 pub const TARGET: usize = 0;
 
 pub const COST: usize = 1;

@@ -27,7 +27,7 @@ use Rattle.table.proofs.Answers.{checking-is}
 use Rattle.table.proofs.Largest.{table-most, text-most}
 use Rattle.table_read.specs.Reading.{Lent, lentOf, readingFault, Reads, ReadsTable}
 use Rattle.table_read.specs.declared.Reading.{Reading}
-use Rattle.table_read.specs.declared.Reading.the-variants.{Table as Read, Refused as Unread}
+use Rattle.table_read.specs.declared.Reading.the-variants.{Refused as Unread}
 use Rattle.table_read.proofs.Answers.{reads-answer}
 use Rattle.table_write.specs.Writing.{writeFault, Writes, WritesTable}
 use Rattle.table_write.specs.declared.Writing.{Writing}

@@ -8,7 +8,7 @@ use native.Mathlib.Omega.{arith}
 use lib.ListN.{length, length-replicate}
 use Rattle.table.specs.Table.{ofSlices}
 use Rattle.table.specs.Slices.{slicesOf}
-use Rattle.plan_methods.proofs.Answers.{turns-refused, turns-passed, few, legal, room, in-plan}
+use Rattle.plan_methods.proofs.Answers.{turns-refused, turns-passed, legal, room, in-plan, turns-room}
 
 turns-fault-requires : tie.Need-turns-fault-requires
 turns-fault-requires c κs = search needs
@@ -41,7 +41,6 @@ turns-answer-requires c κs =
     let a = c .before .before .before .before .before .before .before .before .before .before .before .before .before .before .before .before .args in
     let x = slicesOf 0 (a .probes) (a .links) (a .needs .now) (a .lows .now) (a .highs .now) (a .costs .now) in
     let both = turns-passed 16 40 x (length (a .plan .now)) (length (a .work .now)) (sym (c .before .before .before .before .before .before .before .before .before .turns-fault .ensures) ∙ c .before .before .before .before .before .before .before .before .if1 .left) in
-    let k = few 16 40 (a .probes) (a .links) (a .needs .now) (a .lows .now) (a .highs .now) (a .costs .now) (length (a .plan .now)) (omega arith) (omega arith) (both .1) in
     let t = legal 16 40 (a .probes) (a .links) (a .needs .now) (a .lows .now) (a .highs .now) (a .costs .now) (length (a .plan .now)) (omega arith) (omega arith) (both .1) in
     let r = room 16 40 (a .probes) (a .links) (a .needs .now) (a .lows .now) (a .highs .now) (a .costs .now) (length (a .plan .now)) (omega arith) (omega arith) (both .1) in
     let i = in-plan 16 40 (a .probes) (a .links) (a .needs .now) (a .lows .now) (a .highs .now) (a .costs .now) (length (a .plan .now)) (omega arith) (omega arith) (both .1) in
@@ -49,7 +48,7 @@ turns-answer-requires c κs =
     let p = length-replicate {A = ℕ} 16 0 in
     let m = length-replicate {A = ℕ} 64 0 in
     let s = length-replicate {A = ℕ} 338 0 in
-    (t, r, i, both .0, omega (arith, k .0), omega (arith, k .0), omega (arith, k .0, k .1), omega (arith, k .1), omega (arith, k .1), omega arith, omega arith)
+    (t, r, i, both .0, turns-room 16 40 (a .probes) (a .links) (a .needs .now) (a .lows .now) (a .highs .now) (a .costs .now) (length (a .plan .now)) (omega arith) (omega arith) (both .1) _ _ _ _ _ _ (omega arith) (omega arith) (omega arith) (omega arith) (omega arith) (omega arith, omega arith))
 
 same-length : tie.Need-same-length
 same-length c = search needs

@@ -1,6 +1,7 @@
 //! 02's well-head display: within 16 probes and 40 links the same as from the full calls, beyond 3.
 
 mod buffers;
+mod core;
 mod limits;
 mod random;
 mod small;

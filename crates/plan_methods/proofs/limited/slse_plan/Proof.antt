@@ -37,7 +37,7 @@ plan-in-order-requires c κs =
     let p = c .before .before .before .before .before .before .before .before .before .before .before .before .before .before .before .before .before .before .before .before .before .before .pre in
     let call = c .before .before .before .before .before .before .before .before .before .order-links in
     let r = room-good (p .probes) (a .links) (length (a .needs .now)) (length (a .lows .now)) (length (a .highs .now)) (length (a .costs .now)) (p .room) in
-    (order-fits (p .probes) (a .links) (a .needs .now) (a .lows .now) (a .highs .now) (a .costs .now) _ (length (a .degrees .now)) (in-order (p .probes) (a .links) (a .needs .now) (a .lows .now) (a .highs .now) (a .costs .now) _ (p .legal) (call .ensures)) (omega (arith, call .kept .0, p .in-order)) (r .needed) (r .linked) (omega arith) (p .in-degrees), p .in-plan)
+    (order-fits (p .probes) (a .links) (a .needs .now) (a .lows .now) (a .highs .now) (a .costs .now) _ (length (a .counts .now)) (in-order (p .probes) (a .links) (a .needs .now) (a .lows .now) (a .highs .now) (a .costs .now) _ (p .legal) (call .ensures)) (omega (arith, call .kept .0, p .in-order)) (r .needed) (r .linked) (omega arith) (p .in-counts), p .in-plan)
 
 same-length : tie.Need-same-length
 same-length c = search needs

@@ -15,7 +15,7 @@ by-turns-requires c κs =
     let a = c .before .before .before .before .before .before .before .before .before .before .before .before .before .before .before .before .before .before .before .before .args in
     let p = c .before .before .before .before .before .before .before .before .before .before .before .before .before .before .before .before .before .before .before .before .pre in
     let r = room-good (a .probes) (a .links) (length (a .needs .now)) (length (a .lows .now)) (length (a .highs .now)) (length (a .costs .now)) (p .1) in
-    (p .0, r .needed, r .linked, omega arith, omega arith, p .2, p .3, p .4, p .5, p .6, p .7, p .8, p .9, p .10)
+    (p .0, r .needed, r .linked, omega arith, omega arith, p .2, p .3, p .4)
 
 answer-requires : tie.Need-answer-requires
 answer-requires c κs =

@@ -20,15 +20,29 @@ find-spares-requires c κs =
     let a = c .before .before .before .before .before .before .before .before .before .before .before .before .before .before .before .before .before .args in
     let p = c .before .before .before .before .before .before .before .before .before .before .before .before .before .before .before .before .before .pre in
     let s = small (a .probes) (a .links) (a .needs .now) (a .lows .now) (a .highs .now) (a .costs .now) (p .0) in
-    (p .2, p .3, omega (arith, s .1), p .7, p .1, no-fault (a .probes) (a .links) (a .needs .now) (a .lows .now) (a .highs .now) (a .costs .now) (p .0))
+    (p .2, p .3, omega (arith, s .1), p .7 .in-spares, p .1, no-fault (a .probes) (a .links) (a .needs .now) (a .lows .now) (a .highs .now) (a .costs .now) (p .0))
 
 link-up-requires : tie.Need-link-up-requires
 link-up-requires c κs =
     let a = c .before .before .before .before .before .before .before .before .before .before .before .before .before .before .before .before .before .before .before .before .before .before .before .before .before .before .args in
     let p = c .before .before .before .before .before .before .before .before .before .before .before .before .before .before .before .before .before .before .before .before .before .before .before .before .before .before .pre in
     let s = small (a .probes) (a .links) (a .needs .now) (a .lows .now) (a .highs .now) (a .costs .now) (p .0) in
-    let f = c .before .before .before .before .before .before .before .before .find-spares in
-    (s .1, s .0, p .2, p .3, p .4, omega (arith, f .kept .0, p .7), p .10, p .11, p .12, p .13, p .8, p .9, λ i l. let e = ends (a .probes) (a .links) (a .needs .now) (a .lows .now) (a .highs .now) (a .costs .now) (p .0) i l in (e .rises, e .below))
+    let f = c .before .before .before .before .before .before .before .before .find-spares in (
+      s .1,
+      s .0,
+      p .2,
+      p .3,
+      p .4,
+      record {
+        in-spares = omega (arith, f .kept .0, p .7 .in-spares);
+        in-marks = p .7 .in-marks;
+        in-site = p .7 .in-site;
+        in-order = p .7 .in-order;
+        in-half = p .7 .in-half;
+        base = p .7 .base;
+      },
+      λ i l. let e = ends (a .probes) (a .links) (a .needs .now) (a .lows .now) (a .highs .now) (a .costs .now) (p .0) i l in (e .rises, e .below),
+    )
 
 take-turns-requires : tie.Need-take-turns-requires
 take-turns-requires c κs =
@@ -41,7 +55,7 @@ take-turns-requires c κs =
     let m = k .ensures .1 .link-count in
     let none : (j : ℕ) → item (w .last .0) j ≡ 0 = λ j. ap (λ (r : List ℕ). item r j) (w .ensures) ∙ zeros-at (length (a .work .now)) j in (
       zeros-ready x (w .last .0) (k .ensures .0) none (omega (arith, w .kept .0, p .6)),
-      zeros-kept x (w .last .0) (k .ensures .0) none (k .last .0) (omega (arith, k .kept .0, p .8)) (k .ensures .2),
+      zeros-kept x (w .last .0) (k .ensures .0) none (k .last .0) (omega (arith, k .kept .0, p .7 .in-marks)) (k .ensures .2),
       omega arith,
     )
 
