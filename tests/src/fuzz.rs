@@ -5,7 +5,7 @@ use crate::compare;
 use crate::compare_script;
 use crate::events::any_table;
 use crate::random::Random;
-use crate::reference::{plan_output, table_of_text, Behind, Caller, Table};
+use crate::reference::{plan_output, refusal_line, table_of_text, Behind, Caller, Table};
 use crate::sites::{banded, damage_header, damage_table, damage_text, legal};
 use std::collections::{BTreeMap, BTreeSet};
 use std::fmt;
@@ -163,7 +163,19 @@ fn script_input(random: &mut Random) -> Vec<u8> {
     }
 }
 
-/// Compares the plan program's function on an input, with a slice that may be too short.
+/// What the display prints for a text: the full output, or its own 3.
+fn displayed(text: &[u8], output: &[u8], random: &mut Random) -> &'static str {
+    let length = output.len().max(refusal_line(3).len());
+    let printed = compare::plan_text(Caller::Display, text, length, random);
+    if printed.as_deref() == Ok(output) {
+        return "the same from the display";
+    }
+    assert_eq!(printed, Ok(refusal_line(3)));
+    "3 from the display alone"
+}
+
+/// Compares the plan program's function on an input, with a slice that may be too short, and the
+/// display's.
 pub fn plan(random: &mut Random, tally: &mut Tally) {
     let text = plan_input(random);
     let output = plan_output(Caller::Full, &text);
@@ -188,6 +200,7 @@ pub fn plan(random: &mut Random, tally: &mut Tally) {
             _ => "several short probes",
         });
     }
+    things.insert(displayed(&text, &output, random));
     tally.count(things);
 }
 

@@ -1,4 +1,4 @@
--- The working bytes of the offers, and what each function promises of them.
+-- The working bytes of the offers, the slice of the site and the probes' marks, and what each function promises of them.
 use Prim.Native.Nat.{ℕ, _+_, _-_, _*_, _/_, _%_, _≤_, _<_}
 use mathlib.Core.Path.{_≡_}
 use mathlib.Core.Bool.{Bool, true, false, cond, _&&_}

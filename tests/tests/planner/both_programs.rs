@@ -22,6 +22,8 @@ fn fuzz_plans() {
     tally.assert_share(&short, 500);
     let refusals = ["e001", "e002", "e003", "e004", "e005", "e006"];
     tally.assert_share(&refusals, 100);
+    let display = ["the same from the display", "3 from the display alone"];
+    tally.assert_share(&display, 1_000);
     tally.assert_none("e007");
 }
 
