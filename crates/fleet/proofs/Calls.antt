@@ -12,7 +12,8 @@ use Rattle.range.specs.Reply.{refusal, values, replyOf}
 use Rattle.range.proofs.Faults.{or-here, or-none, or-through}
 use Rattle.table.specs.Table.{Table, ofSlices, between}
 use Rattle.table.specs.Slices.{sliceFault, Slices, tableOf, slicesFault, slicesOf}
-use Rattle.probe_frame.specs.Frame.{Frame, frameOf}
+use Rattle.probe_frame.specs.Frame.{Frame, frameOf, frameRead}
+use Rattle.probe_frame.specs.declared.FrameLine.{FrameLine}
 use Rattle.wake_log.specs.declared.Entry.{Entry}
 use Rattle.wake_log.specs.declared.Answer.{Answer}
 use Rattle.wake_log.specs.declared.Answer.the-variants.{Logged, Refused}
@@ -173,14 +174,15 @@ handled-next x room s l r after h = (handled-answer h, h .record-after ∙ go (e
     go true = refl
     go false = refl
 
--- what a line says, by the link that was found
-pub event-of : (number probes links : ℕ) (needs lows highs costs l : List ℕ) (link : ℕ) (v : Event)
-    → v ≡ cond (eqb (frameOf l .kind) 0) Opening (cond (eqb (frameOf l .kind) 1) (Offer link) (Refusal link))
-    → (eqb (frameOf l .kind) 0 ≡ false → link ≡ between (ofSlices 0 probes links [] lows highs []) (frameOf l .from) (frameOf l .to))
-    → v ≡ eventOf (ofSlices number probes links needs lows highs costs) (frameOf l)
-event-of number probes links needs lows highs costs l link v e f = e ∙ go (decided (eqb (frameOf l .kind) 0))
+-- what a line past its checks says, by the frame that was read and the link that was found
+pub read-says : (number probes links : ℕ) (needs lows highs costs l : List ℕ) (r : FrameLine) (link : ℕ) (v : Event) → frameRead r ≡ frameOf l
+    → v ≡ cond (eqb (r .kind) 0) Opening (cond (eqb (r .kind) 1) (Offer link) (Refusal link))
+    → (eqb (r .kind) 0 ≡ false → link ≡ between (ofSlices 0 probes links [] lows highs []) (r .from) (r .to))
+    → (v ≡ eventOf (ofSlices number probes links needs lows highs costs) (frameOf l)) × (r .from ≡ frameOf l .from) × (r .to ≡ frameOf l .to)
+read-says number probes links needs lows highs costs l r link v same e f =
+    (e ∙ go (decided (eqb (r .kind) 0)) ∙ ap (eventOf (ofSlices number probes links needs lows highs costs)) same, ap (λ (f : Frame). f .from) same, ap (λ (f : Frame). f .to) same)
   where
-    go : (eqb (frameOf l .kind) 0 ≡ true) ⊎ (eqb (frameOf l .kind) 0 ≡ false)
-        → cond (eqb (frameOf l .kind) 0) Opening (cond (eqb (frameOf l .kind) 1) (Offer link) (Refusal link)) ≡ eventOf (ofSlices number probes links needs lows highs costs) (frameOf l)
+    go : (eqb (r .kind) 0 ≡ true) ⊎ (eqb (r .kind) 0 ≡ false)
+        → cond (eqb (r .kind) 0) Opening (cond (eqb (r .kind) 1) (Offer link) (Refusal link)) ≡ eventOf (ofSlices number probes links needs lows highs costs) (frameRead r)
     go (inl k) = rw k
     go (inr k) = rw (k, f k)

@@ -1,17 +1,33 @@
 -- What the checks of a line give.
 use Prim.Native.Nat.{ℕ, _<_}
-use mathlib.Core.Path.{_≡_}
+use mathlib.Core.Path.{_≡_, sym, _∙_, ap}
 use mathlib.Core.List.{List}
 use native.Mathlib.Omega.{arith}
+use Rattle.range.proofs.Faults.{or-here, or-none}
 use Rattle.table.specs.Table.{Table}
 use Rattle.table.specs.Legal.{Legal}
 use Rattle.table.proofs.LegalLaws.{legal-table}
 use Rattle.plan_theory.specs.Criterion.{Across, up, down}
-use Rattle.probe_frame.specs.Frame.{Frame, frameOf}
+use Rattle.probe_frame.specs.Frame.{Frame, frameOf, frameFault, frameRead, ReadsFrame}
+use Rattle.probe_frame.specs.declared.FrameLine.{FrameLine}
 use Rattle.probe_rules.specs.Within.{EventWithin}
 use Rattle.fleet_theory.specs.Fleet.{eventLineFault, eventOf}
 pub use Rattle.fleet_theory.proofs.Lines.{line-frame}
+use Rattle.fleet_theory.proofs.Lines.{frameChecks}
 use Rattle.fleet_theory.proofs.Events.{Says, an-opening, an-offer, a-refusal, says}
+
+-- a line by the frame that was read of it
+module _ (t : Table) (l : List ℕ) (r : FrameLine) (reads : ReadsFrame l r) where
+  -- 1 or 2
+  pub line-turned : (r .fault ≡ 0 → ⊥) → r .fault ≡ eventLineFault t l
+  line-turned n = or-here (r .fault) (frameFault l) (frameChecks t (frameOf l)) (reads .0) n
+
+  -- 9, 23, 24, or none
+  pub line-checked : r .fault ≡ 0 → (n : ℕ) → n ≡ frameChecks t (frameRead r) → n ≡ eventLineFault t l
+  line-checked z n e = e ∙ ap (frameChecks t) (reads .1 z) ∙ sym (or-none (frameFault l) (frameChecks t (frameOf l)) (sym (reads .0) ∙ z))
+
+  pub line-read : eventLineFault t l ≡ 0 → frameRead r ≡ frameOf l
+  line-read e = reads .1 (reads .0 ∙ line-frame t l e)
 
 -- a line past the checks before 27
 module _ (t : Table) (l : List ℕ) (e : eventLineFault t l ≡ 0) where

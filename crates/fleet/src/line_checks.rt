@@ -2,12 +2,12 @@
 use super::LineEnds;
 ghost use mathlib.Core.Path.{_≡_};
 ghost use mathlib.Core.Bool.{false, cond};
-ghost use mathlib.Core.List.{[]};
+ghost use mathlib.Core.List.{List, []};
 ghost use Prim.Native.Nat.{ℕ, _/_};
 ghost use lib.Dec.{eqb};
 ghost use lib.ListN.{length};
 ghost use Rattle.table.specs.Table.{ofSlices, between};
-ghost use Rattle.probe_frame.specs.Frame.{frameOf, frameFault};
+ghost use Rattle.probe_frame.specs.Frame.{ReadsFrame};
 ghost use Rattle.probe_rules.specs.declared.Event.the-variants.{Opening, Offer, Refusal};
 ghost use Rattle.probe_rules.specs.Within.{EventWithin};
 ghost use Rattle.table_links.specs.RisingSlices.{RisingSlices};
@@ -50,44 +50,36 @@ fn find_ends(
     LineEnds { fault: 0, link }
 }
 
-// 1, 2, 9, 23, 24 of a line.
+// 1, 2, 9, 23, 24 of a line, by the frame that was read of it.
 pub fn check_line(
     number: u16,
     probes: usize,
     links: usize,
     lows: &[u16],
     highs: &[u16],
-    line: &[u8],
+    frame: probe_frame::FrameLine,
 ) -> LineEnds
     requires { ⌜ RisingSlices links (now lows) (now highs) ⌝ }
     ensures { λ r. let t = ofSlices number probes links [] (now (lows .entry)) (now (highs .entry)) [] in
-        let f = frameOf (now (line .entry)) in
-        ⌜ (r .fault ≡ eventLineFault t (now (line .entry)))
-        × (r .fault ≡ 0 → eqb (f .kind) 0 ≡ false → r .link ≡ between t (f .from) (f .to)) ⌝ }
+        ⌜ ((l : List ℕ) → ReadsFrame l frame → r .fault ≡ eventLineFault t l)
+        × (r .fault ≡ 0 → eqb (frame .kind) 0 ≡ false → r .link ≡ between t (frame .from) (frame .to)) ⌝ }
 {
-    let fault = probe_frame::frame_line::frame_fault(line);
-    if fault != 0 {
-        return refused(fault);
+    if frame.fault != 0 {
+        return refused(frame.fault);
     }
-    let kind = probe_frame::frame_line::field(line, 0, 2);
-    if 2 < kind {
+    if 2 < frame.kind {
         return refused(9);
     }
-    if probe_frame::frame_line::field(line, 2, 4) != table::numbers::wide(number) {
+    if frame.number != table::numbers::wide(number) {
         return refused(23);
     }
-    let from = probe_frame::frame_line::field(line, 6, 4);
-    let to = probe_frame::frame_line::field(line, 10, 4);
-    find_ends(probes, links, lows, highs, kind, from, to)
+    find_ends(probes, links, lows, highs, frame.kind, frame.from, frame.to)
 }
 
-// What a line that was not turned down says, by the link between a frame's ends.
-pub fn line_event(line: &[u8], link: usize) -> probe_rules::Event
-    requires { ⌜ frameFault (now line) ≡ 0 ⌝ }
-    ensures { λ r. let kind = frameOf (now (line .entry)) .kind in
-        ⌜ r ≡ cond (eqb kind 0) Opening (cond (eqb kind 1) (Offer link) (Refusal link)) ⌝ }
+// What a line that was not turned down says, by its kind and the link between a frame's ends.
+pub fn line_event(kind: usize, link: usize) -> probe_rules::Event
+    ensures { λ r. ⌜ r ≡ cond (eqb kind 0) Opening (cond (eqb kind 1) (Offer link) (Refusal link)) ⌝ }
 {
-    let kind = probe_frame::frame_line::field(line, 0, 2);
     if kind == 0 {
         return probe_rules::Event::Opening;
     }

@@ -64,20 +64,19 @@ pub fn handle_line(
     ensures { λ r. let x = slicesOf number probes links (now (needs .entry)) (now (lows .entry)) (now (highs .entry)) (now (costs .entry)) in
         ⌜ Handled x used room (now (line .entry)) r (now (rec .entry)) (now (rec .exit)) ⌝ }
 {
-    let ends = super::line_checks::check_line(number, probes, links, lows, highs, line);
+    let frame = probe_frame::frame_line::read_frame(line);
+    let ends = super::line_checks::check_line(number, probes, links, lows, highs, frame);
     if ends.fault != 0 {
         return wake_log::Answer::Refused(ends.fault);
     }
-    let event = super::line_checks::line_event(line, ends.link);
-    let from = probe_frame::frame_line::field(line, 6, 4);
-    let unsent = super::line_checks::unsent_fault(event, lows, highs, rec, from);
+    let event = super::line_checks::line_event(frame.kind, ends.link);
+    let unsent = super::line_checks::unsent_fault(event, lows, highs, rec, frame.from);
     if unsent != 0 {
         return wake_log::Answer::Refused(unsent);
     }
     if room <= used {
         return wake_log::Answer::Refused(26);
     }
-    let to = probe_frame::frame_line::field(line, 10, 4);
     let e = apply(
         event,
         links,
@@ -86,7 +85,7 @@ pub fn handle_line(
         lows,
         highs,
         costs,
-        to as u16,
+        frame.to as u16,
         rec,
     );
     wake_log::Answer::Logged(e)

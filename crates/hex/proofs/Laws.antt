@@ -1,15 +1,18 @@
 -- Laws of digits, over the width.
 use Prim.Native.Nat.{ℕ, zero, suc, _+_, _-_, _*_, _/_, _%_, _^_, _≤_, _<_}
 use mathlib.Core.Path.{_≡_, refl, sym, _∙_, ap}
+use mathlib.Core.Logic.{_⊎_, inl, inr}
+use mathlib.Core.Bool.{true, false, _&&_}
 use mathlib.Core.List.{List, [], _∷_, _++_}
 use native.Mathlib.Nat.{pow-suc, pow-le-pow-right, add-zero}
 use native.Mathlib.Numerals.{add-one}
 use native.Mathlib.Omega.{arith}
 use native.Mathlib.Decide.{decLe, decLt}
+use lib.Dec.{ltb}
 use lib.ListN.{length, getD, take, drop, set, length-append, length-drop, List·getD-append}
 use lib.Seq.{take-suc, getD-drop, sets, getD-at, set-comm}
 use borrow.Author.Tests.{lt-ltb, le-ltb, le-leb, lt-leb}
-use Rattle.hex.specs.Digits.{valueOf, digitOf, numberAt, digits}
+use Rattle.hex.specs.Digits.{valueOf, digitOf, numberAt, areDigits, digits}
 
 -- The value of a byte, by its range.
 
@@ -91,11 +94,56 @@ pub number-next : (s : List ℕ) (at i : ℕ) → numberAt s at (i + 1) ≡ numb
 unfolding numberAt
 number-next s at i = rw (add-one i)
 
-pub number-bound : (s : List ℕ) (at w : ℕ) → w ≤ 4 → numberAt s at w < 1114112
+pub number-bound : (s : List ℕ) (at w : ℕ) → w ≤ 13 → numberAt s at w < 76561193665298432
 number-bound s at w l =
     let n = number-small s at w in
-    let p : 16 ^ w ≤ 16 ^ 4 = pow-le-pow-right (omega arith) l in
+    let p : 16 ^ w ≤ 16 ^ 13 = pow-le-pow-right (omega arith) l in
     omega arith
+
+-- The values of bytes, added up.
+abbrev pub valueSum : List ℕ → ℕ → ℕ → ℕ
+valueSum s at zero = 0
+valueSum s at (suc w) = valueSum s at w + valueOf (getD s (at + w) 0)
+
+pub sum-next : (s : List ℕ) (at i : ℕ) → valueSum s at (i + 1) ≡ valueSum s at i + valueOf (getD s (at + i) 0)
+sum-next s at i = rw (add-one i)
+
+pub sum-bound : (s : List ℕ) (at w : ℕ) → valueSum s at w ≤ 255 * w
+sum-bound s at zero = omega arith
+sum-bound s at (suc w) =
+    let n = sum-bound s at w in
+    let v = value-le (getD s (at + w) 0) in
+    omega arith
+
+digit-or-255 : (b : ℕ) → (valueOf b < 16) ⊎ (valueOf b ≡ 255)
+digit-or-255 b = go (range b)
+  where
+    go : Range b → (valueOf b < 16) ⊎ (valueOf b ≡ 255)
+    go (decimal l h e) = inl (omega arith)
+    go (letter l h e) = inl (omega arith)
+    go (other e) = inr e
+
+sum-tells : (s : List ℕ) (at w : ℕ) → ((areDigits s at w ≡ true) × (valueSum s at w ≤ 15 * w)) ⊎ ((areDigits s at w ≡ false) × (255 ≤ valueSum s at w))
+unfolding areDigits
+sum-tells s at zero = inl (refl, omega arith)
+sum-tells s at (suc w) = go (sum-tells s at w) (digit-or-255 (getD s (at + w) 0))
+  where
+    v : ℕ
+    v = valueOf (getD s (at + w) 0)
+
+    go : ((areDigits s at w ≡ true) × (valueSum s at w ≤ 15 * w)) ⊎ ((areDigits s at w ≡ false) × (255 ≤ valueSum s at w)) → (v < 16) ⊎ (v ≡ 255)
+        → ((areDigits s at w && ltb v 16 ≡ true) × (valueSum s at w + v ≤ 15 * suc w)) ⊎ ((areDigits s at w && ltb v 16 ≡ false) × (255 ≤ valueSum s at w + v))
+    go (inl (e, l)) (inl d) = inl (rw (e, lt-ltb v 16 d), omega arith)
+    go (inl (e, l)) (inr n) = inr (rw (e, le-ltb v 16 (omega arith)), omega arith)
+    go (inr (e, l)) d = inr (rw e, omega arith)
+
+-- at most 16 digits stay below 255
+pub good-by-sum : (s : List ℕ) (at w : ℕ) → w ≤ 16 → ltb (valueSum s at w) 255 ≡ areDigits s at w
+good-by-sum s at w l = go (sum-tells s at w)
+  where
+    go : ((areDigits s at w ≡ true) × (valueSum s at w ≤ 15 * w)) ⊎ ((areDigits s at w ≡ false) × (255 ≤ valueSum s at w)) → ltb (valueSum s at w) 255 ≡ areDigits s at w
+    go (inl (e, k)) = rw e (lt-ltb (valueSum s at w) 255 (omega arith))
+    go (inr (e, k)) = rw e (le-ltb (valueSum s at w) 255 k)
 
 pub number-fits : (s : List ℕ) (at w : ℕ) → ((j : ℕ) → j < w → valueOf (getD s (at + j) 0) < 16) → numberAt s at w < 16 ^ w
 unfolding numberAt
@@ -105,6 +153,21 @@ number-fits s at (suc w) h =
     let v = h w (omega arith) in
     let p = pow-suc 16 w in
     omega arith
+
+-- four digits behind others
+number-join : (s : List ℕ) (at u : ℕ) → numberAt s at (u + 4) ≡ numberAt s at u * 65536 + numberAt s (at + u) 4
+unfolding numberAt
+number-join s at u =
+    let e : u + 4 ≡ suc (suc (suc (suc u))) = omega arith in
+    let a : at + suc u ≡ at + u + 1 = omega arith in
+    let b : at + suc (suc u) ≡ at + u + 2 = omega arith in
+    let d : at + suc (suc (suc u)) ≡ at + u + 3 = omega arith in
+    let z : at + u + 0 ≡ at + u = omega arith in
+    rw (e, a, b, d, z) (omega arith)
+
+-- the last four digits, and those before them
+pub number-parts : (s : List ℕ) (at u : ℕ) → numberAt s (at + u) 4 < 65536 → (numberAt s at (u + 4) / 65536 ≡ numberAt s at u) × (numberAt s at (u + 4) % 65536 ≡ numberAt s (at + u) 4)
+number-parts s at u small = let e = number-join s at u in (omega arith, omega arith)
 
 pub length-digits : (w v : ℕ) → length (digits w v) ≡ w
 unfolding digits

@@ -1,6 +1,6 @@
 -- Numbers as lower-case hexadecimal digits.
 use Prim.Native.Nat.{ℕ, zero, suc, _+_, _-_, _*_, _/_, _%_}
-use mathlib.Core.Bool.{cond, _&&_}
+use mathlib.Core.Bool.{Bool, true, cond, _&&_}
 use mathlib.Core.List.{List, [], _∷_, _++_}
 use lib.Dec.{leb, ltb}
 use lib.ListN.{getD}
@@ -17,6 +17,11 @@ digitOf v = cond (ltb v 10) (v + 48) (v + 87)
 unfoldable pub numberAt : List ℕ → ℕ → ℕ → ℕ
 numberAt s at zero = 0
 numberAt s at (suc w) = numberAt s at w * 16 + valueOf (getD s (at + w) 0)
+
+-- whether each of the w bytes from an offset is a digit
+unfoldable pub areDigits : List ℕ → ℕ → ℕ → Bool
+areDigits s at zero = true
+areDigits s at (suc w) = areDigits s at w && ltb (valueOf (getD s (at + w) 0)) 16
 
 -- the w digits that write v, the highest first
 unfoldable pub digits : ℕ → ℕ → List ℕ

@@ -1,28 +1,48 @@
 // Fields of digits. The table's reader and writer, the frames and the programs call these, within the bounds that they ask.
 ghost use mathlib.Core.Path.{_≡_};
-ghost use Prim.Native.Nat.{_+_, _≤_, _<_};
-ghost use lib.ListN.{length};
+ghost use Prim.Native.Nat.{ℕ, _+_, _≤_, _<_};
+ghost use lib.ListN.{length, getD};
 ghost use lib.Seq.{sets};
-ghost use Rattle.hex.specs.Digits.{digitOf, numberAt, digits};
+ghost use Rattle.hex.specs.Digits.{valueOf, digitOf, numberAt, areDigits, digits};
 
-// The number that the digits from an offset write. A byte that is no digit counts 255.
-pub fn number(text: &[u8], at: usize, width: usize) -> usize
-    requires { ⌜ (at + width ≤ length (now text)) × (width ≤ 4) ⌝ }
-    ensures { λ r. ⌜ r ≡ numberAt (now (text .entry)) at width ⌝ }
-{
-    let mut n: usize = 0;
-    let mut i = 0;
-    while i < width {
-        n = n * 16 + wide(super::value(text[at + i]));
-        i += 1;
-    }
-    n
+// Bytes that were read: the number that they write as digits, and whether each is a digit.
+pub struct Digits {
+    pub number: usize,
+    pub good: bool,
 }
 
 fn wide(x: u8) -> usize
     ensures { λ r. ⌜ r ≡ x ⌝ }
 {
     x as usize
+}
+
+// In one pass, by the table of the bytes' values. No 14 digits have values that add up to 255, which a byte that is no digit has alone.
+fn read_by(values: &[u8], text: &[u8], at: usize, width: usize) -> Digits
+    requires { ⌜ ((b : ℕ) → b < 256 → getD (now values) b 0 ≡ valueOf b) × (length (now values) ≡ 256) × (at + width ≤ length (now text)) × (width ≤ 14) ⌝ }
+    ensures { λ r. ⌜ (r .number ≡ numberAt (now (text .entry)) at width) × (r .good ≡ areDigits (now (text .entry)) at width) ⌝ }
+{
+    let mut number: usize = 0;
+    let mut sum: usize = 0;
+    let mut i = 0;
+    while i < width {
+        let value = wide(values[wide(text[at + i])]);
+        number = number * 16 + value;
+        sum += value;
+        i += 1;
+    }
+    Digits {
+        number,
+        good: sum < 255,
+    }
+}
+
+// The bytes from an offset on, read as digits.
+pub fn read_digits(text: &[u8], at: usize, width: usize) -> Digits
+    requires { ⌜ (at + width ≤ length (now text)) × (width ≤ 14) ⌝ }
+    ensures { λ r. ⌜ (r .number ≡ numberAt (now (text .entry)) at width) × (r .good ≡ areDigits (now (text .entry)) at width) ⌝ }
+{
+    read_by(&super::values::VALUES, text, at, width)
 }
 
 // The byte of a digit value.

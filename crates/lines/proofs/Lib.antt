@@ -2,3 +2,4 @@ pub mod Feeds
 pub mod Lines
 pub mod Parts
 pub mod Numbers
+pub mod Alone

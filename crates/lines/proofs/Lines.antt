@@ -1,17 +1,18 @@
 -- Lines that are there, and lines of digits that have no fault.
-use Prim.Native.Nat.{ℕ, _+_, _<_}
+use Prim.Native.Nat.{ℕ, zero, suc, _+_, _^_, _≤_, _<_}
 use mathlib.Core.Path.{_≡_, refl, sym, _∙_, ap}
-use mathlib.Core.Bool.{Bool, true, false, cond}
+use mathlib.Core.Bool.{Bool, true, false, cond, _&&_}
 use mathlib.Core.List.{List}
 use native.Mathlib.Omega.{arith}
 use lib.Dec.{ltb, eqb}
 use lib.ListN.{length, getD, drop, length-drop}
 use lib.Seq.{getD-drop}
 use borrow.Author.Tests.{ltb-true, lt-ltb, eqb-true, eq-eqb, ne-eqb}
-use Rattle.range.specs.First.{first}
+use Rattle.range.specs.First.{orElse, first}
 use Rattle.range.proofs.Bools.{unless-none}
 use Rattle.range.proofs.Faults.{or-left, or-right, first-all, none-first}
-use Rattle.hex.specs.Digits.{valueOf}
+use Rattle.hex.specs.Digits.{valueOf, numberAt, areDigits}
+use Rattle.hex.proofs.Laws.{number-fits}
 use Rattle.lines.specs.Line.{untilFeed, lineAt}
 use Rattle.lines.specs.Digits.{lengthFault, digitFault, lineFault}
 use Rattle.lines.specs.declared.Line.{Line}
@@ -75,7 +76,7 @@ feed-value : valueOf 10 ≡ 255
 unfolding valueOf
 feed-value = refl
 
-until-width : (s : List ℕ) (at width : ℕ) → GoodLine s at width → untilFeed (drop at s) ≡ width
+pub until-width : (s : List ℕ) (at width : ℕ) → GoodLine s at width → untilFeed (drop at s) ≡ width
 until-width s at width g = until-is (drop at s) width (simp length-drop (omega arith)) (getD-drop at s width 0 ∙ g .feed) before
   where
     before : (j : ℕ) → j < width → getD (drop at s) j 0 ≡ 10 → ⊥
@@ -95,15 +96,60 @@ pub good-next : (s : List ℕ) (at width : ℕ) → GoodLine s at width → line
 unfolding lineAt
 good-next s at width g = rw (until-width s at width g, lt-ltb (at + width) (length s) (g .within))
 
--- How the code comes to a line's fault.
-pub fault-of-length : (s : List ℕ) (at width start len : ℕ) → lineAt s at .line ≡ Here start len → (len ≡ width → ⊥) → 1 ≡ lineFault s at width
-unfolding lineFault
-fault-of-length s at width start len h n = rw (h, ne-eqb len width n)
+-- a number of four digits in a line without a fault
+pub field-fits : (s : List ℕ) (at width d : ℕ) → GoodLine s at width → d + 4 ≤ width → numberAt s (at + d) 4 < 65536
+field-fits s at width d g l =
+    let same : (j : ℕ) → at + d + j ≡ at + (d + j) = λ j. omega arith in
+    let n : numberAt s (at + d) 4 < 16 ^ 4 = number-fits s (at + d) 4 (λ j k. rw (same j) (g .digits (d + j) (omega arith))) in
+    n
 
+-- How the code comes to a line's fault.
+
+-- no line feed stands behind so many bytes
+pub fault-of-feed : (s : List ℕ) (at width : ℕ) → (at + width < length s → getD s (at + width) 0 ≡ 10 → ⊥) → 1 ≡ lineFault s at width
+unfolding lineFault
+fault-of-feed s at width none = go (lineAt s at .line) refl
+  where
+    go : (l : Line) → lineAt s at .line ≡ l → 1 ≡ orElse (lengthFault width l) (first (λ j. digitFault (getD s (at + j) 0)) width)
+    go (Here start len) h =
+        let t = there s at start len h in
+        let k = t .closes in
+        let w = t .within in
+        let inside : untilFeed (drop at s) < length (drop at s) = simp length-drop (omega arith) in
+        let feed : len ≡ width → getD s (at + width) 0 ≡ 10 =
+        λ e. ap (λ (m : ℕ). getD s (at + m) 0) (sym e ∙ k) ∙ sym (getD-drop at s (untilFeed (drop at s)) 0) ∙ until-at (drop at s) inside in
+        rw (ne-eqb len width (λ e. none (omega arith) (feed e)))
+    go Missing h = refl
+
+-- a line that is missing
 pub fault-of-missing : (s : List ℕ) (at width : ℕ) → lineAt s at .line ≡ Missing → 1 ≡ lineFault s at width
 unfolding lineFault
 fault-of-missing s at width h = rw h
 
-pub fault-of-digits : (s : List ℕ) (at width start len r : ℕ) → lineAt s at .line ≡ Here start len → len ≡ width → r ≡ first (λ j. digitFault (getD s (start + j) 0)) width → r ≡ lineFault s at width
+-- a line of another length
+pub fault-of-length : (s : List ℕ) (at width start len : ℕ) → lineAt s at .line ≡ Here start len → (len ≡ width → ⊥) → 1 ≡ lineFault s at width
 unfolding lineFault
-fault-of-digits s at width start len r h n e = e ∙ ap (λ (k : ℕ). first (λ j. digitFault (getD s (k + j) 0)) width) (there s at start len h .starts) ∙ rw (h, eq-eqb len width n)
+fault-of-length s at width start len h n = rw (h, ne-eqb len width n)
+
+digits-first : (s : List ℕ) (at w : ℕ) → first (λ j. digitFault (getD s (at + j) 0)) w ≡ cond (areDigits s at w) 0 2
+unfolding first areDigits
+digits-first s at zero = refl
+digits-first s at (suc w) = rw (digits-first s at w) (go (areDigits s at w) (ltb (valueOf (getD s (at + w) 0)) 16))
+  where
+    go : (a b : Bool) → orElse (cond a 0 2) (cond b 0 2) ≡ cond (a && b) 0 2
+    go true b = refl
+    go false b = refl
+
+-- a byte of it is no digit
+pub fault-of-digits : (s : List ℕ) (at width start len : ℕ) → lineAt s at .line ≡ Here start len → len ≡ width → areDigits s at width ≡ false → 2 ≡ lineFault s at width
+unfolding lineFault
+fault-of-digits s at width start len h n bad = rw (h, eq-eqb len width n, digits-first s at width, bad)
+
+are-digits : (s : List ℕ) (at w : ℕ) → areDigits s at w ≡ true → (j : ℕ) → j < w → valueOf (getD s (at + j) 0) < 16
+are-digits s at w e j l =
+    ltb-true (valueOf (getD s (at + j) 0)) 16
+    (unless-none (ltb (valueOf (getD s (at + j) 0)) 16) 1 (first-all (λ j. digitFault (getD s (at + j) 0)) w j (digits-first s at w ∙ rw e) l))
+
+-- so many digits, and a line feed behind them
+pub fault-of-none : (s : List ℕ) (at width : ℕ) → at + width < length s → getD s (at + width) 0 ≡ 10 → areDigits s at width ≡ true → 0 ≡ lineFault s at width
+fault-of-none s at width l e d = sym (good-line s at width (record { within = l; feed = e; digits = are-digits s at width d }))

@@ -3,9 +3,6 @@ ghost use mathlib.Core.Path.{_≡_};
 ghost use lib.ListN.{length};
 ghost use lib.Dec.{leb};
 ghost use Rattle.lines.specs.Line.{lineAt};
-ghost use Rattle.lines.specs.Digits.{lineFault};
-
-pub mod checks;
 
 // A line by its place in the text, without its line feed. `Missing`: no line feed closes one.
 pub enum Line {
@@ -44,13 +41,4 @@ pub fn is_end(text: &[u8], at: usize) -> bool
     ensures { λ r. ⌜ r ≡ leb (length (now (text .entry))) at ⌝ }
 {
     text.len() <= at
-}
-
-// 1, then 2, of the line of so many digits that starts at an offset.
-pub fn line_fault(text: &[u8], at: usize, width: usize) -> u8
-    ensures { λ r. ⌜ r ≡ lineFault (now (text .entry)) at width ⌝ }
-{
-    let found = find_line(text, at);
-    let line = found.line;
-    checks::found_fault(text, line, width)
 }

@@ -84,7 +84,7 @@ pub fn hear(
     ensures { λ r. let x = slicesOf number probes links (now (needs .entry)) (now (lows .entry)) (now (highs .entry)) (now (costs .entry)) in
         ⌜ Hears x probe (now (frame .entry)) free r (now (rec .entry)) (now (rec .exit)) ⌝ }
 {
-    let fault = probe_checks::faults::hear_fault(
+    let heard = probe_checks::faults::check_hearing(
         number,
         probes as usize,
         links as usize,
@@ -97,10 +97,10 @@ pub fn hear(
         frame,
         free,
     );
-    if fault != 0 {
-        return wake_log::Answer::Refused(fault);
+    if heard.fault != 0 {
+        return wake_log::Answer::Refused(heard.fault);
     }
-    let event = probe_checks::faults::event_of(links as usize, lows, highs, frame);
+    let event = heard.event;
     let e = steps::apply(event, links as usize, needs, lows, highs, costs, probe, rec);
     wake_log::Answer::Logged(e)
 }

@@ -1,6 +1,6 @@
 -- What it means that a call of an end has no fault.
 use Prim.Native.Nat.{ℕ, _≤_, _<_}
-use mathlib.Core.Path.{_≡_}
+use mathlib.Core.Path.{_≡_, sym, _∙_, ap}
 use mathlib.Core.Logic.{_⊎_, inl, inr}
 use mathlib.Core.Bool.{true, false, _&&_, _||_}
 use mathlib.Core.List.{List}
@@ -10,26 +10,29 @@ use native.Mathlib.Decide.{ℕ-discrete}
 use borrow.Author.Tests.{ltb-true, eqb-true, ne-eqb}
 use Rattle.range.specs.First.{orElse}
 use Rattle.range.proofs.Bools.{and-left, and-right, unless-none, decided}
-use Rattle.range.proofs.Faults.{or-left, or-right, or-through, or-past}
+use Rattle.range.proofs.Faults.{or-here, or-none, or-left, or-right, or-through, or-past}
 use Rattle.table.specs.Table.{Table, touches, between}
-use Rattle.probe_frame.specs.Frame.{Frame, frameOf, frameFault}
+use Rattle.probe_frame.specs.Frame.{Frame, frameOf, frameFault, frameRead, ReadsFrame}
+use Rattle.probe_frame.specs.declared.FrameLine.{FrameLine}
 use Rattle.probe_record.specs.Record.{recordFault}
+use Rattle.probe_rules.specs.declared.Event.{Event}
+use Rattle.probe_rules.specs.declared.Event.the-variants.{Opening}
 use Rattle.probe_rules.specs.Frames.{numberFault, heardOf}
 use Rattle.probe_rules.specs.Within.{EventWithin}
-use Rattle.probe_checks.specs.Checks.{frameKindFault, toFault, probeFault, ownLinkFault, untriedFault, fullFault, heardFault, hearFault, openFault, linkCallFault}
+use Rattle.probe_checks.specs.Checks.{frameKindFault, toFault, probeFault, ownLinkFault, untriedFault, fullFault, heardFault, HearsFrame, hearFault, openFault, linkCallFault}
+
+-- 9, 23, 24 of a frame
+abbrev pub heardChecks : Table → ℕ → Frame → ℕ
+heardChecks t p f = orElse (frameKindFault f) (orElse (numberFault t f) (toFault t p f))
 
 module _ (t : Table) (p : ℕ) (l : List ℕ) (e : heardFault t p l ≡ 0) where
   abbrev f : Frame
   f = frameOf l
 
-  pub heard-frame : frameFault l ≡ 0
-  unfolding heardFault
-  heard-frame = or-left (frameFault l) (orElse (frameKindFault f) (orElse (numberFault t f) (toFault t p f))) e
-
   to-passes : (eqb (f .to) p && ltb (between t (f .from) (f .to)) (t .links)) ≡ true
   unfolding heardFault
   to-passes =
-      let a = or-right (frameFault l) (orElse (frameKindFault f) (orElse (numberFault t f) (toFault t p f))) e in
+      let a = or-right (frameFault l) (heardChecks t p f) e in
       let b = or-right (frameKindFault f) (orElse (numberFault t f) (toFault t p f)) a in
       let c = or-right (numberFault t f) (toFault t p f) b in
       unless-none (eqb (f .to) p && ltb (between t (f .from) (f .to)) (t .links)) 23 c
@@ -99,6 +102,26 @@ module _ (slices : ℕ) (t : Table) (p : ℕ) (e : List ℕ) where
     pub link-late : (i : ℕ) → orElse slices (recordFault t p e) ≡ 0 → r ≡ ownLinkFault t p i → r ≡ linkCallFault slices t p e i
     unfolding linkCallFault
     link-late i = or-past r slices (recordFault t p e) (ownLinkFault t p i)
+
+-- A frame as the code reads it.
+
+module _ (t : Table) (p : ℕ) (l : List ℕ) (r : FrameLine) (reads : ReadsFrame l r) where
+  -- 1 or 2
+  pub heard-turned : (r .fault ≡ 0 → ⊥) → HearsFrame t p l (record { fault = r .fault; event = Opening })
+  unfolding heardFault
+  heard-turned n = (or-here (r .fault) (frameFault l) (heardChecks t p (frameOf l)) (reads .0) n, λ z. absurd (n z))
+
+  module _ (z : r .fault ≡ 0) where
+    of-frame : (n : ℕ) → n ≡ heardChecks t p (frameRead r) → n ≡ heardFault t p l
+    unfolding heardFault
+    of-frame n e = e ∙ ap (heardChecks t p) (reads .1 z) ∙ sym (or-none (frameFault l) (heardChecks t p (frameOf l)) (sym (reads .0) ∙ z))
+
+    -- 9, 23 or 24
+    pub frame-turned : (n : ℕ) → n ≡ heardChecks t p (frameRead r) → (n ≡ 0 → ⊥) → HearsFrame t p l (record { fault = n; event = Opening })
+    frame-turned n e some = (of-frame n e, λ none. absurd (some none))
+
+    pub frame-heard : (v : Event) → heardChecks t p (frameRead r) ≡ 0 → v ≡ heardOf t (frameRead r) → HearsFrame t p l (record { fault = 0; event = v })
+    frame-heard v e is = (of-frame 0 (sym e), λ none. is ∙ ap (heardOf t) (reads .1 z))
 
 -- the code's tests of the kind
 pub known-kind : (k : ℕ) → (k ≡ 0 → ⊥) → k ≤ 2 → (eqb k 1 || eqb k 2) ≡ true

@@ -1,5 +1,6 @@
 -- The checks of one end alone: document 01, "Turned down for the state". A fault is a refusal's number, or 0 for none. `slices` is the fault of the table in its slices.
 use Prim.Native.Nat.{ℕ}
+use mathlib.Core.Path.{_≡_}
 use mathlib.Core.Bool.{cond, _&&_, _||_}
 use mathlib.Core.List.{List}
 use lib.Dec.{ltb, eqb}
@@ -10,6 +11,7 @@ use Rattle.probe_record.specs.Record.{outbound, recordFault}
 use Rattle.probe_rules.specs.declared.Event.{Event}
 use Rattle.probe_rules.specs.declared.Event.the-variants.{Opening, Offer, Refusal}
 use Rattle.probe_rules.specs.Frames.{numberFault, heardOf}
+use Rattle.probe_checks.specs.declared.Heard.{Heard}
 
 -- 9: "Kind 01 is an offer, 02 a refusal"; an end alone knows no other
 abbrev pub frameKindFault : Frame → ℕ
@@ -41,6 +43,10 @@ unfoldable pub heardFault : Table → ℕ → List ℕ → ℕ
 heardFault t p l =
     let f = frameOf l in
     orElse (frameFault l) (orElse (frameKindFault f) (orElse (numberFault t f) (toFault t p f)))
+
+-- a frame's line was heard: its fault, and the event that it says where it has none
+abbrev pub HearsFrame : Table → ℕ → List ℕ → Heard → Type 0
+HearsFrame t p l h = (h .fault ≡ heardFault t p l) × (h .fault ≡ 0 → h .event ≡ heardOf t (frameOf l))
 
 -- "These come after the table's checks: 20, 21, 22, then the frame's 1, 2, 9, 23, 24, then 25 .., then 26."
 unfoldable pub hearFault : ℕ → Table → ℕ → List ℕ → List ℕ → ℕ → ℕ

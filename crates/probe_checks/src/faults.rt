@@ -1,74 +1,77 @@
-// The faults of an end's calls, in their order.
+// The faults of an end's calls, in their order, and what a frame says.
+use super::Heard;
 ghost use mathlib.Core.Path.{_≡_};
+ghost use mathlib.Core.Bool.{cond};
 ghost use mathlib.Core.List.{[]};
 ghost use Prim.Native.Nat.{_/_};
+ghost use lib.Dec.{eqb};
 ghost use lib.ListN.{length};
 ghost use Rattle.range.specs.First.{orElse};
 ghost use Rattle.table.specs.Table.{ofSlices};
 ghost use Rattle.table.specs.Slices.{slicesOf, tableOf, slicesFault};
-ghost use Rattle.probe_frame.specs.Frame.{frameOf, frameFault};
+ghost use Rattle.probe_frame.specs.Frame.{frameOf};
 ghost use Rattle.probe_record.specs.Record.{recordFault};
+ghost use Rattle.probe_rules.specs.declared.Event.the-variants.{Opening, Offer, Refusal};
 ghost use Rattle.probe_rules.specs.Frames.{heardOf};
 ghost use Rattle.probe_rules.specs.Within.{EventWithin};
 ghost use Rattle.table_links.specs.RisingSlices.{RisingSlices};
-ghost use Rattle.probe_checks.specs.Checks.{untriedFault, heardFault, hearFault, openFault, linkCallFault};
+ghost use Rattle.probe_checks.specs.Checks.{untriedFault, HearsFrame, hearFault, openFault, linkCallFault};
 
-// 1, 2, 9, 23, 24 of a frame's line.
-fn heard_fault(
+fn refused(fault: u8) -> Heard
+    ensures { λ r. ⌜ r ≡ record { fault = fault; event = Opening } ⌝ }
+{
+    Heard {
+        fault,
+        event: probe_rules::Event::Opening,
+    }
+}
+
+// What a frame says, by its kind and the link between its ends.
+fn event_of(kind: usize, link: usize) -> probe_rules::Event
+    ensures { λ r. ⌜ r ≡ cond (eqb kind 1) (Offer link) (Refusal link) ⌝ }
+{
+    if kind == 1 {
+        return probe_rules::Event::Offer(link);
+    }
+    probe_rules::Event::Refusal(link)
+}
+
+// 1, 2, 9, 23, 24 of a frame's line, or what it says.
+fn check_frame(
     number: u16,
     links: usize,
     lows: &[u16],
     highs: &[u16],
     probe: usize,
     frame: &[u8],
-) -> u8
+) -> Heard
     requires { ⌜ RisingSlices links (now lows) (now highs) ⌝ }
-    ensures { λ r. ⌜ r ≡ heardFault (ofSlices number 0 links [] (now (lows .entry)) (now (highs .entry)) []) probe (now (frame .entry)) ⌝ }
+    ensures { λ r. ⌜ HearsFrame (ofSlices number 0 links [] (now (lows .entry)) (now (highs .entry)) []) probe (now (frame .entry)) r ⌝ }
 {
-    let fault = probe_frame::frame_line::frame_fault(frame);
-    if fault != 0 {
-        return fault;
+    let read = probe_frame::frame_line::read_frame(frame);
+    if read.fault != 0 {
+        return refused(read.fault);
     }
-    let kind = probe_frame::frame_line::field(frame, 0, 2);
-    if kind == 0 {
-        return 9;
+    if read.kind == 0 {
+        return refused(9);
     }
-    if 2 < kind {
-        return 9;
+    if 2 < read.kind {
+        return refused(9);
     }
-    if probe_frame::frame_line::field(frame, 2, 4) != table::numbers::wide(number) {
-        return 23;
+    if read.number != table::numbers::wide(number) {
+        return refused(23);
     }
-    let to = probe_frame::frame_line::field(frame, 10, 4);
-    if to != probe {
-        return 24;
+    if read.to != probe {
+        return refused(24);
     }
-    if links
-        <= table_links::pairs::between(
-            links,
-            lows,
-            highs,
-            probe_frame::frame_line::field(frame, 6, 4),
-            to,
-        )
-    {
-        return 24;
+    let link = table_links::pairs::between(links, lows, highs, read.from, read.to);
+    if links <= link {
+        return refused(24);
     }
-    0
-}
-
-// What a frame that was not turned down says.
-pub fn event_of(links: usize, lows: &[u16], highs: &[u16], frame: &[u8]) -> probe_rules::Event
-    requires { ⌜ RisingSlices links (now lows) (now highs) × (frameFault (now frame) ≡ 0) ⌝ }
-    ensures { λ r. ⌜ r ≡ heardOf (ofSlices 0 0 links [] (now (lows .entry)) (now (highs .entry)) []) (frameOf (now (frame .entry))) ⌝ }
-{
-    let from = probe_frame::frame_line::field(frame, 6, 4);
-    let to = probe_frame::frame_line::field(frame, 10, 4);
-    let i = table_links::pairs::between(links, lows, highs, from, to);
-    if probe_frame::frame_line::field(frame, 0, 2) == 1 {
-        return probe_rules::Event::Offer(i);
+    Heard {
+        fault: 0,
+        event: event_of(read.kind, link),
     }
-    probe_rules::Event::Refusal(i)
 }
 
 // 25.
@@ -137,8 +140,8 @@ pub fn open_fault(
     0
 }
 
-// The faults of a frame heard.
-pub fn hear_fault(
+// The faults of a frame heard, or what it says.
+pub fn check_hearing(
     number: u16,
     probes: usize,
     links: usize,
@@ -150,27 +153,28 @@ pub fn hear_fault(
     rec: &[u8],
     frame: &[u8],
     free: usize,
-) -> u8
+) -> Heard
     ensures { λ r. let x = slicesOf number probes links (now (needs .entry)) (now (lows .entry)) (now (highs .entry)) (now (costs .entry)) in
-        ⌜ r ≡ hearFault (slicesFault x) (tableOf x) probe (now (rec .entry)) (now (frame .entry)) free ⌝ }
+        ⌜ (r .fault ≡ hearFault (slicesFault x) (tableOf x) probe (now (rec .entry)) (now (frame .entry)) free)
+        × (r .fault ≡ 0 → r .event ≡ heardOf (tableOf x) (frameOf (now (frame .entry)))) ⌝ }
 {
     let fault = state_fault(probes, links, needs, lows, highs, costs, probe, rec);
     if fault != 0 {
-        return fault;
+        return refused(fault);
     }
-    let heard = heard_fault(number, links, lows, highs, probe, frame);
-    if heard != 0 {
+    let heard = check_frame(number, links, lows, highs, probe, frame);
+    if heard.fault != 0 {
         return heard;
     }
-    let event = event_of(links, lows, highs, frame);
+    let event = heard.event;
     let untried = untried_fault(event, rec);
     if untried != 0 {
-        return untried;
+        return refused(untried);
     }
     if free == 0 {
-        return 26;
+        return refused(26);
     }
-    0
+    heard
 }
 
 // The faults of a call about one link.

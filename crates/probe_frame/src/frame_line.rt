@@ -1,27 +1,34 @@
 // Frame lines. The ends and the fleet call these, within the bounds that they ask.
+use super::FrameLine;
 ghost use mathlib.Core.Path.{_≡_};
-ghost use Prim.Native.Nat.{_+_, _≤_};
+ghost use Prim.Native.Nat.{_≤_};
 ghost use lib.ListN.{length};
 ghost use lib.Seq.{sets};
-ghost use Rattle.hex.specs.Digits.{numberAt};
-ghost use Rattle.probe_frame.specs.Frame.{frameLine, frameFault};
+ghost use Rattle.probe_frame.specs.Frame.{frameLine, ReadsFrame};
 
-// 1, then 2.
-pub fn frame_fault(line: &[u8]) -> u8
-    ensures { λ r. ⌜ r ≡ frameFault (now (line .entry)) ⌝ }
+// A frame's line, read in one pass: 1, then 2, or the frame's numbers.
+pub fn read_frame(line: &[u8]) -> FrameLine
+    ensures { λ r. ⌜ ReadsFrame (now (line .entry)) r ⌝ }
 {
     if line.len() != 15 {
-        return 1;
+        return FrameLine {
+            fault: 1,
+            kind: 0,
+            number: 0,
+            from: 0,
+            to: 0,
+        };
     }
-    lines::line_fault(line, 0, 14)
-}
-
-// A field of a line that is a frame's.
-pub fn field(line: &[u8], at: usize, width: usize) -> usize
-    requires { ⌜ (frameFault (now line) ≡ 0) × (at + width ≤ 14) × (width ≤ 4) ⌝ }
-    ensures { λ r. ⌜ r ≡ numberAt (now (line .entry)) at width ⌝ }
-{
-    hex::fields::number(line, at, width)
+    let read = reader::numbers::number_line(line, 0, 14);
+    let three = read.number / 65536;
+    let two = three / 65536;
+    FrameLine {
+        fault: read.fault,
+        kind: two / 65536,
+        number: two % 65536,
+        from: three % 65536,
+        to: read.number % 65536,
+    }
 }
 
 // Writes a frame's line at the start.

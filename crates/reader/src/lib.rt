@@ -6,6 +6,8 @@ ghost use Rattle.lines.specs.Line.{lineAt};
 use lines::Found;
 use lines::Line;
 
+pub mod numbers;
+
 pub struct Reader<'a> {
     pub text: &'a [u8],
     pub at: usize,
@@ -42,7 +44,7 @@ pub fn at_end<'a>(r: Reader<'a>) -> bool
     lines::is_end(r.text, r.at)
 }
 
-// For callers with a plain text and an offset, with no reader in the signature. The table's text is read through these.
+// For callers with a plain text and an offset, with no reader in the signature. A table's header line, its closing line and its end are found through these.
 
 pub fn first_line(text: &[u8]) -> Found
     ensures { λ f. ⌜ f ≡ lineAt (now (text .entry)) 0 ⌝ }

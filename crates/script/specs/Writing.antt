@@ -17,7 +17,7 @@ use Rattle.script_table.specs.Reading.{tableText}
 use Rattle.script.specs.declared.Ending.{Ending}
 use Rattle.script.specs.declared.Ending.the-variants as ending
 
--- calls of `script_piece`, then the promise of `script_end` on what they left: it has printed n bytes into `out′`
+-- pieces handled as `script_piece` promises, then the promise of `script_end` on what they left: it has printed n bytes into `out′`
 pub record Answered (x : Slices) (n : ℕ) (out′ : List ℕ) : Type 0 where
   pub line : List ℕ
   pub long : 16 ≤ length line

@@ -7,6 +7,7 @@ use script_reads::reads::handle_all;
 use script_reads::reads::write;
 use script_table::input::read_table_text;
 use standard_io::Filling;
+use table::degrees::count_degrees;
 ghost use mathlib.Core.Path.{_≡_};
 ghost use Prim.Native.Nat.{_≤_};
 ghost use lib.ListN.{length};
@@ -53,11 +54,14 @@ fn answer_script(
     let mut bytes = [0u8; 8192];
     let rec = &mut bytes[..4 * (links as usize)];
     let mut line = [0u8; 16];
+    let mut degrees = [0u16; 256];
+    count_degrees(&mut degrees, links as usize, lows, highs);
     let stop = handle_all(
         number,
         probes,
         links,
         needs,
+        &degrees,
         lows,
         highs,
         costs,

@@ -24,12 +24,12 @@ use Rattle.fleet_calls.proofs.Same.{same-fleet}
 use Rattle.fleet_calls.proofs.Promises.{same-fine}
 use Rattle.script_theory.specs.Script.{Script, scriptText, afterPiece, begun, endText, together, carried, printedBy}
 use Rattle.script_theory.proofs.Pieces.{in-pieces, carried-piece, reached, any-pieces}
-use Rattle.script_pieces.proofs.PieceLaws.{usable-piece}
+use Rattle.script_steps.proofs.PieceLaws.{usable-piece, held-few}
 use Rattle.script_output.specs.Handling.{before, siteFault, Handles, pieceCallFault, endCallFault}
 use Rattle.script_output.specs.declared.Handling.{Handling}
 use Rattle.script_output.specs.declared.Handling.the-variants.{Printed, Refused}
 use Rattle.script_output.proofs.Answers.{progressAfter, handles-answer}
-use Rattle.script_output.proofs.Calls.{held-few, next-call}
+use Rattle.script_output.proofs.Calls.{next-call}
 use Rattle.script_calls.specs.Calls.{PieceCall, PieceLeft, freshPiece, leftByPiece, KeptPiece, PieceCalls, leftAfterPieces, handledPiece, textOfPieces, printedPiece, printedByPieces, printedEnd, ScriptOfCalls}
 use Rattle.script_calls.proofs.Same.{same-after-piece, same-end}
 

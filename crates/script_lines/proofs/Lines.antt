@@ -1,5 +1,5 @@
 -- The lines' lengths, and how the code comes to them.
-use Prim.Native.Nat.{ℕ, _+_, _≤_}
+use Prim.Native.Nat.{ℕ, _+_}
 use mathlib.Core.Path.{_≡_, refl}
 use mathlib.Core.Bool.{Bool, cond}
 use mathlib.Core.List.{List, [], _∷_, _++_}
@@ -11,9 +11,7 @@ use Rattle.hex.specs.Digits.{digits}
 use Rattle.hex.proofs.Laws.{length-digits}
 use Rattle.wake_log.specs.declared.Entry.{Entry}
 use Rattle.wake_log.specs.Entry.{codeOf, linkOf, displacedOf}
-use Rattle.wake_log.specs.declared.Answer.{Answer}
-use Rattle.wake_log.specs.declared.Answer.the-variants.{Logged, Refused}
-use Rattle.script_theory.specs.Script.{entryLine, answerLine, lastLine}
+use Rattle.script_theory.specs.Script.{entryLine, lastLine}
 
 pub length-entry : (e : Entry) → length (entryLine e) ≡ 15
 length-entry e =
@@ -53,7 +51,3 @@ last-then done changed flag at l l₁ l₂ f s₁ s₂ =
     rw (← f)
     (sets-then l l₁ r at (at + 2) (digits 2 flag) (digits 8 changed ++ (10 ∷ [])) s₁ (omega arith)
     (sets-then l₁ l₂ r (at + 2) (at + 10) (digits 8 changed) (10 ∷ []) s₂ (omega arith) refl))
-
-pub answer-most : (a : Answer) → length (answerLine a) ≤ 15
-answer-most (Logged e) = let n = length-entry e in omega arith
-answer-most (Refused n) = omega arith

@@ -41,14 +41,30 @@ pub fn put_entry(out: &mut [u8], at: usize, e: wake_log::Entry)
     out[at + 14] = b'\n';
 }
 
-// The length of an answer's line.
-fn answer_length(answer: wake_log::Answer) -> usize
-    ensures { λ r. ⌜ r ≡ length (answerLine answer) ⌝ }
+// An entry's line, where it fits. Answers where the next line starts.
+fn put_logged(out: &mut [u8], at: usize, e: wake_log::Entry) -> usize
+    requires { ⌜ at ≤ 9223372036854775808 ⌝ }
+    ensures { λ r. ⌜ (now (out .exit) ≡ storedWithin (now (out .entry)) at (entryLine e)) × (r ≡ capped (at + 15)) ⌝ }
 {
-    match answer {
-        wake_log::Answer::Logged(_) => 15,
-        wake_log::Answer::Refused(_) => 5,
+    let next = at + 15;
+    if out.len() < next {
+        return cap(next);
     }
+    put_entry(out, at, e);
+    next
+}
+
+// A refusal's line, where it fits. Answers where the next line starts.
+pub fn put_refused(out: &mut [u8], at: usize, fault: u8) -> usize
+    requires { ⌜ at ≤ 9223372036854775808 ⌝ }
+    ensures { λ r. ⌜ (now (out .exit) ≡ storedWithin (now (out .entry)) at (refusalLine fault)) × (r ≡ capped (at + 5)) ⌝ }
+{
+    let next = at + 5;
+    if out.len() < next {
+        return cap(next);
+    }
+    output::refusals::put_refusal(out, at, fault);
+    next
 }
 
 // An answer's line, where it fits. Answers where the next line starts.
@@ -56,19 +72,9 @@ pub fn put_answer(out: &mut [u8], at: usize, answer: wake_log::Answer) -> usize
     requires { ⌜ at ≤ 9223372036854775808 ⌝ }
     ensures { λ r. ⌜ (now (out .exit) ≡ storedWithin (now (out .entry)) at (answerLine answer)) × (r ≡ capped (at + length (answerLine answer))) ⌝ }
 {
-    let next = at + answer_length(answer);
-    if out.len() < next {
-        return cap(next);
-    }
     match answer {
-        wake_log::Answer::Logged(e) => {
-            put_entry(out, at, e);
-            next
-        }
-        wake_log::Answer::Refused(fault) => {
-            output::refusals::put_refusal(out, at, fault);
-            next
-        }
+        wake_log::Answer::Logged(e) => put_logged(out, at, e),
+        wake_log::Answer::Refused(fault) => put_refused(out, at, fault),
     }
 }
 

@@ -7,7 +7,7 @@ use native.Mathlib.Omega.{arith}
 use native.Mathlib.Decide.{decLt}
 use lib.Dec.{eqb, ltb}
 use lib.ListN.{length, take, drop}
-use lib.Seq.{sets, take-take, take-all, length-take-le}
+use lib.Seq.{take-take, take-all, length-take-le}
 use borrow.Author.Tests.{eq-eqb, ne-eqb, lt-ltb, le-ltb, ltb-false}
 use Rattle.range.specs.First.{orElse}
 use Rattle.range.specs.Reply.{refusal, values}
@@ -15,7 +15,7 @@ use Rattle.range.proofs.Bools.{when-none}
 use Rattle.range.proofs.Faults.{or-left, or-right, or-here, or-next}
 use Rattle.range.proofs.Sets.{sets-start}
 use Rattle.output.specs.Output.{outputFault}
-use Rattle.output.proofs.Printing.{filled-within}
+use Rattle.output.proofs.Printing.{filled-within, long-enough}
 use Rattle.fleet_theory.specs.Fleet.{fleetFault}
 use Rattle.table.specs.Legal.{lentFault}
 use Rattle.table.specs.Slices.{Slices, tableOf, slicesFault}
@@ -24,28 +24,26 @@ use Rattle.script_theory.specs.Script.{Script, afterPiece}
 use Rattle.script_steps.specs.declared.Progress.{Progress}
 use Rattle.script_steps.specs.declared.Place.{Place}
 use Rattle.script_steps.specs.Within.{underWay, Buffered}
-use Rattle.script_pieces.proofs.PieceLaws.{copied-part}
 use Rattle.script_output.specs.declared.Handling.{Handling}
 use Rattle.script_output.specs.declared.Handling.the-variants as handling
-use Rattle.script_output.specs.Handling.{siteFault, pieceFault, before, handlingReply, pieceValues, Handles}
+use Rattle.script_output.specs.Handling.{siteFault, pieceFault, before, handlingReply, pieceValues, Handles, pieceCallFault}
 
 pub unhandled : (fault n : ℕ) (q : Script) (rec line out : List ℕ) → n ≡ fault → (n ≡ 0 → ⊥) → Handles fault q (handling.Refused n) rec rec line line out out
 unhandled fault n q rec line out e some =
     let f = ne-eqb fault 0 (λ z. some (e ∙ z)) in
     record { answer = rw f (ap refusal e); record-after = rw f; line-after = rw f; out-after = rw f }
 
-pub handled-all : (fault : ℕ) (q : Script) (r : Place) (rec rec′ line line′ buffer out out′ : List ℕ) → fault ≡ 0 → Buffered q 0 r rec′ buffer out out′
-    → line′ ≡ sets line 0 (take (r .progress .held) buffer) → r .progress .held ≤ length line → length (q .out) ≤ length out → length out < 9223372036854775808
+pub handled-all : (fault : ℕ) (q : Script) (r : Place) (rec rec′ line line′ out out′ : List ℕ) → fault ≡ 0 → Buffered q 0 r rec′ line′ out out′
+    → line′ ≡ q .held ++ drop (length (q .held)) line → length (q .out) ≤ length out → length out < 9223372036854775808
     → Handles fault q (handling.Printed (r .at) (r .progress)) rec rec′ line line′ out out′
-handled-all fault q r rec rec′ line line′ buffer out out′ f b s l fits most =
+handled-all fault q r rec rec′ line line′ out out′ f b s fits most =
     let none = eq-eqb fault 0 f in
-    let k = b .held in
     let e = b .at ∙ capped-below (0 + length (q .out)) (omega arith) in
     let z : r .at ≡ length (q .out) = omega arith in
     record {
       answer = rw (none, b .used, b .held, b .changed, z);
       record-after = rw none (b .bytes);
-      line-after = rw none (s ∙ ap (sets line 0) (b .kept) ∙ sets-start line (q .held) (omega arith));
+      line-after = rw none s;
       out-after = rw none (b .printed (omega arith) ∙ sets-start out (q .out) fits);
     }
 
@@ -69,15 +67,10 @@ held-part line h long = go (decLt h 16)
         let n = length-take-le 16 line long in
         rw (le-ltb h 16 (omega arith)) (sym (take-all h (take 16 line) (omega arith)))
 
--- copied into a buffer, they are the same
-pub copied-same : (b p : Progress) (rec line buffer buffer′ : List ℕ) → (b .used ≡ p .used) × (b .held ≡ most (p .held)) × (b .changed ≡ p .changed)
-    → 16 ≤ length line → 16 ≤ length buffer → buffer′ ≡ sets buffer 0 (take (b .held) line) → underWay b rec buffer′ ≡ before p rec line
-copied-same b p rec line buffer buffer′ e long l s =
-    let n = b .held in
-    let few = most-few (p .held) in
-    let k = e .1 in
-    let c = copied-part buffer buffer′ line n s (omega arith) (omega arith) in
-    rw (c, e .0, e .1, e .2) (rw (held-part line (p .held) long))
+-- the progress that a piece goes on from holds the same bytes
+pub begun-same : (b p : Progress) (rec line : List ℕ) → (b .used ≡ p .used) × (b .held ≡ most (p .held)) × (b .changed ≡ p .changed) → 16 ≤ length line
+    → underWay b rec line ≡ before p rec line
+begun-same b p rec line e long = rw (e .0, e .1, e .2, held-part line (p .held) long)
 
 -- The faults of a piece, one after the other.
 module _ (x : Slices) (p : Script) (piece : List ℕ) (line room state : ℕ) (long : 16 ≤ line) (f : state ≡ siteFault x (p .bytes)) where
@@ -107,9 +100,7 @@ module _ (x : Slices) (b p : Progress) (piece rec line : List ℕ) (room fault :
     where
       go : Dec (length line < 16) → pieceFault x (underWay b rec line) piece (length line) room ≡ pieceFault x (before p rec line) piece (length line) room
       go (yes l) = rw (lt-ltb (length line) 16 l)
-      go (no d) =
-          let same : underWay b rec line ≡ before p rec line = rw (e .0, e .1, e .2, held-part line (p .held) (omega arith)) in
-          ap (λ (q : Script). pieceFault x q piece (length line) room) same
+      go (no d) = ap (λ (q : Script). pieceFault x q piece (length line) room) (begun-same b p rec line e (omega arith))
 
   pub call-given : fault ≡ 0 → Given x (afterPiece x 1024 (before p rec line) piece) rec line (b .held) room
   call-given none =
@@ -127,6 +118,12 @@ module _ (x : Slices) (b p : Progress) (piece rec line : List ℕ) (room fault :
         good = or-right (slicesFault x) (fleetFault (tableOf x) rec) good;
         fits = ltb-false room (length printed) (when-none (ltb room (length printed)) 7 (or-right state last rest));
       }
+
+-- a call that is not refused
+pub call-passes : (x : Slices) (p : Progress) (piece rec line out : List ℕ) → slicesFault x ≡ 0 → fleetFault (tableOf x) rec ≡ 0 → 16 ≤ length line
+    → length (afterPiece x 1024 (before p rec line) piece .out) ≤ length out → pieceCallFault x p piece rec line out ≡ 0
+call-passes x p piece rec line out fine good long fits =
+    rw (le-ltb (length line) 16 long, fine, good) (long-enough (length out) (afterPiece x 1024 (before p rec line) piece .out) fits)
 
 -- how far the script q has come
 abbrev pub progressAfter : Script → Progress

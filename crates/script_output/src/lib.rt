@@ -2,9 +2,7 @@
 use output::Output;
 use script_steps::Progress;
 ghost use mathlib.Core.Path.{_≡_};
-ghost use mathlib.Core.Bool.{cond};
 ghost use Prim.Native.Nat.{ℕ, _≤_, _<_};
-ghost use lib.Dec.{ltb};
 ghost use lib.ListN.{length, getD};
 ghost use Rattle.output.specs.Output.{outputFault, Prints};
 ghost use Rattle.table.specs.Table.{Degrees};
@@ -13,28 +11,16 @@ ghost use Rattle.script_theory.specs.Script.{endText, scriptOutput};
 ghost use Rattle.script_steps.specs.Within.{underWay};
 ghost use Rattle.script_output.specs.Handling.{pieceFault, HandlesPiece, endCallFault};
 
+pub mod checked;
+
 // A piece's answer: the length printed and how far the script has come, or the number of the refusal.
 pub enum Handling {
     Printed { length: usize, progress: Progress },
     Refused(u8),
 }
 
-// The progress that a piece goes on from: of an unfinished line at most 16 bytes are held.
-fn begun(progress: Progress) -> Progress
-    ensures { λ r. ⌜ (r .used ≡ progress .used) × (r .held ≡ cond (ltb (progress .held) 16) (progress .held) 16) × (r .changed ≡ progress .changed) ⌝ }
-{
-    if progress.held < 16 {
-        return progress;
-    }
-    Progress {
-        used: progress.used,
-        held: 16,
-        changed: progress.changed,
-    }
-}
-
 // The fault of a piece: 8 for fewer than 16 bytes of `line`, the table's own, 20 to 22, and 8 where the output slice, of length `room`, does not hold what is printed.
-// Five bytes for each byte held or given hold any output; else it is counted, on copies. Where there is no fault, each probe's links are counted.
+// Five bytes for each byte held or given hold any output; else it is counted, on a copy of the record. Where there is no fault, each probe's links are counted.
 fn piece_fault(
     number: u16,
     probes: u16,
@@ -114,7 +100,7 @@ pub fn script_piece(
     ensures { λ r. let x = slicesOf number probes links (now (needs .entry)) (now (lows .entry)) (now (highs .entry)) (now (costs .entry)) in
         ⌜ HandlesPiece x progress (now (piece .entry)) r (now (rec .entry)) (now (rec .exit)) (now (line .entry)) (now (line .exit)) (now (out .entry)) (now (out .exit)) ⌝ }
 {
-    let begun = begun(progress);
+    let begun = checked::begun(progress);
     let mut degrees = [0u16; 256];
     let fault = piece_fault(
         number,
@@ -134,28 +120,25 @@ pub fn script_piece(
     if fault != 0 {
         return Handling::Refused(fault);
     }
-    let mut buffer = [0u8; 17];
-    script_pieces::pieces::copy(&mut buffer, line, begun.held as usize);
-    let place = script_pieces::pieces::take_piece(
+    let place = checked::handle_piece(
         number,
-        probes as usize,
-        links as usize,
+        probes,
+        links,
         needs,
         &degrees,
         lows,
         highs,
         costs,
         rec,
-        &mut buffer,
-        begun,
+        line,
+        progress,
         piece,
         out,
     );
-    let p = place.progress;
-    script_pieces::pieces::copy(line, &buffer, p.held as usize);
+    let reached = place.progress;
     Handling::Printed {
         length: place.at,
-        progress: p,
+        progress: reached,
     }
 }
 

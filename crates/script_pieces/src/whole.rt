@@ -1,5 +1,6 @@
 // A whole script: the lines behind a table and the end.
 use output::Output;
+use script_steps::Place;
 use script_steps::Progress;
 ghost use mathlib.Core.Path.{_≡_};
 ghost use Prim.Native.Nat.{_≤_, _<_};
@@ -32,14 +33,16 @@ fn put_script(
         ⌜ (r ≡ capped (length printed)) × (length printed ≤ length (now (out .entry)) → now (out .exit) ≡ sets (now (out .entry)) 0 printed) ⌝ }
 {
     let mut bytes = [0u8; 8192];
-    let mut line = [0u8; 17];
     let rec = &mut bytes[..4 * links];
-    let begun = Progress {
-        used: 0,
-        held: 0,
-        changed: 0,
+    let start = Place {
+        at: 0,
+        progress: Progress {
+            used: 0,
+            held: 0,
+            changed: 0,
+        },
     };
-    let place = super::pieces::take_piece(
+    let closed = script_steps::steps::take_lines(
         number,
         probes,
         links,
@@ -49,12 +52,16 @@ fn put_script(
         highs,
         costs,
         rec,
-        &mut line,
-        begun,
         text,
         out,
+        start,
     );
+    let place = closed.place;
     let p = place.progress;
+    let mut unclosed = 0;
+    if closed.rest < text.len() {
+        unclosed = 1;
+    }
     super::ending::put_end(
         probes,
         links,
@@ -63,7 +70,7 @@ fn put_script(
         lows,
         highs,
         rec,
-        p.held,
+        unclosed,
         p.changed,
         out,
         place.at,

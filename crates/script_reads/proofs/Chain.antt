@@ -1,4 +1,4 @@
--- What was read so far was handled by calls of `script_piece`, one after the other.
+-- What was read so far was handled in pieces, each as `script_piece` promises, one after the other.
 use Prim.Native.Nat.{ℕ, _≤_}
 use mathlib.Core.Path.{_≡_, sym, _∙_, ap, subst}
 use mathlib.Core.List.{List, [], _∷_, _++_}

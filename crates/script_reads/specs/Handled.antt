@@ -7,7 +7,7 @@ use Rattle.script_calls.specs.Calls.{PieceCall, PieceLeft, freshPiece, PieceCal
 use Rattle.script_reads.specs.declared.Stop.{Stop}
 use Rattle.script_reads.specs.declared.Stop.the-variants as stop
 
--- pieces were handled by calls of `script_piece`, one after the other from a fresh fleet on, and these left b
+-- pieces were handled as `script_piece` promises, one after the other from a fresh fleet on, and these left b
 pub record HandledBy (x : Slices) (line : List ℕ) (b : PieceLeft) : Type 0 where
   pub calls : List PieceCall
   pub kept : PieceCalls x (freshPiece x line) calls

@@ -1,80 +1,23 @@
 // Reads from standard input, handled one after the other.
 use super::Stop;
 use output::Output;
-use script_output::Handling;
 use script_steps::Progress;
 use standard_io::Got;
 ghost use mathlib.Core.Path.{_≡_};
-ghost use Prim.Native.Nat.{_+_, _*_, _≤_};
+ghost use Prim.Native.Nat.{_≤_};
 ghost use lib.ListN.{length};
+ghost use Rattle.table.specs.Table.{Degrees};
 ghost use Rattle.table.specs.Slices.{slicesOf, tableOf, slicesFault};
 ghost use Rattle.fleet_theory.specs.Fleet.{fleetFault, start};
 ghost use Rattle.output.specs.Output.{Prints};
 ghost use Rattle.output.specs.declared.Output.the-variants.{Length};
 ghost use Rattle.script_theory.specs.Script.{endText};
-ghost use Rattle.script_output.specs.Handling.{HandlesPiece, endCallFault};
-ghost use Rattle.script_output.specs.declared.Handling.the-variants.{Printed};
+ghost use Rattle.script_output.specs.Handling.{endCallFault};
 ghost use Rattle.script_reads.specs.Handled.{HandlesReads};
 
 pub const UNREAD: [u8; 36] = *b"script: the input could not be read\n";
 
 const UNWRITTEN: [u8; 40] = *b"script: the output could not be written\n";
-
-// What a piece prints: its length, and how far the script has come.
-struct Answers {
-    length: usize,
-    progress: Progress,
-}
-
-// Handles a piece in a slice that holds any answers to it.
-fn handle(
-    number: u16,
-    probes: u16,
-    links: u16,
-    needs: &[u16],
-    lows: &[u16],
-    highs: &[u16],
-    costs: &[u16],
-    rec: &mut [u8],
-    line: &mut [u8],
-    progress: Progress,
-    piece: &[u8],
-    out: &mut [u8],
-) -> Answers
-    requires { let x = slicesOf number probes links (now needs) (now lows) (now highs) (now costs) in
-        ⌜ (slicesFault x ≡ 0) × (fleetFault (tableOf x) (now rec) ≡ 0) × (16 ≤ length (now line)) × (5 * (16 + length (now piece)) ≤ length (now out)) ⌝ }
-    ensures { λ r. let x = slicesOf number probes links (now (needs .entry)) (now (lows .entry)) (now (highs .entry)) (now (costs .entry)) in
-        ⌜ HandlesPiece x progress (now (piece .entry)) (Printed (r .length) (r .progress))
-        (now (rec .entry)) (now (rec .exit)) (now (line .entry)) (now (line .exit)) (now (out .entry)) (now (out .exit)) ⌝ }
-{
-    let handled = script_output::script_piece(
-        number,
-        probes,
-        links,
-        needs,
-        lows,
-        highs,
-        costs,
-        rec,
-        line,
-        progress,
-        piece,
-        out,
-    );
-    match handled {
-        Handling::Printed {
-            length,
-            progress: next,
-        } => Answers {
-            length,
-            progress: next,
-        },
-        Handling::Refused(_) => Answers {
-            length: 0,
-            progress,
-        },
-    }
-}
 
 // Writes what is printed, or says that it could not.
 pub fn write(printed: &[u8]) -> bool {
@@ -85,12 +28,13 @@ pub fn write(printed: &[u8]) -> bool {
     true
 }
 
-// Handles the text behind a table, as each reading gives it. A proved loop has to end, and nothing says that the input does: the turns are counted down from a number that no run uses up.
+// Handles the text behind a table, as each reading gives it; the table was checked when it was read, and each probe's links are counted. A proved loop has to end, and nothing says that the input does: the turns are counted down from a number that no run uses up.
 pub fn handle_all(
     number: u16,
     probes: u16,
     links: u16,
     needs: &[u16],
+    degrees: &[u16],
     lows: &[u16],
     highs: &[u16],
     costs: &[u16],
@@ -100,7 +44,8 @@ pub fn handle_all(
     out: &mut [u8],
 ) -> Stop
     requires { let x = slicesOf number probes links (now needs) (now lows) (now highs) (now costs) in
-        ⌜ (slicesFault x ≡ 0) × (now rec ≡ start x .bytes) × (16 ≤ length (now line)) × (length (now text) ≤ 4096) × (20560 ≤ length (now out)) ⌝ }
+        ⌜ (slicesFault x ≡ 0) × (now rec ≡ start x .bytes) × (probes ≤ length (now degrees)) × Degrees (tableOf x) (now degrees)
+        × (16 ≤ length (now line)) × (length (now text) ≤ 4096) × (20560 ≤ length (now out)) ⌝ }
     ensures { λ r. let x = slicesOf number probes links (now (needs .entry)) (now (lows .entry)) (now (highs .entry)) (now (costs .entry)) in
         ⌜ HandlesReads x r (now (line .entry)) (now (rec .exit)) (now (line .exit)) ⌝ }
 {
@@ -114,11 +59,12 @@ pub fn handle_all(
         let got = standard_io::read_some(text);
         match got {
             Got::Bytes(n) => {
-                let answers = handle(
+                let place = script_output::checked::handle_piece(
                     number,
                     probes,
                     links,
                     needs,
+                    degrees,
                     lows,
                     highs,
                     costs,
@@ -128,8 +74,8 @@ pub fn handle_all(
                     &text[..n],
                     out,
                 );
-                progress = answers.progress;
-                let length = answers.length;
+                progress = place.progress;
+                let length = place.at;
                 if !write(&out[..length]) {
                     return Stop::Failed;
                 }

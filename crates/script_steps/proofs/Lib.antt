@@ -1,2 +1,4 @@
 pub mod Printing
-pub mod Bytes
+pub mod PieceLaws
+pub mod Closing
+pub mod Holding

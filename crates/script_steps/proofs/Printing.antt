@@ -1,12 +1,12 @@
 -- What a line handled prints and adds.
-use Prim.Native.Nat.{ℕ, _+_, _*_, _%_, _≤_}
+use Prim.Native.Nat.{ℕ, _+_, _*_, _%_, _≤_, _<_}
 use mathlib.Core.Path.{_≡_, refl, sym, _∙_, ap}
 use mathlib.Core.Bool.{Bool, true, false, cond}
 use mathlib.Core.List.{List, []}
 use native.Mathlib.Omega.{arith}
 use native.Mathlib.Decide.{ℕ-discrete}
 use lib.Dec.{eqb, ltb}
-use lib.ListN.{length}
+use lib.ListN.{length, take}
 use borrow.Author.Tests.{ne-eqb, ltb-true}
 use Rattle.range.specs.Sum.{sum}
 use Rattle.range.specs.First.{orElse}
@@ -26,14 +26,17 @@ use Rattle.fleet_theory.proofs.Events.{unsentOf}
 use Rattle.fleet.specs.Answers.{Handled, changesBy}
 use Rattle.fleet.proofs.Checks.{line-frame}
 use Rattle.fleet.proofs.Passing.{passed-line}
-use Rattle.fleet.proofs.Calls.{handled-answer}
+use Rattle.fleet.proofs.Calls.{refused-call, handled-answer}
 use Rattle.fleet.proofs.Changes.{line-changes}
+use Rattle.output.specs.Output.{refusalLine}
 use Rattle.script_lines.specs.Fitting.{capped, storedWithin}
 use Rattle.script_lines.proofs.Lines.{length-entry}
 use Rattle.script_lines.proofs.Fitting.{stored-fits}
 use Rattle.script_theory.specs.Script.{answerLine, answered, afterLine}
+use Rattle.script_theory.proofs.Lines.{wrong-length}
 use Rattle.script_steps.specs.Within.{underWay, Buffered}
 use Rattle.script_steps.specs.declared.Progress.{Progress}
+use Rattle.script_steps.specs.declared.Place.{Place}
 
 -- What an answer prints and adds, of a line handled.
 module _ (x : Slices) (used room : ℕ) (l r : List ℕ) where
@@ -95,4 +98,21 @@ module _ (x : Slices) (fine : slicesFault x ≡ 0) (p : Progress) (room at : ℕ
         kept = refl;
         at = n ∙ ap (λ (a : Answer). capped (at + length (answerLine a))) (handled-answer h);
         printed = λ fits. o ∙ ap (λ (a : Answer). storedWithin out at (answerLine a)) (handled-answer h) ∙ stored-fits out at (answerLine (answered x room (underWay p rec []) l)) fits;
+      }
+
+  -- a line that is not of a frame's length
+  pub refused-buffered : (r : Place) → (length l ≡ 15 → ⊥) → p .changed < 4294967296 → rec′ ≡ rec → out′ ≡ storedWithin out at (refusalLine 1) → r .at ≡ capped (at + 5)
+      → r .progress ≡ record { used = p .used; held = 0; changed = p .changed } → Buffered (afterLine x room (underWay p rec []) l) at r rec′ [] out out′
+  refused-buffered r n small same o a e =
+      let fault : 1 ≡ eventFault x rec (p .used) room l = rw (fine, good, wrong-length l n) in
+      let h = refused-call x (p .used) room l rec 1 fault (λ z. omega arith) in
+      let b = line-buffered (Refused 1) (r .at) (p .used) (p .changed) (rw same h) o a (omega arith) (omega arith) in
+      record {
+        bytes = b .bytes;
+        used = ap (λ (q : Progress). q .used) e ∙ b .used;
+        changed = ap (λ (q : Progress). q .changed) e ∙ b .changed;
+        held = ap (λ (q : Progress). q .held) e;
+        kept = ap (λ (q : Progress). take (q .held) []) e;
+        at = b .at;
+        printed = b .printed;
       }

@@ -1,5 +1,6 @@
-// A script under way: a byte or a line of it, on buffers that hold an unfinished line and what is printed.
+// A script under way: a line of it, or the lines that a piece closes, on buffers that hold its record and what is printed.
 
+pub mod line_bytes;
 pub mod numbers;
 pub mod steps;
 
@@ -14,4 +15,10 @@ pub struct Progress {
 pub struct Place {
     pub at: usize,
     pub progress: Progress,
+}
+
+// How far a script has come, and where in the piece the line starts that it does not close.
+pub struct Lines {
+    pub place: Place,
+    pub rest: usize,
 }

@@ -1,8 +1,6 @@
-// The numbers of a script under way, after an answer or a byte.
+// The numbers of a script under way, after an answer.
 ghost use mathlib.Core.Path.{_≡_};
-ghost use mathlib.Core.Bool.{cond};
 ghost use Prim.Native.Nat.{_+_, _%_, _≤_};
-ghost use lib.Dec.{ltb};
 ghost use Rattle.fleet.specs.Answers.{changesBy};
 ghost use Rattle.wake_log.specs.Entry.{acceptedBy};
 
@@ -29,14 +27,4 @@ pub fn add_changes(changed: u32, answer: wake_log::Answer) -> u32
         }
         wake_log::Answer::Refused(_) => changed,
     }
-}
-
-// The number of bytes held after one more.
-pub fn one_more(held: u32) -> u32
-    ensures { λ r. ⌜ r ≡ cond (ltb held 16) (held + 1) held ⌝ }
-{
-    if held < 16 {
-        return held + 1;
-    }
-    held
 }

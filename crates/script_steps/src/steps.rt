@@ -1,18 +1,22 @@
 // The steps of a script, on a table and a record that are already checked.
+use super::Lines;
 use super::Place;
 use super::Progress;
 ghost use mathlib.Core.Path.{_≡_};
 ghost use mathlib.Core.List.{[]};
-ghost use Prim.Native.Nat.{_≤_};
+ghost use Prim.Native.Nat.{_+_, _≤_};
 ghost use lib.ListN.{length};
 ghost use Rattle.fleet_theory.specs.Fleet.{fleetFault};
 ghost use Rattle.table.specs.Table.{Degrees};
 ghost use Rattle.table.specs.Slices.{slicesFault, tableOf, slicesOf};
-ghost use Rattle.script_theory.specs.Script.{afterLine, afterByte};
+ghost use Rattle.output.specs.Output.{refusalLine};
+ghost use Rattle.script_lines.specs.Fitting.{capped, storedWithin};
+ghost use Rattle.script_theory.specs.Script.{afterLine};
 ghost use Rattle.script_steps.specs.Within.{underWay, Buffered};
+ghost use Rattle.script_steps.specs.Closing.{Closed};
 
-// A line, closed by its line feed, of a fleet whose table and record are already checked; its answer is printed from an offset on, where it fits.
-fn answer_line(
+// A line, or 16 bytes of a longer one, to a fleet whose table and record are already checked; its answer is printed from an offset on, where it fits.
+pub fn answer_line(
     number: u16,
     probes: usize,
     links: usize,
@@ -57,8 +61,25 @@ fn answer_line(
     }
 }
 
-// A byte of the script: a line feed closes the line, which is answered. Of a longer line 16 bytes are held.
-pub fn take_byte(
+// A line that is not of a frame's length is refused by 1.
+fn refuse_line(out: &mut [u8], place: Place) -> Place
+    requires { ⌜ place .at ≤ 9223372036854775808 ⌝ }
+    ensures { λ r. ⌜ (now (out .exit) ≡ storedWithin (now (out .entry)) (place .at) (refusalLine 1)) × (r .at ≡ capped (place .at + 5))
+        × (r .progress ≡ record { used = place .progress .used; held = 0; changed = place .progress .changed }) ⌝ }
+{
+    let progress = place.progress;
+    Place {
+        at: script_lines::answers::put_refused(out, place.at, 1),
+        progress: Progress {
+            used: progress.used,
+            held: 0,
+            changed: progress.changed,
+        },
+    }
+}
+
+// The lines that a piece closes, where no byte of its first line is held.
+pub fn take_lines(
     number: u16,
     probes: usize,
     links: usize,
@@ -68,43 +89,40 @@ pub fn take_byte(
     highs: &[u16],
     costs: &[u16],
     rec: &mut [u8],
-    line: &mut [u8],
-    byte: u8,
+    piece: &[u8],
     out: &mut [u8],
-    place: Place,
-) -> Place
+    start: Place,
+) -> Lines
     requires { let x = slicesOf number probes links (now needs) (now lows) (now highs) (now costs) in
         ⌜ (slicesFault x ≡ 0) × (fleetFault (tableOf x) (now rec) ≡ 0) × (probes ≤ length (now degrees)) × Degrees (tableOf x) (now degrees)
-        × (place .progress .held ≤ 16) × (length (now line) ≡ 17) × (place .at ≤ 9223372036854775808) ⌝ }
+        × (start .progress .held ≡ 0) × (start .at ≤ 9223372036854775808) ⌝ }
     ensures { λ r. let x = slicesOf number probes links (now (needs .entry)) (now (lows .entry)) (now (highs .entry)) (now (costs .entry)) in
-        ⌜ Buffered (afterByte x 1024 (underWay (place .progress) (now (rec .entry)) (now (line .entry))) byte)
-        (place .at) r (now (rec .exit)) (now (line .exit)) (now (out .entry)) (now (out .exit)) ⌝ }
+        ⌜ Closed x (underWay (start .progress) (now (rec .entry)) []) (now (piece .entry)) (start .at) r (now (rec .exit)) [] (now (out .entry)) (now (out .exit)) ⌝ }
 {
-    let progress = place.progress;
-    let held = progress.held as usize;
-    line[held] = byte;
-    if byte == b'\n' {
-        return answer_line(
-            number,
-            probes,
-            links,
-            needs,
-            degrees,
-            lows,
-            highs,
-            costs,
-            rec,
-            &line[..held + 1],
-            out,
-            place,
-        );
+    let mut place = start;
+    let mut at = 0;
+    let mut next = super::line_bytes::line_end(piece, 0);
+    while at < next {
+        if next - at != 15 {
+            place = refuse_line(out, place);
+        } else {
+            place = answer_line(
+                number,
+                probes,
+                links,
+                needs,
+                degrees,
+                lows,
+                highs,
+                costs,
+                rec,
+                &piece[at..next],
+                out,
+                place,
+            );
+        }
+        at = next;
+        next = super::line_bytes::line_end(piece, at);
     }
-    Place {
-        at: place.at,
-        progress: Progress {
-            used: progress.used,
-            held: super::numbers::one_more(progress.held),
-            changed: progress.changed,
-        },
-    }
+    Lines { place, rest: at }
 }

@@ -11,12 +11,11 @@ ghost use Rattle.script_table.specs.Reading.{tableEnd, ReadsTableText};
 fn table_end(head: &[u8]) -> usize
     ensures { λ r. ⌜ r ≡ tableEnd (now (head .entry)) ⌝ }
 {
-    if table_text::line_checks::head_fault(head, 256, 2048) != 0 {
+    let header = table_text::line_checks::read_header(head, 256, 2048);
+    if header.fault != 0 {
         return head.len();
     }
-    let probes = hex::fields::number(head, 4, 4);
-    let links = hex::fields::number(head, 8, 4);
-    text_end(probes, links)
+    text_end(header.probes, header.links)
 }
 
 // Reads the table's bytes and no more: the header's line, then the rest that it tells of.

@@ -1,5 +1,5 @@
 -- Lines that are refused by 1, and eight digits.
-use Prim.Native.Nat.{ℕ, zero, suc, _+_, _*_, _/_, _%_, _≤_}
+use Prim.Native.Nat.{ℕ, zero, suc, _+_, _*_, _/_, _%_, _≤_, _<_}
 use mathlib.Core.Path.{_≡_, refl, sym, _∙_, ap}
 use mathlib.Core.Logic.{_⊎_, inl, inr}
 use mathlib.Core.Bool.{true, false, cond}
@@ -7,13 +7,14 @@ use mathlib.Core.List.{List, [], _∷_, _++_}
 use native.Mathlib.Omega.{arith}
 use native.Mathlib.Decide.{ℕ-discrete, decLe}
 use lib.Dec.{eqb}
-use lib.ListN.{length, take, length-append}
-use lib.Seq.{take-all, take-append-le, take-take, length-take-le}
+use lib.ListN.{length, take}
+use lib.Seq.{take-suc, take-all, take-append-le, take-take, length-take-le}
 use borrow.Author.Tests.{ne-eqb, eq-eqb, le-ltb}
 use Rattle.range.proofs.Bools.{decided}
 use Rattle.hex.specs.Digits.{digits}
 use Rattle.lines.specs.Line.{untilFeed, lineAt}
 use Rattle.lines.specs.declared.Line.the-variants.{Missing}
+use Rattle.lines.proofs.Feeds.{until-at}
 use Rattle.lines.proofs.Lines.{fault-of-missing}
 use Rattle.probe_frame.specs.Frame.{frameFault}
 
@@ -74,23 +75,49 @@ unclosed-refused h u = go (ℕ-discrete (length h) 15)
     go (yes e) = rw (eq-eqb (length h) 15 e, ← fault-of-missing h 0 14 missing)
     go (no n) = wrong-length h n
 
--- 16 bytes of a longer line do as the line.
-pub take-again : (h : List ℕ) (b : ℕ) → take 16 (take 16 h ++ (b ∷ [])) ≡ take 16 (h ++ (b ∷ []))
-take-again h b = go (decLe (length h) 16)
+-- the bytes behind the first of an unclosed list
+pub unclosed-rest : (b : ℕ) (l : List ℕ) → Unclosed (b ∷ l) → (eqb b 10 ≡ false) × Unclosed l
+unfolding untilFeed
+unclosed-rest b l u = go (decided (eqb b 10)) u
   where
-    go : Dec (length h ≤ 16) → take 16 (take 16 h ++ (b ∷ [])) ≡ take 16 (h ++ (b ∷ []))
-    go (yes l) = rw (take-all 16 h l)
-    go (no n) =
-        let l = length-take-le 16 h (omega arith) in
-        take-append-le 16 (take 16 h) (b ∷ []) (omega arith) ∙ take-take 16 16 h (omega arith) ∙ sym (take-append-le 16 h (b ∷ []) (omega arith))
+    go : (eqb b 10 ≡ true) ⊎ (eqb b 10 ≡ false) → cond (eqb b 10) 0 (suc (untilFeed l)) ≡ suc (length l) → (eqb b 10 ≡ false) × Unclosed l
+    go (inl f) v = absurd (let w = rw f at v in omega arith)
+    go (inr f) v = let w = rw f at v in (f, omega arith)
 
-pub short-or-refused : (h : List ℕ) (b : ℕ) → (take 16 h ≡ h) ⊎ ((frameFault (take 16 h ++ (b ∷ [])) ≡ 1) × (frameFault (h ++ (b ∷ [])) ≡ 1))
-short-or-refused h b = go (decLe (length h) 16)
+-- the bytes before the first line feed
+pub unclosed-start : (s : List ℕ) → Unclosed (take (untilFeed s) s)
+unfolding untilFeed
+unclosed-start [] = refl
+unclosed-start (b ∷ s) = go (decided (eqb b 10)) (unclosed-start s)
   where
-    go : Dec (length h ≤ 16) → (take 16 h ≡ h) ⊎ ((frameFault (take 16 h ++ (b ∷ [])) ≡ 1) × (frameFault (h ++ (b ∷ [])) ≡ 1))
-    go (yes l) = inl (take-all 16 h l)
+    go : (eqb b 10 ≡ true) ⊎ (eqb b 10 ≡ false) → Unclosed (take (untilFeed s) s) → Unclosed (take (cond (eqb b 10) 0 (suc (untilFeed s))) (b ∷ s))
+    go (inl f) u = rw f
+    go (inr f) u = rw f (rw f (ap suc u))
+
+pub closed-start : (s : List ℕ) → untilFeed s < length s → take (suc (untilFeed s)) s ≡ take (untilFeed s) s ++ (10 ∷ [])
+closed-start s l = take-suc s (untilFeed s) 0 l ∙ ap (λ (b : ℕ). take (untilFeed s) s ++ (b ∷ [])) (until-at s l)
+
+-- at most as many, and at most 16
+pub short-take : (n : ℕ) (h : List ℕ) → (length (take n h) ≤ length h) × (length (take n h) ≤ n)
+short-take n h = go (decLe (length h) n)
+  where
+    go : Dec (length h ≤ n) → (length (take n h) ≤ length h) × (length (take n h) ≤ n)
+    go (yes l) = rw (take-all n h l) (omega arith, l)
+    go (no d) = let k = length-take-le n h (omega arith) in (omega arith, omega arith)
+
+-- 16 bytes of a longer line do as the line
+pub take-again : (h l : List ℕ) → take 16 (take 16 h ++ l) ≡ take 16 (h ++ l)
+take-again h l = go (decLe (length h) 16)
+  where
+    go : Dec (length h ≤ 16) → take 16 (take 16 h ++ l) ≡ take 16 (h ++ l)
+    go (yes k) = rw (take-all 16 h k)
     go (no n) =
-        let l = length-take-le 16 h (omega arith) in
-        let a = length-append (take 16 h) (b ∷ []) in
-        let c = length-append h (b ∷ []) in
-        inr (wrong-length (take 16 h ++ (b ∷ [])) (λ e. omega arith), wrong-length (h ++ (b ∷ [])) (λ e. omega arith))
+        let k = length-take-le 16 h (omega arith) in
+        take-append-le 16 (take 16 h) l (omega arith) ∙ take-take 16 16 h (omega arith) ∙ sym (take-append-le 16 h l (omega arith))
+
+pub short-or-long : (h : List ℕ) → (take 16 h ≡ h) ⊎ ((frameFault (take 16 h) ≡ 1) × (frameFault h ≡ 1))
+short-or-long h = go (decLe (length h) 16)
+  where
+    go : Dec (length h ≤ 16) → (take 16 h ≡ h) ⊎ ((frameFault (take 16 h) ≡ 1) × (frameFault h ≡ 1))
+    go (yes l) = inl (take-all 16 h l)
+    go (no n) = let l = length-take-le 16 h (omega arith) in inr (wrong-length (take 16 h) (λ e. omega arith), wrong-length h (λ e. omega arith))

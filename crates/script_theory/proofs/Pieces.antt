@@ -1,5 +1,5 @@
 -- A script handled in pieces prints what it prints handled whole.
-use Prim.Native.Nat.{ℕ, _+_, _%_, _<_}
+use Prim.Native.Nat.{ℕ, _+_, _%_, _≤_, _<_}
 use mathlib.Core.Path.{_≡_, refl, sym, _∙_, ap}
 use mathlib.Core.Logic.{_⊎_, inl, inr}
 use mathlib.Core.Bool.{true, false, cond, true≢false}
@@ -7,6 +7,7 @@ use mathlib.Core.List.{List, [], _∷_, _++_, append-nil, append-assoc}
 use native.Mathlib.Omega.{arith}
 use lib.Dec.{eqb}
 use lib.ListN.{length, take, length-append}
+use lib.Seq.{take-all}
 use borrow.Author.Tests.{ne-eqb}
 use Rattle.range.specs.Sum.{sum}
 use Rattle.range.proofs.Bools.{decided}
@@ -20,7 +21,7 @@ use Rattle.table.specs.Slices.{Slices, tableOf, slicesFault}
 use Rattle.fleet_theory.proofs.Changes.{no-changes}
 use Rattle.fleet_theory.proofs.Run.{HoldsAfter, start-holds, fault-is, next-holds}
 use Rattle.script_theory.specs.Script.{answerLine, linesFrom, printed, lastLine, scriptText, Script, afterLine, afterByte, afterPiece, begun, endText, together, carried, printedBy}
-use Rattle.script_theory.proofs.Lines.{same-digits, Unclosed, unclosed-none, unclosed-next, unclosed-refused, take-again, short-or-refused}
+use Rattle.script_theory.proofs.Lines.{same-digits, Unclosed, unclosed-none, unclosed-next, unclosed-rest, unclosed-refused, short-take, take-again, short-or-long}
 
 module _ (x : Slices) (room : ℕ) where
   pub in-pieces : (p : Script) (a b : List ℕ) → afterPiece x room p (a ++ b) ≡ afterPiece x room (afterPiece x room p a) b
@@ -32,7 +33,7 @@ module _ (x : Slices) (room : ℕ) where
   abbrev pub onto : List ℕ → Script → Script
   onto o p = record { bytes = p .bytes; used = p .used; changed = p .changed; held = p .held; out = o ++ p .out }
 
-  pub byte-onto : (o : List ℕ) (p : Script) (b : ℕ) → afterByte x room (onto o p) b ≡ onto o (afterByte x room p b)
+  byte-onto : (o : List ℕ) (p : Script) (b : ℕ) → afterByte x room (onto o p) b ≡ onto o (afterByte x room p b)
   byte-onto o p b = go (decided (eqb b 10))
     where
       go : (eqb b 10 ≡ true) ⊎ (eqb b 10 ≡ false) → afterByte x room (onto o p) b ≡ onto o (afterByte x room p b)
@@ -91,12 +92,38 @@ module _ (x : Slices) (room : ℕ) where
       (λ z. let a = or-right fleet 1 (or-right (slicesFault x) (orElse fleet 1) z) in omega arith) in
       rw (e, e′, some)
 
-  line-capped : (p : Script) (h : List ℕ) (b : ℕ) → afterLine x room p (take 16 h ++ (b ∷ [])) ≡ afterLine x room p (h ++ (b ∷ []))
-  line-capped p h b = go (short-or-refused h b)
+  -- 16 bytes of a line do as the line
+  pub line-cut : (p : Script) (h : List ℕ) → afterLine x room p (take 16 h) ≡ afterLine x room p h
+  line-cut p h = go (short-or-long h)
     where
-      go : (take 16 h ≡ h) ⊎ ((frameFault (take 16 h ++ (b ∷ [])) ≡ 1) × (frameFault (h ++ (b ∷ [])) ≡ 1)) → afterLine x room p (take 16 h ++ (b ∷ [])) ≡ afterLine x room p (h ++ (b ∷ []))
+      go : (take 16 h ≡ h) ⊎ ((frameFault (take 16 h) ≡ 1) × (frameFault h ≡ 1)) → afterLine x room p (take 16 h) ≡ afterLine x room p h
       go (inl e) = rw e
-      go (inr (a, c)) = refused-same p (take 16 h ++ (b ∷ [])) (h ++ (b ∷ [])) a c
+      go (inr (a, c)) = refused-same p (take 16 h) h a c
+
+  line-capped : (p : Script) (h : List ℕ) (b : ℕ) → afterLine x room p (take 16 h ++ (b ∷ [])) ≡ afterLine x room p (h ++ (b ∷ []))
+  line-capped p h b =
+      sym (line-cut p (take 16 h ++ (b ∷ []))) ∙ ap (λ (l : List ℕ). afterLine x room p l) (take-again h (b ∷ [])) ∙ line-cut p (h ++ (b ∷ []))
+
+  -- with other bytes of an unfinished line
+  abbrev pub holding : Script → List ℕ → Script
+  holding p h = record { bytes = p .bytes; used = p .used; changed = p .changed; held = h; out = p .out }
+
+  -- bytes without a line feed are held, 16 in all
+  pub held-bytes : (p : Script) (l : List ℕ) → Unclosed l → length (p .held) ≤ 16 → afterPiece x room p l ≡ holding p (take 16 (p .held ++ l))
+  unfolding afterPiece
+  held-bytes p [] u few = rw (append-nil (p .held), take-all 16 (p .held) few)
+  held-bytes p (b ∷ l) u few =
+      let r = unclosed-rest b l u in
+      let h = p .held ++ (b ∷ []) in
+      let i = held-bytes (holding p (take 16 h)) l (r .1) (short-take 16 h .1) in
+      rw (r .0) (i ∙ rw (take-again h l, append-assoc (p .held) (b ∷ []) l))
+
+  -- a line feed behind them closes the line
+  pub closed-line : (p : Script) (l : List ℕ) → Unclosed l → length (p .held) ≤ 16 → afterPiece x room p (l ++ (10 ∷ [])) ≡ afterLine x room p (p .held ++ (l ++ (10 ∷ [])))
+  unfolding afterPiece
+  closed-line p l u few =
+      in-pieces p l (10 ∷ []) ∙ ap (λ (q : Script). afterPiece x room q (10 ∷ [])) (held-bytes p l u few) ∙ line-capped p (p .held ++ l) 10
+      ∙ rw (append-assoc (p .held) l (10 ∷ []))
 
   changes-first : (s : State) (l : List ℕ) (ls : List (List ℕ))
       → allChanges x room s (l ∷ ls) ≡ sum (x .links) (linkChanges (s .bytes) (next x room s l .bytes)) + allChanges x room (next x room s l) ls
@@ -164,7 +191,7 @@ module _ (x : Slices) (room : ℕ) where
             rw (e, line-capped (beside s c (take 16 h) o) h b, line-beside s c (take 16 h) o l, ← d)
             (r ∙ append-assoc o a (printed x room s′ ls ++ done (c′ + allChanges x room s′ ls))
             ∙ ap (λ (z : List ℕ). o ++ z) (sym (append-assoc a (printed x room s′ ls) (done (c′ + allChanges x room s′ ls)))))
-        go (inr e) rest = rw (e, take-again h b) (rest s hs c l o (unclosed-next h b u e))
+        go (inr e) rest = rw (e, take-again h (b ∷ [])) (rest s hs c l o (unclosed-next h b u e))
 
     -- record, used entries and changes, from a state and the bytes of an unfinished line
     abbrev Reaches : State → ℕ → List ℕ → List ℕ → List ℕ → Type 0
@@ -203,7 +230,7 @@ module _ (x : Slices) (room : ℕ) where
             let n = changes-first s l ls in
             let m : (c′ + allChanges x room s′ ls) % 4294967296 ≡ (c + allChanges x room s (l ∷ ls)) % 4294967296 = omega arith in
             rw (e, line-capped (beside s c (take 16 h) o) h b, line-beside s c (take 16 h) o l) (r .0, r .1, r .2 ∙ m)
-        go (inr e) rest = rw (e, take-again h b) (rest s hs c small l o (unclosed-next h b u e))
+        go (inr e) rest = rw (e, take-again h (b ∷ [])) (rest s hs c small l o (unclosed-next h b u e))
 
     -- after a text from the start, record, used entries and changes are those of the run over its lines
     pub reached : (text : List ℕ) → (let q = afterPiece x room (begun x) text in

@@ -19,11 +19,6 @@ pub const LINK_BYTES: usize = 13;
 
 pub const CLOSING_BYTES: usize = 5;
 
-// Where the high and the cost stand in a link's line; its low is in front.
-pub const HIGH_AT: usize = 4;
-
-pub const COST_AT: usize = 8;
-
 // A table's answer: fine, or the number of its refusal.
 pub enum Checking {
     Fine,

@@ -7,7 +7,7 @@ use native.Mathlib.Omega.{arith}
 use lib.Dec.{eqb}
 use borrow.Author.Tests.{ne-eqb}
 use Rattle.range.specs.Reply.{refusal, values}
-use Rattle.range.proofs.Faults.{or-left, or-right}
+use Rattle.range.proofs.Faults.{or-left, or-right, or-here, or-next}
 use Rattle.table.specs.Table.{Table}
 use Rattle.table.specs.Legal.{roomFault}
 use Rattle.table.specs.Text.{ofText, textEnd, textFault, readFault}
@@ -35,6 +35,18 @@ reads-answer {fault} {t} {r} w = go r (eqb fault 0) (w .answer)
     go (Refused n) true e = let z : _≡_ {A = ℕ} 0 1 = cc in absurd (omega arith)
     go (Refused n) false e = cc
 
+-- The fault of a reading: the text's, then 8.
+module _ (pmax lmax : ℕ) (more : Bool) (s : List ℕ) (needs lows highs costs text : ℕ) (e : text ≡ textFault pmax lmax more s) where
+  pub fault-text : (text ≡ 0 → ⊥) → text ≡ readFault pmax lmax more s needs lows highs costs
+  unfolding readFault
+  fault-text n = or-here _ _ _ e n
+
+  pub fault-room : (room probes links : ℕ) → text ≡ 0 → probes ≡ ofText s .probes → links ≡ ofText s .links → room ≡ roomFault probes links needs lows highs costs
+      → room ≡ readFault pmax lmax more s needs lows highs costs
+  unfolding readFault
+  fault-room room probes links z p l r = or-next _ _ _ _ e z (r ∙ rw (p, l))
+
+-- a reading without a fault
 module _ (pmax lmax : ℕ) (more : Bool) (s : List ℕ) (needs lows highs costs : ℕ) (e : readFault pmax lmax more s needs lows highs costs ≡ 0) where
   abbrev room : ℕ
   room = roomFault (ofText s .probes) (ofText s .links) needs lows highs costs

@@ -1,116 +1,117 @@
-// 1 to 6 of a table's text, line by line. Each line is taken from the reader, at the offset that the line before gave.
-use table::HIGH_AT;
+// 1 to 6 of a table's text, line by line. Each line of digits is read where it stands.
+use super::Header;
+use super::Link;
+use reader::numbers::need_line;
+use reader::numbers::triple_line;
+use table::LINK_BYTES;
+use table::NEED_BYTES;
+use table::starts::link_start;
 ghost use mathlib.Core.Path.{_≡_};
 ghost use mathlib.Core.Bool.{true};
-ghost use Prim.Native.Nat.{_-_, _≤_};
+ghost use Prim.Native.Nat.{_-_, _≤_, _<_};
 ghost use lib.ListN.{length, drop};
 ghost use Rattle.range.specs.First.{first};
-ghost use Rattle.lines.specs.Line.{lineAt};
-ghost use Rattle.lines.specs.Digits.{lineFault};
 ghost use Rattle.table.specs.Text.{ofText, begins, needStart, linkStart, closingFault, needLineFault, linkLineFault, headFault};
-
-// Lines that were checked: the first fault among them, 0 for none, and where the next line starts.
-pub struct Checked {
-    pub fault: u8,
-    pub next: usize,
-}
-
-// 1 and 2 of the line of so many digits at an offset.
-fn digits_line(text: &[u8], at: usize, width: usize) -> Checked
-    ensures { λ r. ⌜ (r .fault ≡ lineFault (now (text .entry)) at width) × (r .next ≡ lineAt (now (text .entry)) at .next) ⌝ }
-{
-    let found = reader::line_at(text, at);
-    let line = found.line;
-    let fault = lines::checks::found_fault(text, line, width);
-    Checked {
-        fault,
-        next: found.next,
-    }
-}
+ghost use Rattle.table_text.specs.Header.{HeaderOf};
 
 // 1 and 2 of the header, then 3.
-pub fn head_fault(text: &[u8], pmax: usize, lmax: usize) -> u8
-    ensures { λ r. ⌜ r ≡ headFault pmax lmax (now (text .entry)) ⌝ }
+pub fn read_header(text: &[u8], pmax: usize, lmax: usize) -> Header
+    ensures { λ r. ⌜ (r .fault ≡ headFault pmax lmax (now (text .entry))) × (r .fault ≡ 0 → HeaderOf (now (text .entry)) r) ⌝ }
 {
-    let found = reader::first_line(text);
-    let line = found.line;
-    let fault = lines::checks::found_fault(text, line, 12);
-    if fault != 0 {
-        return fault;
+    let line = triple_line(text, 0);
+    if line.fault != 0 {
+        return Header {
+            fault: line.fault,
+            number: 0,
+            probes: 0,
+            links: 0,
+        };
     }
-    table::checks::size_fault(
-        pmax,
-        lmax,
-        hex::fields::number(text, 4, 4),
-        hex::fields::number(text, 8, 4),
-    )
+    Header {
+        fault: table::checks::size_fault(pmax, lmax, line.second, line.third),
+        number: line.first,
+        probes: line.second,
+        links: line.third,
+    }
 }
 
 // 1 and 2 of the need lines, from where the first one starts.
-pub fn need_lines(text: &[u8], start: usize, probes: usize) -> Checked
-    requires { ⌜ start ≡ needStart 0 ⌝ }
-    ensures { λ r. ⌜ (r .fault ≡ first (needLineFault (now (text .entry))) probes) × (r .fault ≡ 0 → r .next ≡ needStart probes) ⌝ }
+pub fn need_lines_fault(text: &[u8], start: usize, probes: usize) -> u8
+    requires { ⌜ (start ≡ needStart 0) × (probes ≤ 256) ⌝ }
+    ensures { λ r. ⌜ r ≡ first (needLineFault (now (text .entry))) probes ⌝ }
 {
     let mut at = start;
     let mut v = 0;
     while v < probes {
-        let line = digits_line(text, at, 4);
+        let line = need_line(text, at);
         if line.fault != 0 {
-            return line;
+            return line.fault;
         }
-        at = line.next;
+        at += NEED_BYTES;
         v += 1;
     }
-    Checked { fault: 0, next: at }
+    0
 }
 
-// 1, 2, 4 and 5 of one link line. `before` is where the link line before it starts.
-fn link_line(text: &[u8], probes: usize, before: usize, at: usize, i: usize) -> Checked
-    requires { ⌜ (probes ≡ ofText (now text) .probes) × (before ≡ linkStart probes (i - 1)) × (at ≡ linkStart probes i) ⌝ }
-    ensures { λ r. ⌜ (r .fault ≡ linkLineFault (now (text .entry)) i) × (r .next ≡ lineAt (now (text .entry)) at .next) ⌝ }
+// 1, 2, 4 and 5 of the line of link i, which starts at an offset; `low0` and `high0` are the ends of the link before it.
+fn link_line(text: &[u8], probes: usize, at: usize, i: usize, low0: usize, high0: usize) -> Link
+    requires { let t = ofText (now text) in
+        ⌜ (probes ≡ t .probes) × (at ≡ linkStart probes i) × (0 < i → (low0 ≡ t .low (i - 1)) × (high0 ≡ t .high (i - 1))) ⌝ }
+    ensures { λ r. let t = ofText (now (text .entry)) in
+        ⌜ (r .fault ≡ linkLineFault (now (text .entry)) i) × (r .fault ≡ 0 → (r .low ≡ t .low i) × (r .high ≡ t .high i)) ⌝ }
 {
-    let line = digits_line(text, at, 12);
+    let line = triple_line(text, at);
+    let low = line.first;
+    let high = line.second;
     if line.fault != 0 {
-        return line;
+        return Link {
+            fault: line.fault,
+            low,
+            high,
+        };
     }
-    let low = hex::fields::number(text, at, 4);
-    let high = hex::fields::number(text, at + HIGH_AT, 4);
     let ends = table::checks::ends_fault(probes, low, high);
     if ends != 0 {
-        return Checked {
+        return Link {
             fault: ends,
-            next: line.next,
+            low,
+            high,
         };
     }
     if i == 0 {
-        return line;
+        return Link {
+            fault: 0,
+            low,
+            high,
+        };
     }
-    let low0 = hex::fields::number(text, before, 4);
-    let high0 = hex::fields::number(text, before + HIGH_AT, 4);
-    Checked {
+    Link {
         fault: table::checks::order_fault(low0, high0, low, high),
-        next: line.next,
+        low,
+        high,
     }
 }
 
-// 1, 2, 4 and 5 of the link lines, from where the first one starts.
-pub fn link_lines(text: &[u8], start: usize, probes: usize, links: usize) -> Checked
-    requires { ⌜ (probes ≡ ofText (now text) .probes) × (start ≡ linkStart probes 0) ⌝ }
-    ensures { λ r. ⌜ (r .fault ≡ first (linkLineFault (now (text .entry))) links) × (r .fault ≡ 0 → r .next ≡ linkStart probes links) ⌝ }
+// 1, 2, 4 and 5 of the link lines.
+pub fn link_lines_fault(text: &[u8], probes: usize, links: usize) -> u8
+    requires { ⌜ (probes ≡ ofText (now text) .probes) × (probes ≤ 256) × (links ≤ 2048) ⌝ }
+    ensures { λ r. ⌜ r ≡ first (linkLineFault (now (text .entry))) links ⌝ }
 {
-    let mut before = start;
-    let mut at = start;
+    let mut at = link_start(probes, 0);
+    let mut low = 0;
+    let mut high = 0;
     let mut i = 0;
     while i < links {
-        let link = link_line(text, probes, before, at, i);
+        let link = link_line(text, probes, at, i, low, high);
         if link.fault != 0 {
-            return link;
+            return link.fault;
         }
-        before = at;
-        at = link.next;
+        low = link.low;
+        high = link.high;
+        at += LINK_BYTES;
         i += 1;
     }
-    Checked { fault: 0, next: at }
+    0
 }
 
 // Whether some bytes stand in a text at an offset.

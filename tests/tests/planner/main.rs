@@ -9,6 +9,7 @@ mod ends;
 mod fleet;
 mod fleet_definitions;
 mod header;
+mod lines_alone;
 mod marked_sites;
 mod methods;
 mod named_slices;

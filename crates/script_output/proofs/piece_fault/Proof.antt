@@ -18,7 +18,7 @@ use Rattle.output.proofs.Printing.{too-short, long-enough}
 use Rattle.script_lines.proofs.Fitting.{capped-least, capped-within}
 use Rattle.script_theory.specs.Script.{afterPiece}
 use Rattle.script_steps.specs.Within.{underWay}
-use Rattle.script_pieces.proofs.PieceLaws.{piece-short}
+use Rattle.script_steps.proofs.PieceLaws.{piece-short}
 use Rattle.script_output.proofs.Answers.{fault-site, fault-short}
 
 returns : tie.Need-returns

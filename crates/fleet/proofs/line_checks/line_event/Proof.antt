@@ -1,20 +1,16 @@
 -- `fleet::line_checks::line_event` meets its contract.
-use borrow.Author.Needs.{needs}
 use Rattle.fleet.proofs.line_checks.line_event.Statement.{statement}
 use Rattle.fleet.proofs.line_checks.line_event.Tie as tie
 use borrow.Author.Tests.{eq-eqb, ne-eqb}
 
-field-requires : tie.Need-field-requires
-field-requires c κs = search needs
-
 returns : tie.Need-returns
-returns c = rw (← c .before .field .ensures, eq-eqb _ _ (c .if1 .taken))
+returns c = rw (eq-eqb _ _ (c .if1 .taken))
 
 returns-2 : tie.Need-returns-2
-returns-2 c = rw (← c .before .before .field .ensures, ne-eqb _ _ (c .before .if1 .left), eq-eqb _ _ (c .if2 .taken))
+returns-2 c = rw (ne-eqb _ _ (c .before .if1 .left), eq-eqb _ _ (c .if2 .taken))
 
 returns-3 : tie.Need-returns-3
-returns-3 c = rw (← c .before .before .field .ensures, ne-eqb _ _ (c .before .if1 .left), ne-eqb _ _ (c .if2 .left))
+returns-3 c = rw (ne-eqb _ _ (c .before .if1 .left), ne-eqb _ _ (c .if2 .left))
 
 pub line-event-spec : {M : Type 1} → statement M
-line-event-spec = tie.close (tie.spec field-requires returns returns-2 returns-3)
+line-event-spec = tie.close (tie.spec returns returns-2 returns-3)

@@ -3,15 +3,16 @@ use borrow.Author.Needs.{needs}
 use Rattle.script_pieces.proofs.pieces.count_piece.Statement.{statement}
 use Rattle.script_pieces.proofs.pieces.count_piece.Tie as tie
 use Prim.Native.Nat.{ℕ}
-use mathlib.Core.Path.{sym, _∙_, ap}
+use mathlib.Core.Path.{sym, _∙_}
 use mathlib.Core.List.{List}
 use native.Mathlib.Omega.{arith}
 use lib.ListN.{length, replicate}
 use lib.Seq.{length-take-le, take-all}
 use Rattle.table.specs.Slices.{slicesOf, tableOf}
 use Rattle.fleet_state.proofs.CheckLaws.{fleet-good}
-use Rattle.script_lines.specs.Fitting.{capped}
-use Rattle.script_pieces.proofs.PieceLaws.{copied-part}
+use Rattle.script_steps.specs.Within.{underWay}
+use Rattle.script_steps.proofs.PieceLaws.{copied-part}
+use Rattle.script_pieces.proofs.Sharing.{piece-counted}
 use Rattle.script_pieces.proofs.Ends.{links-within}
 
 slice-aggregate-copy : tie.Need-slice-aggregate-copy
@@ -26,71 +27,52 @@ copy-requires c κs =
     let f = fleet-good (tableOf x) (a .rec .now) (s .pre .1) in
     (omega (arith, f .0), omega arith)
 
-slice-aggregate-copy-2 : tie.Need-slice-aggregate-copy-2
-slice-aggregate-copy-2 c = search needs
-
-cast-copy : tie.Need-cast-copy
-cast-copy c = search needs
-
-copy-requires-2 : tie.Need-copy-requires-2
-copy-requires-2 c κs = search needs
-
 array-borrow-prefix-bytes : tie.Need-array-borrow-prefix-bytes
 array-borrow-prefix-bytes c =
-    let s = c .before .before .before .before .before .before .before .before .before .before .before .before .before .before .before in
-    let at-copy = c .before .before .before .before .before in
+    let s = c .before .before .before .before .before .before .before .before .before .before .before in
     let a = s .args in
     let x = slicesOf (a .number) (a .probes) (a .links) (a .needs .now) (a .lows .now) (a .highs .now) (a .costs .now) in
     let m = links-within x (s .pre .0) in
     let f = fleet-good (tableOf x) (a .rec .now) (s .pre .1) in
-    omega (arith, f .0, at-copy .copy .kept .0)
+    omega (arith, f .0, c .before .copy .kept .0)
 
-slice-aggregate-take-piece : tie.Need-slice-aggregate-take-piece
-slice-aggregate-take-piece c =
-    let at-copy = c .before .before .before .before .before .before in
-    let s = at-copy .before .before .before .before .before .before .before .before .before .before in
+slice-aggregate-take-closed : tie.Need-slice-aggregate-take-closed
+slice-aggregate-take-closed c =
+    let s = c .before .before .before .before .before .before .before .before .before .before .before .before in
     let a = s .args in
     let x = slicesOf (a .number) (a .probes) (a .links) (a .needs .now) (a .lows .now) (a .highs .now) (a .costs .now) in
     let m = links-within x (s .pre .0) in
     let f = fleet-good (tableOf x) (a .rec .now) (s .pre .1) in
-    sym (length-take-le _ _ (omega (arith, f .0, at-copy .copy .kept .0)))
-
-slice-aggregate-take-piece-2 : tie.Need-slice-aggregate-take-piece-2
-slice-aggregate-take-piece-2 c = search needs
+    sym (length-take-le _ _ (omega (arith, f .0, c .before .before .copy .kept .0)))
 
 array-borrow-prefix-none : tie.Need-array-borrow-prefix-none
 array-borrow-prefix-none c = search needs
 
-slice-aggregate-take-piece-3 : tie.Need-slice-aggregate-take-piece-3
-slice-aggregate-take-piece-3 c = search needs
+slice-aggregate-take-closed-2 : tie.Need-slice-aggregate-take-closed-2
+slice-aggregate-take-closed-2 c = search needs
 
-take-piece-requires : tie.Need-take-piece-requires
-take-piece-requires c κs =
-    let at-copy = c .before .before .before .before .before .before .before .before in
-    let s = at-copy .before .before .before .before .before .before .before .before .before .before in
+take-closed-requires : tie.Need-take-closed-requires
+take-closed-requires c κs =
+    let s = c .before .before .before .before .before .before .before .before .before .before .before .before .before in
     let a = s .args in
     let x = slicesOf (a .number) (a .probes) (a .links) (a .needs .now) (a .lows .now) (a .highs .now) (a .costs .now) in
     let m = links-within x (s .pre .0) in
     let f = fleet-good (tableOf x) (a .rec .now) (s .pre .1) in
     let zeros : List ℕ = replicate 8192 0 in
-    let whole = copied-part zeros _ (a .rec .now) (length (a .rec .now)) (at-copy .copy .ensures) (omega (arith, f .0)) (omega arith) ∙ take-all (length (a .rec .now)) (a .rec .now) (omega arith) in
-    (s .pre .0, rw whole (s .pre .1), s .pre .2, s .pre .3, s .pre .4, c .before .before .before .before .copy2 .kept .0)
+    let whole = copied-part zeros _ (a .rec .now) (length (a .rec .now)) (c .before .before .before .copy .ensures) (omega (arith, f .0)) (omega arith) ∙ take-all (length (a .rec .now)) (a .rec .now) (omega arith) in
+    (s .pre .0, rw whole (s .pre .1), s .pre .2, s .pre .3, s .pre .4, s .pre .5)
 
 returns : tie.Need-returns
 returns c =
-    let at-take-piece = c .before .before .before in
-    let at-copy2 = at-take-piece .before .before .before .before .before in
-    let at-copy = at-copy2 .before .before .before .before in
-    let s = at-copy .before .before .before .before .before .before .before .before .before .before in
+    let s = c .before .before .before .before .before .before .before .before .before .before .before .before .before .before .before .before .before in
     let a = s .args in
     let x = slicesOf (a .number) (a .probes) (a .links) (a .needs .now) (a .lows .now) (a .highs .now) (a .costs .now) in
     let m = links-within x (s .pre .0) in
     let f = fleet-good (tableOf x) (a .rec .now) (s .pre .1) in
     let zeros : List ℕ = replicate 8192 0 in
-    let blank : List ℕ = replicate 17 0 in
-    let whole = copied-part zeros _ (a .rec .now) (length (a .rec .now)) (at-copy .copy .ensures) (omega (arith, f .0)) (omega arith) ∙ take-all (length (a .rec .now)) (a .rec .now) (omega arith) in
-    let part = copied-part blank _ (a .line .now) (a .progress .held) (at-copy2 .copy2 .ensures) (omega (arith, s .pre .4)) (s .pre .5) in
-    at-take-piece .take-piece .ensures .0 .at ∙ rw (whole, part) (ap capped (omega arith))
+    let whole = copied-part zeros _ (a .rec .now) (length (a .rec .now)) (c .before .before .before .before .before .before .before .copy .ensures) (omega (arith, f .0)) (omega arith) ∙ take-all (length (a .rec .now)) (a .rec .now) (omega arith) in
+    let n = length-take-le (a .progress .held) (a .line .now) (s .pre .5) in
+    piece-counted x (underWay (a .progress) (a .rec .now) (a .line .now)) (a .piece .now) _ _ _ _ _ (omega (arith, s .pre .4)) (rw whole at (c .before .before .before .take-closed .ensures))
 
 pub count-piece-spec : {M : Type 1} → statement M
 count-piece-spec =
@@ -98,13 +80,9 @@ count-piece-spec =
     (tie.spec
     slice-aggregate-copy
     copy-requires
-    slice-aggregate-copy-2
-    cast-copy
-    copy-requires-2
     array-borrow-prefix-bytes
-    slice-aggregate-take-piece
-    slice-aggregate-take-piece-2
+    slice-aggregate-take-closed
     array-borrow-prefix-none
-    slice-aggregate-take-piece-3
-    take-piece-requires
+    slice-aggregate-take-closed-2
+    take-closed-requires
     returns)

@@ -1,91 +1,78 @@
 -- `script_pieces::pieces::take_piece` meets its contract.
--- Invariant: record, line, output and place are those after i bytes of the piece. Measure: the bytes that are left.
 use borrow.Author.Needs.{needs}
 use Rattle.script_pieces.proofs.pieces.take_piece.Statement.{statement}
 use Rattle.script_pieces.proofs.pieces.take_piece.Tie as tie
-use Prim.Native.Nat.{_-_, _≤_}
-use mathlib.Core.Path.{_≡_, refl, _∙_}
 use native.Mathlib.Omega.{arith}
-use lib.ListN.{length}
+use lib.Seq.{length-take-le}
 use Rattle.table.specs.Slices.{slicesOf}
 use Rattle.script_steps.specs.Within.{underWay}
-use Rattle.script_pieces.proofs.PieceLaws.{at-most, Taken, taken-none, taken-next, taken-all}
+use Rattle.script_steps.proofs.Holding.{appended-few}
+use Rattle.script_pieces.proofs.Sharing.{closed-few, piece-taken}
 
-abbrev Inv-loop : tie.InvT-loop
-Inv-loop number probes links needs degrees lows highs costs rec₀ line₀ piece out₀ place₀ i₀ rec line out place i =
-    (i ≤ length piece) × Taken (slicesOf number probes links needs lows highs costs) 1024 (underWay (place₀ .progress) rec₀ line₀) piece out₀ i place rec line out
-    × (length rec ≡ length rec₀) × (length line ≡ 17) × (length out ≡ length out₀)
+take-closed-requires : tie.Need-take-closed-requires
+take-closed-requires c κs =
+    let s = c .before .before .before .before .before .before .before .before .before .before .before .before in
+    (s .pre .0, s .pre .1, s .pre .2, s .pre .3, s .pre .4, omega (arith, s .pre .4, s .pre .5))
 
-abbrev μ-loop : tie.MeasureT-loop
-μ-loop number probes links needs degrees lows highs costs rec₀ line₀ piece out₀ place₀ i₀ rec line out place i = length piece - i
+cast-append : tie.Need-cast-append
+cast-append c = search needs
 
-loop-holds : tie.Need-loop-holds Inv-loop μ-loop
-loop-holds c =
-    let s = c .before .before .before .before .before .before .before .before .before in
+sub-append : tie.Need-sub-append
+sub-append c = search needs
+
+part-append-start : tie.Need-part-append-start
+part-append-start c = search needs
+
+part-append-end : tie.Need-part-append-end
+part-append-end c = search needs
+
+append-requires : tie.Need-append-requires
+append-requires c κs =
+    let s = c .before .before .before .before .before .before .before .before .before .before .before .before .before .before .before .before .before .before .before .before .before .before in
     let a = s .args in
     let x = slicesOf (a .number) (a .probes) (a .links) (a .needs .now) (a .lows .now) (a .highs .now) (a .costs .now) in
-    (omega arith, taken-none x 1024 (a .progress) (a .piece .now) (a .rec .now) (a .line .now) (a .out .now) (s .pre .1) (s .pre .4) (s .pre .5), refl, s .pre .5, refl)
+    let n = length-take-le (a .progress .held) (a .line .now) (omega (arith, s .pre .4, s .pre .5)) in
+    (closed-few x (underWay (a .progress) (a .rec .now) (a .line .now)) (a .piece .now) _ _ _ _ _ (omega (arith, s .pre .4)) (c .before .before .before .before .before .before .before .before .before .take-closed .ensures), s .pre .5)
 
-shared-slice-read-take-byte : tie.Need-shared-slice-read-take-byte Inv-loop μ-loop
-shared-slice-read-take-byte c = search needs
-
-take-byte-requires : tie.Need-take-byte-requires Inv-loop μ-loop
-take-byte-requires c κs =
-    let at-loop = c .before .before .before .before .before in
-    let s = at-loop .before .before .before .before .before .before .before .before .before .before in
-    let v = at-loop .loop .inv in
-    (s .pre .0, v .1 .usable, s .pre .2, s .pre .3, v .1 .few, v .3, at-most _ 0 _ _ _ _ _ (v .1 .buffered))
-
-add-i : tie.Need-add-i Inv-loop μ-loop
-add-i c =
-    let at-loop-test = c .before .before .before .before .before .before .before .before .before .before .before in
-    let at-start = at-loop-test .before .before .before .before .before .before .before .before .before .before .before in
-    omega (arith, at-loop-test .loop-test .taken, at-start .good .1 .1 .1 .1 .1 .1 .1 .1 .1 .1 .1 .0)
-
-loop-less : tie.Need-loop-less Inv-loop μ-loop
-loop-less c = search needs
-
-loop-again : tie.Need-loop-again Inv-loop μ-loop
-loop-again c =
-    let at-take-byte = c .before .before .before .before .before .before in
-    let at-loop-test = at-take-byte .before .before .before .before .before in
-    let at-loop = at-loop-test .before in
-    let s = at-loop .before .before .before .before .before .before .before .before .before .before in
+cast-t32 : tie.Need-cast-t32
+cast-t32 c =
+    let s = c .before .before .before .before .before .before .before .before .before .before .before .before .before .before .before .before .before .before .before .before .before .before .before .before .before in
     let a = s .args in
     let x = slicesOf (a .number) (a .probes) (a .links) (a .needs .now) (a .lows .now) (a .highs .now) (a .costs .now) in
-    let v = at-loop .loop .inv in
-    let t = at-take-byte .take-byte in
-    (omega (arith, at-loop-test .loop-test .taken), taken-next x 1024 (s .pre .0) (underWay (a .progress) (a .rec .now) (a .line .now)) (a .piece .now) (a .out .now) (at-loop .loop .i) (at-loop .loop .place) _ _ _ _ _ _ _ (at-loop-test .loop-test .taken) (v .4) (omega (arith, s .good .1 .1 .1 .1 .1 .1 .1 .1 .1 .1 .1 .1 .0)) (v .1) (t .ensures), t .kept .1 .1 .1 .1 .1 .1 .1 .1 .0 ∙ v .2, t .kept .1 .1 .1 .1 .1 .1 .1 .1 .1 .0 ∙ v .3, t .kept .1 .1 .1 .1 .1 .1 .1 .1 .1 .1 .1 .0 ∙ v .4)
+    let n = length-take-le (a .progress .held) (a .line .now) (omega (arith, s .pre .4, s .pre .5)) in
+    let f = closed-few x (underWay (a .progress) (a .rec .now) (a .line .now)) (a .piece .now) _ _ _ _ _ (omega (arith, s .pre .4)) (c .before .before .before .before .before .before .before .before .before .before .before .before .take-closed .ensures) in
+    let k = appended-few _ _ _ f (c .before .before .append .ensures .1) in
+    omega arith
 
-same-length : tie.Need-same-length Inv-loop μ-loop
+same-length : tie.Need-same-length
 same-length c = search needs
 
-same-length-2 : tie.Need-same-length-2 Inv-loop μ-loop
+same-length-2 : tie.Need-same-length-2
 same-length-2 c = search needs
 
-same-length-3 : tie.Need-same-length-3 Inv-loop μ-loop
+same-length-3 : tie.Need-same-length-3
 same-length-3 c = search needs
 
-returns : tie.Need-returns Inv-loop μ-loop
+returns : tie.Need-returns
 returns c =
-    let s = c .before .before .before .before .before .before .before .before .before .before .before in
+    let s = c .before .before .before .before .before .before .before .before .before .before .before .before .before .before .before .before .before .before .before .before .before .before .before .before .before in
     let a = s .args in
     let x = slicesOf (a .number) (a .probes) (a .links) (a .needs .now) (a .lows .now) (a .highs .now) (a .costs .now) in
-    let v = c .before .loop .inv in
-    (taken-all x 1024 (s .pre .0) (underWay (a .progress) (a .rec .now) (a .line .now)) (a .piece .now) (a .out .now) (c .before .loop .i) (c .before .loop .place) _ _ _ (omega (arith, c .loop-test .left)) (v .1), v .1 .few)
+    let n = length-take-le (a .progress .held) (a .line .now) (omega (arith, s .pre .4, s .pre .5)) in
+    let e = c .before .before .append .ensures in
+    piece-taken x (underWay (a .progress) (a .rec .now) (a .line .now)) (a .piece .now) _ _ _ (a .line .now) _ (a .out .now) _ (omega (arith, s .pre .4)) (s .pre .5) (c .before .before .before .before .before .before .before .before .before .before .before .before .take-closed .ensures) (e .0) (e .1)
 
 pub take-piece-spec : {M : Type 1} → statement M
 take-piece-spec =
     tie.close
     (tie.spec
-    Inv-loop
-    μ-loop
-    loop-holds
-    shared-slice-read-take-byte
-    take-byte-requires
-    add-i
-    loop-less
-    loop-again
+    take-closed-requires
+    cast-append
+    sub-append
+    part-append-start
+    part-append-end
+    append-requires
+    cast-t32
     same-length
     same-length-2
     same-length-3

@@ -3,6 +3,7 @@ use borrow.Author.Needs.{needs}
 use Rattle.script_pieces.proofs.whole.put_script.Statement.{statement}
 use Rattle.script_pieces.proofs.whole.put_script.Tie as tie
 use Prim.Native.Nat.{ℕ, _*_, _≤_}
+use mathlib.Core.Logic.{⊎-elim, inl, inr}
 use mathlib.Core.List.{List}
 use mathlib.Core.Path.{refl, sym}
 use native.Mathlib.Omega.{arith}
@@ -11,69 +12,67 @@ use lib.Seq.{length-take-le}
 use Rattle.table.proofs.Slices.{legal-slices}
 use Rattle.table.specs.Slices.{slicesOf}
 use Rattle.fleet_state.proofs.Legal.{fits}
-use Rattle.script_pieces.proofs.PieceLaws.{at-most}
-use Rattle.script_pieces.proofs.Ends.{links-within, zeros-pass, all-printed, all-length}
+use Rattle.script_steps.proofs.PieceLaws.{at-most}
+use Rattle.script_pieces.proofs.Ends.{links-within, zeros-pass, all-ready, all-printed, all-length}
 
 mul-bytes : tie.Need-mul-bytes
 mul-bytes c =
     let s = c .before .before .before .before .before .before .before in
     let a = s .args in
-    let m = links-within (slicesOf (a .number) (a .probes) (a .links) (a .needs .now) (a .lows .now) (a .highs .now) (a .costs .now)) (s .pre .0) in
+    let x = slicesOf (a .number) (a .probes) (a .links) (a .needs .now) (a .lows .now) (a .highs .now) (a .costs .now) in
+    let m = links-within x (s .pre .0) in
     omega arith
 
 array-borrow-prefix-bytes : tie.Need-array-borrow-prefix-bytes
 array-borrow-prefix-bytes c =
     let s = c .before .before .before .before .before .before .before in
     let a = s .args in
-    let m = links-within (slicesOf (a .number) (a .probes) (a .links) (a .needs .now) (a .lows .now) (a .highs .now) (a .costs .now)) (s .pre .0) in
+    let x = slicesOf (a .number) (a .probes) (a .links) (a .needs .now) (a .lows .now) (a .highs .now) (a .costs .now) in
+    let m = links-within x (s .pre .0) in
     omega arith
 
 slice-aggregate-rec : tie.Need-slice-aggregate-rec
 slice-aggregate-rec c =
     let s = c .before .before .before .before .before .before .before .before in
     let a = s .args in
-    let m = links-within (slicesOf (a .number) (a .probes) (a .links) (a .needs .now) (a .lows .now) (a .highs .now) (a .costs .now)) (s .pre .0) in
+    let x = slicesOf (a .number) (a .probes) (a .links) (a .needs .now) (a .lows .now) (a .highs .now) (a .costs .now) in
+    let m = links-within x (s .pre .0) in
     sym (length-take-le _ _ (omega arith))
 
-slice-aggregate-take-piece : tie.Need-slice-aggregate-take-piece
-slice-aggregate-take-piece c = search needs
-
-take-piece-requires : tie.Need-take-piece-requires
-take-piece-requires c κs =
-    let s = c .before .before .before .before .before .before .before .before .before .before .before in
+take-lines-requires : tie.Need-take-lines-requires
+take-lines-requires c κs =
+    let s = c .before .before .before .before .before .before .before .before .before .before in
     let a = s .args in
     let x = slicesOf (a .number) (a .probes) (a .links) (a .needs .now) (a .lows .now) (a .highs .now) (a .costs .now) in
     let m = links-within x (s .pre .0) in
-    (s .pre .0, zeros-pass x (s .pre .0) (omega arith), s .pre .1, s .pre .2, omega arith, refl)
+    (s .pre .0, zeros-pass x (s .pre .0) (omega arith), s .pre .1, s .pre .2, refl, omega arith)
 
 put-end-requires : tie.Need-put-end-requires
 put-end-requires c κs =
-    let at-take-piece = c .before .before .before .before .before .before .before .before in
-    let s = at-take-piece .before .before .before .before .before .before .before .before .before .before .before .before in
+    let at-take-lines = c .before .before .before .before .before .before .before .before .before .before in
+    let s = c .before .before .before .before .before .before .before .before .before .before .before .before .before .before .before .before .before .before .before .before .before in
     let a = s .args in
     let x = slicesOf (a .number) (a .probes) (a .links) (a .needs .now) (a .lows .now) (a .highs .now) (a .costs .now) in
-    let k = at-take-piece .take-piece in
+    let k = at-take-lines .take-lines in
     let m = links-within x (s .pre .0) in
     let zeros : List ℕ = replicate 8192 0 in
     let n = length-take-le (4 * a .links) zeros (omega arith) in
-    (fits (a .number) (a .probes) (a .links) (a .needs .now) (a .lows .now) (a .highs .now) (a .costs .now) (legal-slices 256 2048 x (s .pre .0)), omega (arith, k .kept .1 .1 .1 .1 .1 .1 .1 .1 .0), s .pre .1, s .pre .2, at-most _ 0 _ _ _ _ _ (k .ensures .0))
+    (fits (a .number) (a .probes) (a .links) (a .needs .now) (a .lows .now) (a .highs .now) (a .costs .now) (legal-slices 256 2048 x (s .pre .0)), omega (arith, k .kept .1 .1 .1 .1 .1 .1 .1 .1 .0), s .pre .1, s .pre .2, at-most _ 0 _ _ _ _ _ (k .ensures .buffered))
 
 same-length : tie.Need-same-length
 same-length c = search needs
 
 returns : tie.Need-returns
 returns c =
-    let at-put-end = c .before .before .before in
-    let at-take-piece = at-put-end .before .before .before .before .before .before .before .before .before in
-    let s = at-take-piece .before .before .before .before .before .before .before .before .before .before .before .before in
+    let k = c .before .before .before .before .before .before .before .before .before .before .before .before .before .before .take-lines in
+    let s = c .before .before .before .before .before .before .before .before .before .before .before .before .before .before .before .before .before .before .before .before .before .before .before .before .before in
     let a = s .args in
-    let k = at-take-piece .take-piece in
-    let e = at-put-end .put-end .ensures in
     let x = slicesOf (a .number) (a .probes) (a .links) (a .needs .now) (a .lows .now) (a .highs .now) (a .costs .now) in
+    let e = c .before .before .before .put-end .ensures in
     let m = links-within x (s .pre .0) in
     let w : 4 * a .links ≤ 8192 = omega arith in
-    let line : List ℕ = replicate 17 0 in
-    (all-length x (s .pre .0) w _ (refl, refl, refl) line _ (a .text .now) _ (a .out .now) _ (a .out .now) _ (k .ensures .0) _ (e .1), all-printed x (s .pre .0) w _ (refl, refl, refl) line _ (a .text .now) _ (a .out .now) _ _ _ (k .ensures .0) (k .kept .1 .1 .1 .1 .1 .1 .1 .1 .1 .1 .1 .1 .0) (omega (arith, s .good .1 .1 .1 .1 .1 .1 .1 .1 .1 .0)) (e .0 (a .number) (a .costs .now)))
+    let r = all-ready x (s .pre .0) w (a .text .now) _ (refl, refl, refl) _ _ (a .out .now) _ _ (k .ensures) (⊎-elim (λ w. inl (w .0 .taken, w .1)) (λ w. inr (w .0 .left, w .1)) (c .before .before .before .before .before .before .if1 .came)) in
+    (all-length x (s .pre .0) w (a .text .now) _ (a .out .now) _ (a .out .now) _ _ _ r _ (e .1), all-printed x (s .pre .0) w (a .text .now) _ (a .out .now) _ _ _ _ _ r (k .kept .1 .1 .1 .1 .1 .1 .1 .1 .1 .1 .0) (omega (arith, s .good .1 .1 .1 .1 .1 .1 .1 .1 .1 .0)) (e .0 (a .number) (a .costs .now)))
 
 pub put-script-spec : {M : Type 1} → statement M
 put-script-spec =
@@ -82,8 +81,7 @@ put-script-spec =
     mul-bytes
     array-borrow-prefix-bytes
     slice-aggregate-rec
-    slice-aggregate-take-piece
-    take-piece-requires
+    take-lines-requires
     put-end-requires
     same-length
     returns)
