@@ -40,6 +40,7 @@ lineReply ws s at = replyOf (lineFault s at (digitsOf ws)) (numbersAt s at ws)
 abbrev pub lineBytes : List ℕ → ℕ → List ℕ
 lineBytes s at = take (untilFeed (drop at s) + 1) (drop at s)
 
+-- a line of these fields gives at its offset what its bytes alone give
 abbrev pub SameAsAlone : List ℕ → Type 0
 SameAsAlone ws = (s : List ℕ) (at : ℕ) → lineReply ws s at ≡ lineReply ws (lineBytes s at) 0
 
