@@ -5,7 +5,9 @@
  * state of its own. The README has the stack that each call needs.
  *
  * A table in slices is: number, probes, links, needs (an entry a probe), lows, highs and costs (an entry a link).
- * The record of a probe has two bytes a link, that of a fleet four; a fresh record is all zero.
+ * The record of a probe has two bytes a link, that of a fleet eight: outbound from low, inbound at high, outbound from
+ * high, inbound at low, then a mark of each: 1 once the frame that the byte permits could have been sent, else 0. An
+ * outbound byte permits an offer while it is 1, an inbound byte a refusal while it is 2. A fresh record is all zero.
  * A wake log has a number for each entry, of any value before it is used; the count of its used ones goes beside it.
  *
  * The functions with display_ in their names are for the well-head display: parameters and answers as without it, at
@@ -14,13 +16,13 @@
  *
  * A refusal is its number, and leaves every slice as it was:
  *    1 a line is missing or not of its length          20 a record of the wrong length
- *    2 a byte in it is no digit                        21 a byte over 2, or not 0 on another probe's link
+ *    2 a byte in it is no digit                        21 a byte over 2, not 0 on another's link, or a wrong mark
  *    3 probes 0 or over 256, or links over 2,048       22 a probe with more standing or held than its spare
  *    4 low not below high, or high not below probes    23 a frame of another table number
  *    5 a link not after the one before it              24 no such probe or link, or a frame for another probe
- *    6 the closing line absent, different or followed  25 one end alone: a refusal where outbound is 0
- *    8 slices of unequal length, or one too short      26 the log is full
- *    9 a frame kind with no meaning here               27 a line that no probe can have sent
+ *    6 the closing line absent, different or followed  26 the log is full
+ *    8 slices of unequal length, or one too short      27 a frame that could never yet have been sent
+ *    9 a frame kind with no meaning here
  */
 #ifndef PLANNER_H
 #define PLANNER_H
@@ -60,7 +62,7 @@
 
 /* The entry of an event: planner_probe_open, _probe_hear and _fleet_event, their _logged forms, planner_log_entry.
  * What befell the probe: 0 opened, 1 nothing opened: offers standing equal the spare, 2 taken, 3 taken with a displaced
- * probe, 4 refused, 5 refusal learnt, 6 heard with no change, 7 nothing opened: every link tried. */
+ * probe, 4 refused, 5 refusal learnt, 6 heard with no change, 7 nothing opened: every link tried, 8 restarted. */
 #define PLANNER_EVENT_PROBE(answer) ((uint16_t)((answer) >> 40))
 #define PLANNER_EVENT_WHAT(answer) ((uint8_t)((answer) >> 32))
 #define PLANNER_EVENT_LINK(answer) ((uint16_t)((answer) >> 16))
@@ -273,7 +275,7 @@ uint64_t planner_probe_rests(
 
 /* libfleet_exports.a: all ends of a site together. */
 
-/* One line, of any bytes, on a fleet's record; used of the log's room entries are used. */
+/* One line, of any bytes, on a fleet's record: an opening, a frame or a restart; used of the log's room entries are used. */
 uint64_t planner_fleet_event(
     uint16_t number, uint16_t probes, uint16_t links,
     const uint16_t *needs, size_t needs_length,

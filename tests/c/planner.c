@@ -1,6 +1,6 @@
 /* Document 01's site M2 through planner.h: read, planned by both methods, and its script M11 run by a fleet, by ends
- * alone and as a text. Prints the plan and the log as the programs do. Then openings that open nothing, M2 with a need
- * above the links, and the display's calls. The status is 0 if all is as 01 and 02 have it. */
+ * alone and as a text. Prints the plan and the log as the programs do. Then openings that open nothing, a restart, M2
+ * with a need above the links, and the display's calls. The status is 0 if all is as 01 and 02 have it. */
 #include "planner.h"
 
 #include <stdio.h>
@@ -9,6 +9,8 @@
 #define PROBES 4
 #define LINKS 3
 #define EVENTS 10
+/* The bytes of the fleet's record. */
+#define FLEET (8 * LINKS)
 
 static const char M2[] = "000100040003\n0000\n0001\n0001\n0000\n"
                          "000000010005\n000100020006\n000200030005\nffff\n";
@@ -97,7 +99,7 @@ static void print_entry(uint64_t answer, char line[16]) {
 }
 
 static void fleet(void) {
-    uint8_t rec[4 * LINKS] = {0}, before[4 * LINKS];
+    uint8_t rec[FLEET] = {0}, before[FLEET];
     unsigned event, place, changes = 0;
     char line[16];
     uint64_t answer;
@@ -110,8 +112,9 @@ static void fleet(void) {
         print_entry(answer, line);
         expect(strcmp(line, M11_PRINTED[event]) == 0, "entry", event);
         fputs(line, stdout);
+        /* Behind the four bytes of each link stand its four marks, which count nowhere. */
         for (place = 0; place < sizeof rec; place++) {
-            changes += before[place] != rec[place];
+            changes += place % 8 < 4 && before[place] != rec[place];
         }
     }
     answer = planner_fleet_finished(TABLE, rec, sizeof rec);
@@ -125,7 +128,7 @@ static void fleet(void) {
 /* M11 with a lent log: its entries are read back, and no other of its numbers changes. */
 static void fleet_logged(void) {
     uint64_t log[EVENTS + 1], expected[EVENTS + 1], answer;
-    uint8_t rec[4 * LINKS] = {0}, same[4 * LINKS] = {0};
+    uint8_t rec[FLEET] = {0}, same[FLEET] = {0};
     unsigned event, place;
     char line[16];
 
@@ -192,7 +195,7 @@ static void one_end_logged(void) {
 static void script(void) {
     static char text[sizeof M2 + EVENTS * PLANNER_FRAME], printed[(EVENTS + 1) * 16];
     static uint8_t out[5 * sizeof text];
-    uint8_t rec[4 * LINKS] = {0}, line[16] = {0};
+    uint8_t rec[FLEET] = {0}, line[16] = {0};
     uint32_t numbers[3] = {0, 0, 0};
     const size_t table = sizeof M2 - 1, cut = table + 40;
     size_t length, done = 0;
@@ -226,16 +229,16 @@ static void script(void) {
 }
 
 /* Whether the answer is the probe's entry with this code, and has no link and no displaced probe. */
-static int opened_nothing(uint64_t answer, unsigned probe, unsigned what) {
+static int without_link(uint64_t answer, unsigned probe, unsigned what) {
     return !PLANNER_REFUSED(answer) && PLANNER_EVENT_PROBE(answer) == probe && PLANNER_EVENT_WHAT(answer) == what &&
            PLANNER_EVENT_LINK(answer) == PLANNER_ABSENT && PLANNER_EVENT_DISPLACED(answer) == PLANNER_ABSENT;
 }
 
 /* After M11 probe 0 has tried its one link, and probe 1 has one offer standing, its spare. */
 static void open_nothing(void) {
-    static const uint8_t after[4 * LINKS] = {2, 2, 0, 0, 1, 1, 1, 1, 0, 0, 2, 2};
+    static const uint8_t after[FLEET] = {2, 2, 0, 0, 1, 1, 0, 0, 1, 1, 1, 1, 1, 0, 1, 0, 0, 0, 2, 2, 0, 0, 1, 1};
     static const uint8_t alone[2][2 * LINKS] = {{2, 0, 0, 0, 0, 0}, {0, 2, 1, 1, 0, 0}};
-    uint8_t rec[4 * LINKS], own[2][2 * LINKS];
+    uint8_t rec[FLEET], own[2][2 * LINKS];
     uint64_t log[3] = {0, 0, 0};
 
     memcpy(rec, after, sizeof rec);
@@ -243,19 +246,48 @@ static void open_nothing(void) {
     planner_fleet_event_logged(TABLE, rec, sizeof rec, bytes(M11[0]), PLANNER_FRAME, log, 3, 0);
     planner_fleet_event_logged(TABLE, rec, sizeof rec, bytes(M11[2]), PLANNER_FRAME, log, 3, 1);
     planner_probe_open_logged(TABLE, 0, own[0], sizeof own[0], log, 3, 2);
-    expect(opened_nothing(planner_log_entry(log, 3, 3, 0), 0, 7), "all tried", 0);
-    expect(opened_nothing(planner_log_entry(log, 3, 3, 1), 1, 1), "enough", 1);
-    expect(opened_nothing(planner_log_entry(log, 3, 3, 2), 0, 7), "all tried by an end", 0);
+    expect(without_link(planner_log_entry(log, 3, 3, 0), 0, 7), "all tried", 0);
+    expect(without_link(planner_log_entry(log, 3, 3, 1), 1, 1), "enough", 1);
+    expect(without_link(planner_log_entry(log, 3, 3, 2), 0, 7), "all tried by an end", 0);
     expect(planner_probe_open(TABLE, 0, own[0], sizeof own[0], 1) == log[2], "the same without a log", 0);
-    expect(opened_nothing(planner_probe_open(TABLE, 1, own[1], sizeof own[1], 1), 1, 1), "enough by an end", 1);
+    expect(without_link(planner_probe_open(TABLE, 1, own[1], sizeof own[1], 1), 1, 1), "enough by an end", 1);
     expect(memcmp(rec, after, sizeof rec) == 0 && memcmp(own, alone, sizeof own) == 0, "records stay", 0);
+}
+
+/* After M11 probe 1 restarts: its own bytes are 0, all marks stay, and a frame that it sent before still arrives. Fewer
+ * bytes than eight a link, and a mark of 0 under a byte that permits its frame, are refused. */
+static void restarted(void) {
+    static const char restart[] = "03000100010001\n";
+    static const uint8_t wiped[FLEET] = {2, 0, 0, 0, 1, 1, 0, 0, 0, 1, 1, 0, 1, 0, 1, 0, 0, 0, 2, 2, 0, 0, 1, 1};
+    uint8_t rec[FLEET] = {0}, own[2 * LINKS] = {0};
+    unsigned event;
+    uint64_t answer;
+
+    for (event = 0; event < EVENTS; event++) {
+        planner_fleet_event(TABLE, rec, sizeof rec, bytes(M11[event]), PLANNER_FRAME, 0, 1);
+    }
+    answer = planner_fleet_event(TABLE, rec, sizeof rec, bytes(restart), PLANNER_FRAME, 0, 1);
+    expect(without_link(answer, 1, 8), "restart", 1);
+    expect(memcmp(rec, wiped, sizeof rec) == 0, "record of a restarted probe", 1);
+    answer = planner_fleet_event(TABLE, rec, sizeof rec, bytes(M11[6]), PLANNER_FRAME, 0, 1);
+    expect(PLANNER_EVENT_WHAT(answer) == 6 && PLANNER_EVENT_PROBE(answer) == 0, "refusal from before", 0);
+    answer = planner_probe_hear(TABLE, 1, own, sizeof own, bytes(restart), PLANNER_FRAME, 1);
+    expect(answer == 9, "restart heard by an end", 1);
+    answer = planner_probe_hear(TABLE, 0, own, sizeof own, bytes(M11[6]), PLANNER_FRAME, 1);
+    expect(PLANNER_EVENT_WHAT(answer) == 5 && own[0] == 2, "refusal of an untried link", 0);
+
+    expect(planner_fleet_finished(TABLE, rec, sizeof rec / 2) == 20, "four bytes a link", 0);
+    rec[12] = 0;
+    expect(!PLANNER_REFUSED(planner_fleet_finished(TABLE, rec, sizeof rec)), "no offer stands, no mark", 0);
+    rec[14] = 0;
+    expect(planner_fleet_finished(TABLE, rec, sizeof rec) == 21, "an offer stands without its mark", 0);
 }
 
 /* M2 where probe 0 needs three links and has one: it opens nothing, and its line tells the two that are missing. */
 static void short_probe(void) {
     static const char printed[] = "000100020000000a\n000000010005\n000200030005\n00000002\nffff\n";
     char text[sizeof M2];
-    uint8_t rec[4 * LINKS] = {0}, out[sizeof M2 - 1];
+    uint8_t rec[FLEET] = {0}, out[sizeof M2 - 1];
     uint64_t answer;
 
     strcpy(text, M2);
@@ -272,7 +304,7 @@ static void short_probe(void) {
     answer = planner_plan_text(bytes(text), sizeof M2 - 1, out, sizeof printed - 2);
     expect(answer == 8, "no room for the short line", 0);
     answer = planner_fleet_event(TABLE, rec, sizeof rec, bytes(M11[0]), PLANNER_FRAME, 0, 1);
-    expect(opened_nothing(answer, 0, 1), "short probe opens nothing", 0);
+    expect(without_link(answer, 0, 1), "short probe opens nothing", 0);
 }
 
 /* What the display reads, with slices of the sizes that are never too short for it. */
@@ -336,6 +368,7 @@ int main(void) {
     one_end_logged();
     script();
     open_nothing();
+    restarted();
     short_probe();
     display();
     display_limits();

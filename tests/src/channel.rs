@@ -1,4 +1,5 @@
-//! Random scripts for a table: frames arrive, are lost, repeated or late, among other lines.
+//! Random scripts for a table: frames arrive, are lost, repeated or late, and probes restart, among
+//! other lines.
 
 use crate::ends::{other_end, Entry, Frame, What};
 use crate::events::{damage_frame, damage_line};
@@ -31,6 +32,18 @@ pub fn opening(table: &Table, probe: u16) -> Frame {
         from: probe,
         to: probe,
     }
+}
+
+/// A restart is told from an opening by its kind alone.
+pub fn restart(table: &Table, probe: u16) -> Frame {
+    Frame {
+        kind: 3,
+        ..opening(table, probe)
+    }
+}
+
+pub fn any_restart(table: &Table, random: &mut Random) -> Frame {
+    restart(table, random.below(table.needs.len()) as u16)
 }
 
 pub fn any_opening(table: &Table, random: &mut Random) -> Frame {
@@ -86,6 +99,8 @@ fn damaged(mut frame: Frame, table: &Table, random: &mut Random) -> Vec<u8> {
 #[derive(Clone, Copy, Debug, PartialEq)]
 pub enum Sort {
     Opening,
+    /// A restart; the frames that were ever sent to the probe are then under way once more.
+    Restart,
     /// A frame under way.
     Arriving,
     /// An opening, and a frame under way never arrives.
@@ -109,6 +124,7 @@ pub fn all_accepted() -> Mix {
 pub fn any_mix(random: &mut Random) -> Mix {
     let sorts = [
         (Sort::Opening, 8),
+        (Sort::Restart, 1),
         (Sort::Arriving, 8),
         (Sort::Lost, 2),
         (Sort::Repeated, 3),
@@ -154,6 +170,7 @@ impl Channel {
     fn choose(&mut self, random: &mut Random) -> Vec<u8> {
         let table = &self.script.site.table;
         let opening = any_opening(table, random);
+        let restart = any_restart(table, random);
         let any = any_frame(table, random);
         let old = match self.sent.is_empty() {
             true => opening,
@@ -161,6 +178,7 @@ impl Channel {
         };
         match random.pick(&self.mix) {
             Sort::Opening => opening.line(),
+            Sort::Restart => restart.line(),
             Sort::Arriving => self.take(random).unwrap_or(opening).line(),
             Sort::Lost => {
                 self.take(random);
@@ -168,7 +186,7 @@ impl Channel {
             }
             Sort::Repeated => old.line(),
             Sort::Unsent => any.line(),
-            Sort::Damaged => damaged(random.pick(&[opening, any, old]), table, random),
+            Sort::Damaged => damaged(random.pick(&[opening, restart, any, old]), table, random),
         }
     }
 
@@ -178,14 +196,24 @@ impl Channel {
         let lines = text.split_inclusive(|&byte| byte == b'\n');
         let lines: Vec<Vec<u8>> = lines.map(<[u8]>::to_vec).collect();
         for line in &lines {
-            let befell = self.script.line(line);
-            let table = &self.script.site.table;
-            if let Some(frame) = befell.ok().and_then(|entry| frame_after(entry, table)) {
-                self.sent.push(frame);
-                self.due.push(frame);
+            if let Ok(entry) = self.script.line(line) {
+                self.send_after(entry);
             }
         }
         lines
+    }
+
+    fn send_after(&mut self, entry: Entry) {
+        if entry.what == What::Restarted {
+            let to_it = |frame: &&Frame| frame.to == entry.probe;
+            self.due.extend(self.sent.iter().filter(to_it));
+        }
+        if let Some(frame) = frame_after(entry, &self.script.site.table) {
+            if !self.sent.contains(&frame) {
+                self.sent.push(frame);
+            }
+            self.due.push(frame);
+        }
     }
 
     pub fn accepted(&self) -> usize {

@@ -3,7 +3,7 @@
 use crate::buffer::Buffer;
 use crate::ffi;
 use crate::random::Random;
-use crate::reference::{self, Behind, Caller, Lent, Plan, Slices, Table, WITHDRAWN};
+use crate::reference::{self, Behind, Caller, Lent, Plan, Slices, Table};
 use crate::sites::Numbers;
 use std::fmt::{Debug, Display};
 
@@ -28,7 +28,8 @@ pub fn assert_same<T: PartialEq>(
         answer == expected,
         "{call}: answer {answer:x}, not {expected:x}"
     );
-    assert!(answer != WITHDRAWN.into(), "{call}: a withdrawn refusal");
+    let withdrawn = reference::is_withdrawn(answer);
+    assert!(!withdrawn, "{call}: a withdrawn refusal");
     assert!(
         buffers[0] == buffers[1],
         "{call}: buffers differ, answer {answer:x}"

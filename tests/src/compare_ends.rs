@@ -2,9 +2,8 @@
 
 use crate::buffer::Buffer;
 use crate::compare::assert_same;
-use crate::ends::{self, Entry, Kind, What, LINE};
+use crate::ends::{self, differ, Entry, Kind, What, LINE};
 use crate::ffi;
-use crate::fleet::changes;
 use crate::random::Random;
 use crate::reference::Table;
 use crate::sites::Numbers;
@@ -49,7 +48,7 @@ impl End {
             [answer, ffi::entry_answer(&result)],
             [&by_library, &by_reference],
         );
-        let changes = changes(before.entries(), by_library.entries());
+        let changes = differ(before.entries(), by_library.entries());
         let expected = result.map_or(0, |entry| entry.what.changes());
         assert_eq!(changes, expected, "{call}");
         self.record.copy_from_slice(by_library.entries());

@@ -2,12 +2,39 @@
 
 use crate::buffer::Buffer;
 use crate::compare::assert_same;
-use crate::ends::Entry;
+use crate::ends::{Entry, What};
 use crate::ffi;
-use crate::fleet::{self, Site, BYTES};
+use crate::fleet::{self, own_record, permits, Site, BYTES, MARKS};
 use crate::random::Random;
-use crate::reference::{Slices, Table};
+use crate::reference::{table_of_slices, Caller, Slices, Table};
 use crate::sites::Numbers;
+
+/// By 02 a mark says that the frame which its byte permits could once have been sent. So after an
+/// event it is 1 exactly if it was before or its byte now permits the frame.
+#[track_caller]
+pub fn assert_marked([before, after]: [&[u8]; 2]) {
+    for (before, after) in before.chunks_exact(BYTES).zip(after.chunks_exact(BYTES)) {
+        for at in 0..MARKS {
+            let mark = before[MARKS + at] == 1 || permits(at, after[at]);
+            assert_eq!(after[MARKS + at], u8::from(mark));
+        }
+    }
+}
+
+/// What an accepted event may alter: a restart wipes the probe's own bytes and no others.
+#[track_caller]
+fn assert_altered(given: Slices, entry: Entry, [before, after]: [&[u8]; 2]) {
+    assert_marked([before, after]);
+    if entry.what != What::Restarted {
+        assert_eq!(fleet::changes(before, after), entry.what.changes());
+        return;
+    }
+    let table = table_of_slices(Caller::Full, given).expect("a legal table");
+    let own = [before, after].map(|record| own_record(&table, entry.probe, record));
+    assert!(own[1].iter().all(|&byte| byte == 0));
+    let wiped = own[0].iter().filter(|&&byte| byte != 0).count();
+    assert_eq!(fleet::changes(before, after), wiped);
+}
 
 /// A fleet and its record, which each accepted event alters. A call hands back what both agree on.
 pub struct Fleet {
@@ -78,8 +105,11 @@ impl Fleet {
             [answer, ffi::entry_answer(&result)],
             [by_library, by_reference],
         );
-        let changes = fleet::changes(before.entries(), by_library.entries());
-        assert_eq!(changes, result.map_or(0, |entry| entry.what.changes()));
+        let records = [before.entries(), by_library.entries()];
+        match result {
+            Ok(entry) => assert_altered(given, entry, records),
+            Err(_) => assert!(*by_library == before),
+        }
         result
     }
 

@@ -5,7 +5,7 @@ use crate::compare::written;
 use crate::ffi::{self, ANSWER_BASE};
 use crate::fleet::{Site, BYTES};
 use crate::random::Random;
-use crate::reference::{Slices, Table, WITHDRAWN};
+use crate::reference::{is_withdrawn, Slices, Table};
 use crate::script::{self, Script};
 use crate::sites::Numbers;
 
@@ -158,7 +158,7 @@ fn printed(answer: u64, out: &Buffer<u8>, untouched: &Buffer<u8>) -> Result<Vec<
         .checked_sub(ANSWER_BASE)
         .map(|length| length as usize);
     assert!(out.kept_beyond(length.unwrap_or(0), untouched));
-    assert!(answer != WITHDRAWN.into(), "a withdrawn refusal");
+    assert!(!is_withdrawn(answer), "a withdrawn refusal");
     match length {
         Some(length) => Ok(out.entries()[..length].to_vec()),
         None => Err(answer.try_into().expect("a refusal is a small number")),

@@ -4,7 +4,7 @@ use crate::ends::Kind;
 use crate::events::each_table;
 use crate::ffi::{self, ANSWER_BASE};
 use crate::fleet::{own_record, BYTES};
-use crate::lines::{offer, opening, refusal};
+use crate::lines::{offer, opening, refusal, restart};
 use crate::random::Random;
 use crate::reference::{Behind, Caller, Lent, Limits, Table, DISPLAY, FULL};
 use crate::script::room_for;
@@ -36,7 +36,7 @@ pub fn band_for(caller: Caller, probes: u16) -> Table {
 }
 
 /// Three times openings of all probes, then offers and refusals both ways, of a large site on every
-/// fifth link; table 0001.
+/// fifth link; behind the first time a restart of each probe; table 0001.
 pub fn bargaining(table: &Table) -> Vec<Vec<u8>> {
     let step = 1 + table.links.len() / 500;
     let openings = (0..table.needs.len() as u16).map(opening);
@@ -45,7 +45,8 @@ pub fn bargaining(table: &Table) -> Vec<Vec<u8>> {
         links.flat_map(move |link| [frame(link.low, link.high), frame(link.high, link.low)])
     };
     let lines: Vec<Vec<u8>> = openings.chain(ways(offer)).chain(ways(refusal)).collect();
-    [&lines[..], &lines, &lines].concat()
+    let restarts: Vec<Vec<u8>> = (0..table.needs.len() as u16).map(restart).collect();
+    [&lines[..], &restarts, &lines, &lines].concat()
 }
 
 /// What the calls are given.
@@ -114,7 +115,7 @@ impl Lending {
             highs,
             costs,
             plan: vec![9; links],
-            work: vec![9; BYTES * links],
+            work: vec![9; 4 * links],
             own: vec![0; site.own.len()],
             record: vec![0; site.reached.len()],
             line: [9; 16],

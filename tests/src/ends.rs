@@ -19,6 +19,14 @@ pub enum What {
     NoChange(usize),
     /// Opened nothing: fewer offers stand than its spare, and it has tried every link.
     AllTried,
+    /// Its record was wiped; a fleet alone tells it.
+    Restarted,
+}
+
+/// How many bytes differ.
+pub fn differ(before: &[u8], after: &[u8]) -> usize {
+    let both = before.iter().zip(after);
+    both.filter(|(one, other)| one != other).count()
 }
 
 /// Stands for a link or probe that is absent.
@@ -36,13 +44,14 @@ impl What {
             What::Learnt(link) => [5, link as u64, ABSENT],
             What::NoChange(link) => [6, link as u64, ABSENT],
             What::AllTried => [7, ABSENT, ABSENT],
+            What::Restarted => [8, ABSENT, ABSENT],
         }
     }
 
-    /// How many record bytes it alters.
+    /// How many changes it counts: a wipe counts none.
     pub fn changes(self) -> usize {
         match self {
-            What::Enough | What::AllTried | What::NoChange(_) => 0,
+            What::Enough | What::AllTried | What::NoChange(_) | What::Restarted => 0,
             What::Displacing { .. } => 2,
             _ => 1,
         }
@@ -280,9 +289,6 @@ pub fn hear(
     }
     let from_there = |own: &Own| frame.to == probe && own.other == frame.from;
     let at = end.own.iter().position(from_there).ok_or(24)?;
-    if kind == Kind::Refusal && end.own[at].outbound == 0 {
-        return Err(25);
-    }
     check_log(free)?;
     let what = match kind {
         Kind::Offer => end.hear_offer(at),

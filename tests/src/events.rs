@@ -106,7 +106,7 @@ pub fn reached(table: &Table, probe: u16, random: &mut Random) -> End {
     let links = own_links(table, probe).len().min(40);
     for _ in 0..random.below(4 * links + 2) {
         let befell = befall(&mut end, table, random);
-        assert!(matches!(befell, Ok(_) | Err(24 | 25)));
+        assert!(matches!(befell, Ok(_) | Err(24)));
     }
     end
 }

@@ -1,11 +1,32 @@
 //! The second implementation of a fleet, from documents 01 and 02 alone; a refusal is its number
 //! there.
 
-use crate::ends::{Entry, Frame, What};
+use crate::ends::{differ, Entry, Frame, What};
 use crate::reference::{dearer, table_of_slices, Caller, Link, Slices, Table};
 
-/// A link's bytes: outbound from low, inbound at high, outbound from high, inbound at low.
-pub const BYTES: usize = 4;
+/// A link's bytes: outbound from low, inbound at high, outbound from high, inbound at low; then their
+/// four marks in the same order.
+pub const BYTES: usize = 8;
+
+/// Where the marks begin, so many behind their bytes.
+pub const MARKS: usize = 4;
+
+/// Whether a link's byte with this value permits its frame: an outbound one its offer, an inbound one
+/// its refusal.
+pub fn permits(at: usize, byte: u8) -> bool {
+    match at % 2 {
+        0 => byte == 1,
+        _ => byte == 2,
+    }
+}
+
+/// Gives a link's byte this value; its mark tells that its frame could once have been sent.
+fn store(record: &mut [u8], link: usize, at: usize, byte: u8) {
+    record[BYTES * link + at] = byte;
+    if permits(at, byte) {
+        record[BYTES * link + MARKS + at] = 1;
+    }
+}
 
 /// Which end of a link.
 #[derive(Clone, Copy, Debug, PartialEq)]
@@ -57,6 +78,7 @@ impl Side {
 #[derive(Clone, Copy)]
 enum Event {
     Opening(u16),
+    Restart(u16),
     Offer(usize, Side),
     Refusal(usize, Side),
 }
@@ -99,7 +121,7 @@ impl Site {
         if record.len() != BYTES * self.table.links.len() {
             return Err(20);
         }
-        if record.iter().any(|&byte| byte > 2) {
+        if !record.chunks_exact(BYTES).all(well_marked) {
             return Err(21);
         }
         let over = |ones: &Vec<usize>| {
@@ -116,19 +138,18 @@ impl Site {
     /// 1, 2, 9, 23, 24.
     fn event_of(&self, line: &[u8]) -> Result<Event, u8> {
         let frame = Frame::of_line(line)?;
-        if frame.kind > 2 {
+        if frame.kind > 3 {
             return Err(9);
         }
         if frame.number != self.table.number {
             return Err(23);
         }
-        if frame.kind == 0 {
-            let known = frame.from == frame.to && usize::from(frame.to) < self.spares.len();
-            return if known {
-                Ok(Event::Opening(frame.to))
-            } else {
-                Err(24)
-            };
+        let known = frame.from == frame.to && usize::from(frame.to) < self.spares.len();
+        match frame.kind {
+            0 if known => return Ok(Event::Opening(frame.to)),
+            3 if known => return Ok(Event::Restart(frame.to)),
+            0 | 3 => return Err(24),
+            _ => {}
         }
         let ends = (frame.from.min(frame.to), frame.from.max(frame.to));
         let links = &self.table.links;
@@ -141,16 +162,26 @@ impl Site {
         })
     }
 
-    /// 27, by the bytes of the end that would have sent it.
+    /// 27, by the mark of the byte that permits the frame.
     fn check_sent(event: Event, record: &[u8]) -> Result<(), u8> {
+        let mark = |place: usize, at: usize| record[BYTES * place + MARKS + at];
         let sent = match event {
-            Event::Opening(_) => true,
-            Event::Offer(place, side) => record[BYTES * place + side.other().outbound()] != 0,
-            Event::Refusal(place, side) => record[BYTES * place + side.other().inbound()] == 2,
+            Event::Opening(_) | Event::Restart(_) => 1,
+            Event::Offer(place, side) => mark(place, side.other().outbound()),
+            Event::Refusal(place, side) => mark(place, side.other().inbound()),
         };
         match sent {
-            true => Ok(()),
-            false => Err(27),
+            0 => Err(27),
+            _ => Ok(()),
+        }
+    }
+
+    /// Whether the present bytes permit the frame.
+    pub fn may_be_sent(&self, frame: Frame, record: &[u8]) -> bool {
+        match self.event_of(&frame.line()) {
+            Ok(Event::Offer(place, side)) => record[BYTES * place + side.other().outbound()] == 1,
+            Ok(Event::Refusal(place, side)) => record[BYTES * place + side.other().inbound()] == 2,
+            _ => false,
         }
     }
 
@@ -171,6 +202,7 @@ impl Site {
         let at = |place: usize, side: Side| side.probe(self.table.links[place]);
         let (probe, what) = match event {
             Event::Opening(probe) => (probe, self.open(probe, record)),
+            Event::Restart(probe) => (probe, self.restart(probe, record)),
             Event::Offer(place, side) => (at(place, side), self.hear_offer(place, side, record)),
             Event::Refusal(place, side) => (at(place, side), hear_refusal(place, side, record)),
         };
@@ -210,16 +242,28 @@ impl Site {
         match dearest {
             _ if standing == self.spares[usize::from(probe)] => What::Enough,
             Some((place, side)) => {
-                record[BYTES * place + side.outbound()] = 1;
+                store(record, place, side.outbound(), 1);
                 What::Opened(place)
             }
             None => What::AllTried,
         }
     }
 
+    /// The probe's own bytes become 0, and all marks stay.
+    fn restart(&self, probe: u16, record: &mut [u8]) -> What {
+        let links = self.table.links.iter();
+        for (link, bytes) in links.zip(record.chunks_exact_mut(BYTES)) {
+            if let Some(side) = Side::of(probe, *link) {
+                bytes[side.outbound()] = 0;
+                bytes[side.inbound()] = 0;
+            }
+        }
+        What::Restarted
+    }
+
     fn hear_offer(&self, link: usize, side: Side, record: &mut [u8]) -> What {
-        let inbound = BYTES * link + side.inbound();
-        if record[inbound] != 0 {
+        let inbound = side.inbound();
+        if record[BYTES * link + inbound] != 0 {
             return What::NoChange(link);
         }
         let probe = side.probe(self.table.links[link]);
@@ -234,18 +278,18 @@ impl Site {
             }
         }
         if held < self.spares[usize::from(probe)] {
-            record[inbound] = 1;
+            store(record, link, inbound, 1);
             return What::Taken(link);
         }
         match cheapest {
             Some((place, side)) if self.dearer(link, place) => {
-                record[inbound] = 1;
-                record[BYTES * place + side.inbound()] = 2;
+                store(record, link, inbound, 1);
+                store(record, place, side.inbound(), 2);
                 let displaced = side.other().probe(self.table.links[place]);
                 What::Displacing { link, displaced }
             }
             _ => {
-                record[inbound] = 2;
+                store(record, link, inbound, 2);
                 What::Refused(link)
             }
         }
@@ -263,19 +307,31 @@ impl Site {
         })
     }
 
-    /// No opening and no frame that may be sent would alter a byte.
+    /// No opening and no frame that the present bytes permit would alter a byte.
     pub fn finished(&self, record: &[u8]) -> bool {
         let alters = |way: &[u8]| matches!(way, [1, 0] | [0 | 1, 2]);
-        !record.chunks_exact(BYTES / 2).any(alters) && !self.may_open(record)
+        let alters = |link: &[u8]| alters(&link[..2]) || alters(&link[2..MARKS]);
+        !record.chunks_exact(BYTES).any(alters) && !self.may_open(record)
     }
 }
 
+/// A link's bytes are at most 2, its marks at most 1, and 1 where the byte permits its frame. Every
+/// byte is looked at, so that no branch stands between them.
+fn well_marked(link: &[u8]) -> bool {
+    let (bytes, marks) = link.split_at(MARKS);
+    let both = bytes.iter().zip(marks).enumerate();
+    both.fold(true, |fine, (at, (&byte, &mark))| {
+        fine & (byte <= 2) & (mark <= 1) & (mark >= u8::from(permits(at, byte)))
+    })
+}
+
 fn hear_refusal(link: usize, side: Side, record: &mut [u8]) -> What {
-    let outbound = &mut record[BYTES * link + side.outbound()];
-    match std::mem::replace(outbound, 2) {
-        2 => What::NoChange(link),
-        _ => What::Learnt(link),
+    let outbound = side.outbound();
+    if record[BYTES * link + outbound] == 2 {
+        return What::NoChange(link);
     }
+    store(record, link, outbound, 2);
+    What::Learnt(link)
 }
 
 /// One line, of any bytes, with all checks.
@@ -298,18 +354,30 @@ pub fn finished(given: Slices, record: &[u8]) -> Result<bool, u8> {
     Ok(site.finished(record))
 }
 
+/// The record with these bytes, four a link, and a mark where one permits its frame.
+pub fn with_marks(bytes: &[u8]) -> Vec<u8> {
+    let mark = |(at, byte): (usize, &u8)| u8::from(permits(at, *byte));
+    let links = bytes.chunks_exact(MARKS);
+    let link = |bytes: &[u8]| [bytes.to_vec(), bytes.iter().enumerate().map(mark).collect()];
+    links.flat_map(link).flatten().collect()
+}
+
+/// The links' bytes without the marks, four a link.
+pub fn without_marks(record: &[u8]) -> Vec<u8> {
+    let links = record.chunks_exact(BYTES);
+    links.flat_map(|link| &link[..MARKS]).copied().collect()
+}
+
 /// Whether the low end and whether the high end rest the link with these bytes.
 pub fn rested(bytes: &[u8]) -> [bool; 2] {
     [Side::Low, Side::High].map(|side| bytes[side.outbound()] == 1 && bytes[side.inbound()] == 1)
 }
 
-/// How many bytes differ.
+/// How many bytes of the links differ; marks count nowhere.
 pub fn changes(before: &[u8], after: &[u8]) -> usize {
-    before
-        .iter()
-        .zip(after)
-        .filter(|(one, other)| one != other)
-        .count()
+    let links = before.chunks_exact(BYTES).zip(after.chunks_exact(BYTES));
+    let changes = |(before, after): (&[u8], &[u8])| differ(&before[..MARKS], &after[..MARKS]);
+    links.map(changes).sum()
 }
 
 /// The probe's own bytes, as the record of an end alone.

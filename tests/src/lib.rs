@@ -17,6 +17,7 @@ pub mod fuzz;
 pub mod lines;
 pub mod methods;
 pub mod random;
+pub mod reach;
 pub mod reference;
 pub mod repository;
 pub mod samples;

@@ -16,6 +16,10 @@ pub fn opening(probe: u16) -> Vec<u8> {
     line(0, probe, probe)
 }
 
+pub fn restart(probe: u16) -> Vec<u8> {
+    line(3, probe, probe)
+}
+
 pub fn offer(from: u16, to: u16) -> Vec<u8> {
     line(1, from, to)
 }

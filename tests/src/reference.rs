@@ -109,8 +109,14 @@ impl Limits {
 
 pub const CLOSING: &[u8] = b"ffff\n";
 
-/// The refusal of a need above the probe's links: 02 withdraws it, and no call makes it.
-pub const WITHDRAWN: u8 = 7;
+/// The refusals that 02 withdraws, and that no call makes: of a need above the probe's links, and of a
+/// refusal where outbound is 0.
+pub const WITHDRAWN: [u8; 2] = [7, 25];
+
+/// Whether a packed answer is one of them.
+pub fn is_withdrawn(answer: u64) -> bool {
+    WITHDRAWN.map(u64::from).contains(&answer)
+}
 
 const DIGITS: &[u8; 16] = b"0123456789abcdef";
 

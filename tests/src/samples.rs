@@ -1,5 +1,5 @@
 //! 01's samples of the script program: the lines behind a marked site's table, and what is printed.
-//! Then a site with a short probe.
+//! Then a site with a short probe, and probes that restart.
 
 use crate::sites::MARKED;
 
@@ -100,6 +100,80 @@ pub const VALLEY_PRINTED: [&str; 13] = [
     "0003000003ffff",
     "0002020003ffff",
     "010000000b",
+];
+
+/// Two probes; probe 1 needs their link.
+pub const LATE: [&str; 5] = ["000100020001", "0000", "0001", "000000010001", "ffff"];
+
+/// Its script: probe 1 refuses the offer and restarts, and probe 0 learns the refusal all the same.
+/// Then the offer comes again.
+pub const LATE_SCRIPT: [&str; 5] = [
+    "00000100000000",
+    "01000100000001",
+    "03000100010001",
+    "02000100010000",
+    "01000100000001",
+];
+
+pub const LATE_PRINTED: [&str; 6] = [
+    "0000000000ffff",
+    "0001040000ffff",
+    "000108ffffffff",
+    "0000050000ffff",
+    "0001040000ffff",
+    "0100000004",
+];
+
+/// What its last line is without the late frame.
+pub const LATE_BEFORE: &str = "0100000003";
+
+/// M11 up to the displacement, on M2. Then each probe restarts, probe 0 learns the refusal of a link
+/// that it has not tried, and M11's other offers come, an old one among them.
+pub const RESTARTED: [&str; 20] = [
+    "00000100000000",
+    "01000100000001",
+    "00000100010001",
+    "01000100010002",
+    "00000100020002",
+    "01000100020001",
+    "03000100000000",
+    "03000100010001",
+    "03000100020002",
+    "03000100030003",
+    "02000100010000",
+    "00000100000000",
+    "01000100000001",
+    "00000100010001",
+    "01000100010002",
+    "00000100020002",
+    "01000100020001",
+    "00000100030003",
+    "01000100030002",
+    "02000100020003",
+];
+
+pub const RESTARTED_PRINTED: [&str; 21] = [
+    "0000000000ffff",
+    "0001020000ffff",
+    "0001000001ffff",
+    "0002020001ffff",
+    "0002000001ffff",
+    "00010300010000",
+    "000008ffffffff",
+    "000108ffffffff",
+    "000208ffffffff",
+    "000308ffffffff",
+    "0000050000ffff",
+    "000007ffffffff",
+    "0001020000ffff",
+    "0001000001ffff",
+    "0002020001ffff",
+    "0002000001ffff",
+    "00010300010000",
+    "0003000002ffff",
+    "0002040002ffff",
+    "0003050002ffff",
+    "0100000011",
 ];
 
 /// The lines, each closed by a line feed.

@@ -1,4 +1,5 @@
-//! The second implementation of the script program, from document 01 alone: bytes in, bytes out.
+//! The second implementation of the script program, from documents 01 and 02 alone: bytes in, bytes
+//! out.
 
 use crate::ends::Entry;
 use crate::fleet::{Site, BYTES};
@@ -12,14 +13,15 @@ pub struct Script {
     pub site: Site,
     pub record: Vec<u8>,
     pub used: usize,
-    /// The bytes altered so far.
+    /// The changes so far; wipes count none.
     pub changed: usize,
     /// The bytes of a line that is not closed yet.
     pub held: Vec<u8>,
     pub printed: Vec<u8>,
 }
 
-fn entry_line(entry: Entry) -> Vec<u8> {
+/// What is printed for an accepted line.
+pub fn entry_line(entry: Entry) -> Vec<u8> {
     let [code, link, displaced] = entry.what.numbers();
     format!("{:04x}{code:02x}{link:04x}{displaced:04x}\n", entry.probe).into_bytes()
 }

@@ -197,6 +197,17 @@ fn count_up(digits: &mut [u16], bases: &[u16]) -> bool {
     false
 }
 
+/// The table with every choice of needs that are at most two above the links.
+fn every_need(mut table: Table, act: &mut impl FnMut(&Table)) {
+    let degrees = table.degrees().into_iter();
+    let bases: Vec<u16> = degrees.map(|degree| degree as u16 + 3).collect();
+    table.needs.fill(0);
+    act(&table);
+    while count_up(&mut table.needs, &bases) {
+        act(&table);
+    }
+}
+
 /// Every table of so many probes whose costs are below the limit and whose needs are at most two
 /// above the links.
 pub fn every_table(probes: usize, limit: u16, mut act: impl FnMut(&Table)) {
@@ -206,21 +217,25 @@ pub fn every_table(probes: usize, limit: u16, mut act: impl FnMut(&Table)) {
     let mut costs = vec![0; pairs.len()];
     loop {
         let chosen = pairs.iter().zip(&costs).filter(|(_, &cost)| cost < limit);
-        let mut table = Table {
+        let table = Table {
             number: 1,
             needs: vec![0; probes],
             links: chosen.map(|(&pair, &cost)| Link { cost, ..pair }).collect(),
         };
-        let degrees = table.degrees().into_iter();
-        let needs: Vec<u16> = degrees.map(|degree| degree as u16 + 3).collect();
-        act(&table);
-        while count_up(&mut table.needs, &needs) {
-            act(&table);
-        }
+        every_need(table, &mut act);
         if !count_up(&mut costs, &bases) {
             return;
         }
     }
+}
+
+/// Tables of three probes with every set of links, these in every order from dearest to cheapest, and
+/// needs as above. At equal cost the later link is dearer, so that costs 0 and 1 give all orders but
+/// one: three links, each dearer than the later ones, take costs 2, 1 and 0.
+pub fn every_order_of_three(mut act: impl FnMut(&Table)) {
+    every_table(3, 2, &mut act);
+    let falling = site(&[[0, 1, 2], [0, 2, 1], [1, 2, 0]], &[0; 3]);
+    every_need(falling, &mut act);
 }
 
 /// Damages a link in a way that 4 or 5 may refuse, or changes a need, which nothing refuses.

@@ -4,7 +4,7 @@ use crate::ends::What;
 use crate::reference::WITHDRAWN;
 
 /// 01's and 02's codes of what can befall a probe, as they are printed.
-pub const CODES: [&str; 8] = ["00", "01", "02", "03", "04", "05", "06", "07"];
+pub const CODES: [&str; 9] = ["00", "01", "02", "03", "04", "05", "06", "07", "08"];
 
 #[derive(Debug, Default)]
 pub struct Tally {
@@ -22,10 +22,13 @@ impl Tally {
         }
     }
 
-    /// Each of these refusals came often, and a withdrawn one never.
+    /// Each of these refusals came often, and the withdrawn ones never.
     #[track_caller]
     pub fn assert_often(&self, refusals: &[usize]) {
-        assert_eq!(self.refused[usize::from(WITHDRAWN)], 0);
+        assert_eq!(
+            WITHDRAWN.map(|number| self.refused[usize::from(number)]),
+            [0; 2]
+        );
         let often = |&refusal: &usize| self.refused[refusal] > 300;
         assert!(refusals.iter().all(often), "{self:?}");
     }
@@ -34,6 +37,14 @@ impl Tally {
     #[track_caller]
     pub fn assert_each_befell(&self, times: usize) {
         assert!(self.befell.iter().all(|&befell| befell > times), "{self:?}");
+    }
+
+    /// Each code but a restart's came so often, and that one never.
+    #[track_caller]
+    pub fn assert_each_befell_an_end(&self, times: usize) {
+        let [others @ .., restarted] = &self.befell;
+        assert!(others.iter().all(|&befell| befell > times), "{self:?}");
+        assert_eq!(*restarted, 0);
     }
 
     pub fn answers(&self) -> usize {

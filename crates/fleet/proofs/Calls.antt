@@ -1,6 +1,6 @@
 -- A line that is refused, and one that is accepted, by a fleet whose table and record are fine.
 use Prim.Native.Nat.{ℕ, _≤_, _<_}
-use mathlib.Core.Path.{_≡_, refl, sym, _∙_, ap}
+use mathlib.Core.Path.{_≡_, refl, sym, _∙_, ap, ap₂}
 use mathlib.Core.Bool.{Bool, true, false, cond}
 use mathlib.Core.List.{List, [], _∷_}
 use lib.Dec.{ltb, eqb}
@@ -17,6 +17,7 @@ use Rattle.probe_frame.specs.declared.FrameLine.{FrameLine}
 use Rattle.wake_log.specs.declared.Entry.{Entry}
 use Rattle.wake_log.specs.declared.Answer.{Answer}
 use Rattle.wake_log.specs.declared.Answer.the-variants.{Logged, Refused}
+use Rattle.wake_log.specs.declared.What.the-variants.{Restarted}
 use Rattle.wake_log.specs.Entry.{entryValues, answerReply, answerOf}
 use Rattle.wake_log.proofs.Answers.{answer-is, answer-reply}
 use mathlib.Core.Logic.{_⊎_, inl, inr}
@@ -27,11 +28,12 @@ use Rattle.probe_rules.specs.declared.Outcome.{Outcome}
 use Rattle.probe_rules.specs.Rules.{befalls, entryOf}
 use Rattle.probe_rules.specs.Within.{EventWithin}
 use Rattle.probe_rules.proofs.OutcomeLaws.{entry-same, befalls-same}
-use Rattle.fleet_theory.specs.Fleet.{own, fleetFault, eventLineFault, eventOf, unsentFault, eventFault, outcomeOf, alterFleet, alteredBy, State, faultOf, answerTo, accepted, next}
+use Rattle.fleet_theory.specs.Fleet.{own, marks, fleetFault, restarts, ofOneProbe, eventLineFault, eventOf, unsentFault, eventFault, outcomeOf, alterFleet, wiped, alteredBy, entryBy, State, faultOf, answerTo, accepted, next}
 use Rattle.fleet.specs.declared.Finishing.{Finishing}
 use Rattle.fleet.specs.declared.Finishing.the-variants as finishing
 use Rattle.fleet.specs.Answers.{Handled, finishingReply}
-use Rattle.fleet_theory.proofs.Own.{own-same, fleet-same}
+use Rattle.fleet_theory.proofs.Own.{own-same, marks-same, fleet-same}
+use Rattle.fleet_theory.proofs.Wipe.{wiped-same}
 
 refused-answer : (fault n : ℕ) (vs : List ℕ) → n ≡ fault → (n ≡ 0 → ⊥) → answerReply (Refused n) ≡ replyOf fault vs
 refused-answer fault n vs e some = rw (← e, ne-eqb n 0 some)
@@ -80,7 +82,7 @@ module _ (number probes links : ℕ) (needs lows highs costs : List ℕ) (used r
   f = frameOf line
 
   abbrev unsent : ℕ
-  unsent = unsentFault (eventOf t f) (own t (f .from) r)
+  unsent = unsentFault (eventOf t f) (marks t (f .from) r)
 
   -- the faults of table and record, as the code finds them
   pub state-is : (n : ℕ)
@@ -96,8 +98,8 @@ module _ (number probes links : ℕ) (needs lows highs costs : List ℕ) (used r
 
   -- 27, as the code finds it
   pub unsent-is : (n p : ℕ) (v : Event) → v ≡ eventOf t f → p ≡ f .from → EventWithin links (eventOf t f)
-      → (EventWithin links v → n ≡ unsentFault v (own (ofSlices 0 0 links [] lows highs []) p r)) → n ≡ unsent
-  unsent-is n p v ev ep w e = e (rw ev w) ∙ rw (ev, ep, own-same number probes links needs lows highs costs (f .from) r)
+      → (EventWithin links v → n ≡ unsentFault v (marks (ofSlices 0 0 links [] lows highs []) p r)) → n ≡ unsent
+  unsent-is n p v ev ep w e = e (rw ev w) ∙ rw (ev, ep, marks-same number probes links needs lows highs costs (f .from) r)
 
   module _ (fine : slicesFault x ≡ 0) (good : fleetFault t r ≡ 0) where
     -- the fault is the line's
@@ -127,40 +129,54 @@ module _ (number probes links : ℕ) (needs lows highs costs : List ℕ) (used r
         pub full-refused : room ≤ used → Handled x used room line (Refused 26) r r
         full-refused l = refused-call x used room line r 26 (last 26 (rw (le-ltb used room l))) (λ z. omega arith)
 
-        pub line-accepted : used < room → (e : Entry) (r′ : List ℕ)
+        -- by the kind k, the probe p and the event v that the code found
+        pub line-accepted : used < room → (k p : ℕ) (v : Event) → k ≡ f .kind → p ≡ f .to → v ≡ eventOf t f → (e : Entry) (r′ : List ℕ)
             → (let t₀ = ofSlices 0 0 links needs lows highs costs in
-            (e ≡ entryOf t₀ (f .to) (befalls t₀ (f .to) (eventOf t f) (own t₀ (f .to) r)))
-            × (r′ ≡ alterFleet t₀ (f .to) (befalls t₀ (f .to) (eventOf t f) (own t₀ (f .to) r)) r))
+            let o = befalls t₀ p v (own t₀ p r) in
+            (e ≡ cond (eqb k 3) (record { probe = p; what = Restarted }) (entryOf t₀ p o)) × (r′ ≡ cond (eqb k 3) (wiped t₀ p r) (alterFleet t₀ p o r)))
             → Handled x used room line (Logged e) r r′
-        line-accepted l e r′ is =
-            let t₀ = ofSlices 0 0 links needs lows highs costs in
-            let none = sym (last 0 (rw (lt-ltb used room l))) in
-            let bytes = sym (own-same 0 0 links needs lows highs costs (f .to) r) ∙ own-same number probes links needs lows highs costs (f .to) r in
-            let o : befalls t₀ (f .to) (eventOf t f) (own t₀ (f .to) r) ≡ outcomeOf t r f =
-            befalls-same number probes links needs lows highs costs (f .to) (eventOf t f) (own t₀ (f .to) r) ∙ ap (befalls t (f .to) (eventOf t f)) bytes in
+        line-accepted l k p v ek ep ev e r′ is =
             record {
-              answer = logged-answer (eventFault x r used room line) e _ none
-                  (is .0
-                  ∙ ap (entryOf t₀ (f .to)) o
-                  ∙ sym (entry-same 0 0 links needs lows highs costs (f .to) (outcomeOf t r f))
-                  ∙ entry-same number probes links needs lows highs costs (f .to) (outcomeOf t r f));
+              answer = logged-answer (eventFault x r used room line) e (entryBy t r f) none
+                  (rw (ek, ep, ev) at (is .0) ∙ ap (cond (restarts f) (record { probe = f .to; what = Restarted })) entry);
               record-after = altered (eventFault x r used room line) r (alteredBy t r f) r′ none
-                  (is .1 ∙ ap (λ (k : Outcome). alterFleet t (f .to) k r) o);
+                  (rw (ek, ep, ev) at (is .1) ∙ ap₂ (cond (restarts f)) wipe (ap (λ (o : Outcome). alterFleet t (f .to) o r) outcome));
             }
+          where
+            t₀ : Table
+            t₀ = ofSlices 0 0 links needs lows highs costs
+
+            none : eventFault x r used room line ≡ 0
+            none = sym (last 0 (rw (lt-ltb used room l)))
+
+            bytes : own t₀ (f .to) r ≡ own t (f .to) r
+            bytes = sym (own-same 0 0 links needs lows highs costs (f .to) r) ∙ own-same number probes links needs lows highs costs (f .to) r
+
+            outcome : befalls t₀ (f .to) (eventOf t f) (own t₀ (f .to) r) ≡ outcomeOf t r f
+            outcome = befalls-same number probes links needs lows highs costs (f .to) (eventOf t f) (own t₀ (f .to) r) ∙ ap (befalls t (f .to) (eventOf t f)) bytes
+
+            entry : entryOf t₀ (f .to) (befalls t₀ (f .to) (eventOf t f) (own t₀ (f .to) r)) ≡ entryOf t (f .to) (outcomeOf t r f)
+            entry =
+                ap (entryOf t₀ (f .to)) outcome
+                ∙ sym (entry-same 0 0 links needs lows highs costs (f .to) (outcomeOf t r f))
+                ∙ entry-same number probes links needs lows highs costs (f .to) (outcomeOf t r f)
+
+            wipe : wiped t₀ (f .to) r ≡ wiped t (f .to) r
+            wipe = sym (wiped-same 0 0 links needs lows highs costs (f .to) r) ∙ wiped-same number probes links needs lows highs costs (f .to) r
 
 -- the answer, by the fault found
 pub handled-answer : {x : Slices} {used room : ℕ} {line : List ℕ} {r : Answer} {before after : List ℕ} → Handled x used room line r before after
-    → r ≡ answerOf (eventFault x before used room line) (entryOf (tableOf x) (frameOf line .to) (outcomeOf (tableOf x) before (frameOf line)))
+    → r ≡ answerOf (eventFault x before used room line) (entryBy (tableOf x) before (frameOf line))
 handled-answer {x} {used} {room} {line} {r} {before} h =
-    answer-is r (eventFault x before used room line) (entryOf (tableOf x) (frameOf line .to) (outcomeOf (tableOf x) before (frameOf line))) (h .answer)
+    answer-is r (eventFault x before used room line) (entryBy (tableOf x) before (frameOf line)) (h .answer)
 
 pub handled-is : (x : Slices) (used room : ℕ) (line : List ℕ) (r : Answer) (before after : List ℕ)
-    → r ≡ answerOf (eventFault x before used room line) (entryOf (tableOf x) (frameOf line .to) (outcomeOf (tableOf x) before (frameOf line)))
+    → r ≡ answerOf (eventFault x before used room line) (entryBy (tableOf x) before (frameOf line))
     → after ≡ cond (eqb (eventFault x before used room line) 0) (alteredBy (tableOf x) before (frameOf line)) before
     → Handled x used room line r before after
 handled-is x used room line r before after e f =
     record {
-      answer = answer-reply r (eventFault x before used room line) (entryOf (tableOf x) (frameOf line .to) (outcomeOf (tableOf x) before (frameOf line))) e;
+      answer = answer-reply r (eventFault x before used room line) (entryBy (tableOf x) before (frameOf line)) e;
       record-after = f;
     }
 
@@ -175,14 +191,25 @@ handled-next x room s l r after h = (handled-answer h, h .record-after ∙ go (e
     go false = refl
 
 -- what a line past its checks says, by the frame that was read and the link that was found
+pub record ReadSays (t : Table) (l : List ℕ) (r : FrameLine) (v : Event) : Type 0 where
+  pub event : v ≡ eventOf t (frameOf l)
+  pub kind : r .kind ≡ frameOf l .kind
+  pub from : r .from ≡ frameOf l .from
+  pub to : r .to ≡ frameOf l .to
+
 pub read-says : (number probes links : ℕ) (needs lows highs costs l : List ℕ) (r : FrameLine) (link : ℕ) (v : Event) → frameRead r ≡ frameOf l
-    → v ≡ cond (eqb (r .kind) 0) Opening (cond (eqb (r .kind) 1) (Offer link) (Refusal link))
-    → (eqb (r .kind) 0 ≡ false → link ≡ between (ofSlices 0 probes links [] lows highs []) (r .from) (r .to))
-    → (v ≡ eventOf (ofSlices number probes links needs lows highs costs) (frameOf l)) × (r .from ≡ frameOf l .from) × (r .to ≡ frameOf l .to)
+    → v ≡ cond (ofOneProbe (r .kind)) Opening (cond (eqb (r .kind) 1) (Offer link) (Refusal link))
+    → (ofOneProbe (r .kind) ≡ false → link ≡ between (ofSlices 0 probes links [] lows highs []) (r .from) (r .to))
+    → ReadSays (ofSlices number probes links needs lows highs costs) l r v
 read-says number probes links needs lows highs costs l r link v same e f =
-    (e ∙ go (decided (eqb (r .kind) 0)) ∙ ap (eventOf (ofSlices number probes links needs lows highs costs)) same, ap (λ (f : Frame). f .from) same, ap (λ (f : Frame). f .to) same)
+    record {
+      event = e ∙ go (decided (ofOneProbe (r .kind))) ∙ ap (eventOf (ofSlices number probes links needs lows highs costs)) same;
+      kind = ap (λ (f : Frame). f .kind) same;
+      from = ap (λ (f : Frame). f .from) same;
+      to = ap (λ (f : Frame). f .to) same;
+    }
   where
-    go : (eqb (r .kind) 0 ≡ true) ⊎ (eqb (r .kind) 0 ≡ false)
-        → cond (eqb (r .kind) 0) Opening (cond (eqb (r .kind) 1) (Offer link) (Refusal link)) ≡ eventOf (ofSlices number probes links needs lows highs costs) (frameRead r)
+    go : (ofOneProbe (r .kind) ≡ true) ⊎ (ofOneProbe (r .kind) ≡ false)
+        → cond (ofOneProbe (r .kind)) Opening (cond (eqb (r .kind) 1) (Offer link) (Refusal link)) ≡ eventOf (ofSlices number probes links needs lows highs costs) (frameRead r)
     go (inl k) = rw k
     go (inr k) = rw (k, f k)

@@ -14,7 +14,7 @@ use Rattle.probe_rules.specs.Within.{EventWithin}
 use Rattle.fleet_theory.specs.Fleet.{eventLineFault, eventOf}
 pub use Rattle.fleet_theory.proofs.Lines.{line-frame}
 use Rattle.fleet_theory.proofs.Lines.{frameChecks}
-use Rattle.fleet_theory.proofs.Events.{Says, an-opening, an-offer, a-refusal, says}
+use Rattle.fleet_theory.proofs.Events.{Says, an-opening, a-restart, an-offer, a-refusal, says}
 
 -- a line by the frame that was read of it
 module _ (t : Table) (l : List ℕ) (r : FrameLine) (reads : ReadsFrame l r) where
@@ -39,6 +39,7 @@ module _ (t : Table) (l : List ℕ) (e : eventLineFault t l ≡ 0) where
     where
       go : Says t f → EventWithin (t .links) (eventOf t f)
       go (an-opening k b v) = rw v tt
+      go (a-restart k b v) = rw v tt
       go (an-offer i k b x v h) = rw v b
       go (a-refusal i k b x v h) = rw v b
 
@@ -55,5 +56,6 @@ module _ (t : Table) (l : List ℕ) (e : eventLineFault t l ≡ 0) where
 
       go : Says t f → f .to < t .probes
       go (an-opening k b v) = b
+      go (a-restart k b v) = b
       go (an-offer i k b x v h) = far b x
       go (a-refusal i k b x v h) = far b x

@@ -1,6 +1,7 @@
 -- What an opening of a fleet says that opens nothing: its own end's law, on the end's own bytes.
 use Prim.Native.Nat.{ℕ, _*_}
-use mathlib.Core.Path.{_≡_, sym, _∙_, ap}
+use mathlib.Core.Path.{_≡_, sym, _∙_, ap, subst}
+use mathlib.Core.Bool.{false}
 use mathlib.Core.List.{List}
 use native.Mathlib.Omega.{arith}
 use lib.ListN.{length}
@@ -17,9 +18,9 @@ use Rattle.probe_rules.specs.Rules.{alter, entryOf}
 use Rattle.probe_rules.proofs.Befalls.{befell}
 use Rattle.probe_theory.specs.EndLaws.{OpensNothing}
 use Rattle.probe_theory.proofs.OpensNothing.{unaltered-says}
-use Rattle.fleet_theory.specs.Fleet.{own, fleetFault, eventLineFault, eventFault, outcomeOf}
+use Rattle.fleet_theory.specs.Fleet.{own, fleetFault, restarts, eventLineFault, eventFault, outcomeOf, entryBy}
 use Rattle.fleet_theory.proofs.Alone.{own-altered}
-use Rattle.fleet_theory.proofs.Events.{Says, an-opening, an-offer, a-refusal, says, NotUnsent, line-step}
+use Rattle.fleet_theory.proofs.Events.{Says, an-opening, a-restart, an-offer, a-refusal, says, NotUnsent, line-step, altered-event, entry-event}
 use Rattle.fleet_theory.proofs.Run.{slices-legal}
 use Rattle.fleet_state.proofs.CheckLaws.{fleet-good}
 use Rattle.fleet.specs.Answers.{Handled}
@@ -45,10 +46,13 @@ module _ (x : Slices) (used room : ℕ) (r l : List ℕ) where
 
   -- an opening that is logged and leaves the record as it was
   pub line-opens-nothing : (entry : Entry) → Handled x used room l (Logged entry) r r → f .kind ≡ 0 → OpensNothing t p e (entry .what)
-  line-opens-nothing entry h kind = go (logged-is (eventFault x r used room l) (entryOf t p o) entry (sym (handled-answer h)))
+  line-opens-nothing entry h kind = go (logged-is (eventFault x r used room l) (entryBy t r f) entry (sym (handled-answer h)))
     where
-      go : (eventFault x r used room l ≡ 0) × (entryOf t p o ≡ entry) → OpensNothing t p e (entry .what)
-      go (none, s) = rw (← s) (opens (says t l (line .0)))
+      event : restarts f ≡ false
+      event = rw kind
+
+      go : (eventFault x r used room l ≡ 0) × (entryBy t r f ≡ entry) → OpensNothing t p e (entry .what)
+      go (none, s) = subst (λ y. OpensNothing t p e (y .what)) (sym (entry-event t r f event) ∙ s) (opens (says t l (line .0)))
         where
           fine : slicesFault x ≡ 0
           fine = passed-slices x r used room l none
@@ -59,15 +63,16 @@ module _ (x : Slices) (used room : ℕ) (r l : List ℕ) where
           line : (eventLineFault t l ≡ 0) × NotUnsent t r f
           line = passed-line x r used room l none
 
-          long : length r ≡ 4 * t .links
+          long : length r ≡ 8 * t .links
           long = fleet-good t r good .0
 
           unaltered : alter o e ≡ e
           unaltered =
-              sym (own-altered t p r long o (line-step t (slices-legal x fine) r long l (line .0) (line .1) .own-links)) ∙ ap (own t p) (sym (rw none at (h .record-after)))
+              sym (own-altered t p r long o (line-step t (slices-legal x fine) r long l (line .0) (line .1) .own-links)) ∙ ap (own t p) (sym (altered-event t r f event) ∙ sym (rw none at (h .record-after)))
 
           opens : Says t f → OpensNothing t p e (entryOf t p o .what)
           opens (an-opening k b v) =
               rw v (unaltered-says t p e (good-record t p e (own-fault x fine r good p b)) (befell t (slices-legal x fine) p e Opening tt) (rw v at unaltered))
+          opens (a-restart k b v) = absurd (omega arith)
           opens (an-offer i k b c v is) = absurd (omega arith)
           opens (a-refusal i k b c v is) = absurd (omega arith)

@@ -1,33 +1,35 @@
 -- What an accepted line has passed; a fleet's record that 20, 21 and 22 let pass stays one.
-use Prim.Native.Nat.{ℕ, _*_, _<_, _≤_}
-use mathlib.Core.Path.{_≡_, _∙_}
-use mathlib.Core.Bool.{cond}
+use Prim.Native.Nat.{ℕ, _*_, _<_}
+use mathlib.Core.Path.{_≡_, sym, _∙_, subst}
+use mathlib.Core.Logic.{_⊎_, inl, inr}
+use mathlib.Core.Bool.{true, false, cond}
 use mathlib.Core.List.{List}
 use native.Mathlib.Omega.{arith}
 use native.Mathlib.Decide.{ℕ-discrete}
 use lib.Dec.{eqb, ltb}
-use lib.ListN.{length, set, length-set}
-use lib.Seq.{getD-set-same, getD-set-other}
-use borrow.Author.Tests.{eq-eqb, le-ltb, ltb-false}
+use lib.ListN.{length}
+use borrow.Author.Tests.{eq-eqb}
 use Rattle.range.specs.First.{orElse, first}
-use Rattle.range.proofs.Bools.{when-none}
+use Rattle.range.proofs.Bools.{decided}
 use Rattle.range.proofs.Faults.{or-left, or-right, or-none, first-all, none-first}
-use Rattle.table.specs.Table.{Table, item}
+use Rattle.table.specs.Table.{Table}
+use Rattle.table.proofs.LegalLaws.{legal-table}
 use Rattle.plan_theory.proofs.Settled.{near, back}
 use Rattle.probe_frame.specs.Frame.{Frame, frameOf}
-use Rattle.probe_record.specs.Record.{recordLengthFault, byteFault, spareFault, recordFault}
+use Rattle.probe_record.specs.Record.{fresh, recordLengthFault, byteFault, spareFault, recordFault}
 use Rattle.probe_rules.specs.declared.Outcome.{Outcome}
-use Rattle.probe_rules.specs.declared.Outcome.the-variants.{Opened, Enough, Taken, TakenDisplacing, Refused, RefusalLearnt, NoChange, AllTried}
 use Rattle.probe_rules.specs.Rules.{alter}
 use Rattle.probe_rules.specs.Within.{OwnEvent, OwnOutcome}
 use Rattle.probe_theory.proofs.EndLaws.{end-laws}
-use Rattle.fleet_theory.specs.Fleet.{outAt, inAt, own, overTwo, fleetFault, eventLineFault, eventFault, eventOf, outcomeOf, alterFleet, alteredBy}
+use Rattle.fleet_theory.specs.Fleet.{own, linkBytesFault, fleetFault, restarts, eventLineFault, eventFault, eventOf, outcomeOf, alterFleet, wiped, alteredBy}
 use Rattle.table.specs.Slices.{Slices, tableOf, slicesFault}
 use Rattle.fleet_theory.proofs.Own.{length-own}
 use Rattle.fleet_theory.proofs.Bytes.{length-altered}
-use Rattle.fleet_theory.proofs.Events.{Says, an-opening, an-offer, a-refusal, says, unsentOf, NotUnsent, line-step}
+use Rattle.fleet_theory.proofs.Wipe.{length-wiped}
+use Rattle.fleet_theory.proofs.Marked.{MarkedBytes, passes-marked, marked-passes, MarksAfter, marks-fit, marks-altered, marks-wiped}
+use Rattle.fleet_theory.proofs.Events.{Says, an-opening, a-restart, an-offer, a-refusal, says, unsentOf, NotUnsent, line-step, altered-restart, altered-event}
 use Rattle.fleet_theory.proofs.Run.{slices-legal}
-use Rattle.fleet_theory.proofs.Alone.{own-altered, own-else}
+use Rattle.fleet_theory.proofs.Alone.{own-altered, own-else, own-wiped, own-wiped-else}
 use Rattle.fleet_state.proofs.CheckLaws.{fleet-good, own-passes}
 
 -- an accepted line
@@ -57,29 +59,6 @@ module _ (x : Slices) (r : List ℕ) (used room : ℕ) (l : List ℕ) (e : event
       let a = or-right (fleetFault (tableOf x) r) rest past-slices in
       (or-left (eventLineFault (tableOf x) l) (orElse unsent full) a, or-left unsent full (or-right (eventLineFault (tableOf x) l) (orElse unsent full) a))
 
--- the first n bytes are at most 2
-abbrev Small : ℕ → List ℕ → Type 0
-Small n r = (j : ℕ) → j < n → item r j ≤ 2
-
-small-set : (n : ℕ) (r : List ℕ) (k v : ℕ) → length r ≡ n → v ≤ 2 → Small n r → Small n (set r k v)
-small-set n r k v long small each j l = go (ℕ-discrete j k)
-  where
-    go : Dec (j ≡ k) → item (set r k v) j ≤ 2
-    go (yes e) = let b = getD-set-same r j v 0 (omega arith) in rw (← e) (omega arith)
-    go (no d) = let b = getD-set-other r k j v 0 d in let c = each j l in omega arith
-
-module _ (t : Table) (p : ℕ) (n : ℕ) (r : List ℕ) (long : length r ≡ n) (each : Small n r) where
-  small-altered : (o : Outcome) → Small n (alterFleet t p o r)
-  small-altered (Opened i) = small-set n r (outAt t p i) 1 long (omega arith) each
-  small-altered Enough = each
-  small-altered (Taken i) = small-set n r (inAt t p i) 1 long (omega arith) each
-  small-altered (TakenDisplacing i c) =
-      small-set n (set r (inAt t p i) 1) (inAt t p c) 2 (length-set r (inAt t p i) 1 ∙ long) (omega arith) (small-set n r (inAt t p i) 1 long (omega arith) each)
-  small-altered (Refused i) = small-set n r (inAt t p i) 2 long (omega arith) each
-  small-altered (RefusalLearnt i) = small-set n r (outAt t p i) 2 long (omega arith) each
-  small-altered (NoChange i) = each
-  small-altered AllTried = each
-
 module _ (x : Slices) (fine : slicesFault x ≡ 0) (r : List ℕ) (good : fleetFault (tableOf x) r ≡ 0) where
   abbrev t : Table
   t = tableOf x
@@ -88,19 +67,19 @@ module _ (x : Slices) (fine : slicesFault x ≡ 0) (r : List ℕ) (good : fleetF
   spares r = first (λ p. spareFault t p (own t p r)) (t .probes)
 
   abbrev bytes : List ℕ → ℕ
-  bytes r = first (overTwo r) (4 * t .links)
+  bytes r = first (linkBytesFault r) (t .links)
 
   abbrev size : List ℕ → ℕ
-  size r = cond (eqb (length r) (4 * t .links)) 0 20
+  size r = cond (eqb (length r) (8 * t .links)) 0 20
 
-  long : length r ≡ 4 * t .links
+  long : length r ≡ 8 * t .links
   long = fleet-good t r good .0
 
   spares-pass : (p : ℕ) → p < t .probes → spareFault t p (own t p r) ≡ 0
   spares-pass p l = first-all (λ q. spareFault t q (own t q r)) (t .probes) p (or-right (bytes r) (spares r) (or-right (size r) (orElse (bytes r) (spares r)) good)) l
 
-  small : Small (4 * t .links) r
-  small j l = ltb-false 2 (item r j) (when-none (ltb 2 (item r j)) 20 (first-all (overTwo r) (4 * t .links) j (fleet-good t r good .1) l))
+  marked : MarkedBytes t r
+  marked = passes-marked t r (fleet-good t r good .1)
 
   -- so does an end's own part of it
   pub own-fault : (p : ℕ) → p < t .probes → recordFault t p (own t p r) ≡ 0
@@ -125,27 +104,46 @@ module _ (x : Slices) (fine : slicesFault x ≡ 0) (r : List ℕ) (good : fleetF
       where
         go : Says t f → OwnEvent t p (eventOf t f)
         go (an-opening k b v) = rw v tt
+        go (a-restart k b v) = rw v tt
         go (an-offer i k b c v is) = rw v (b, near (back c))
         go (a-refusal i k b c v is) = rw v (b, near (back c))
 
     own-links : OwnOutcome t p o
     own-links = line-step t (slices-legal x fine) r long l line sent .own-links
 
-    spares-stay : (q : ℕ) → q < t .probes → spareFault t q (own t q (alteredBy t r f)) ≡ 0
-    spares-stay q b = go (ℕ-discrete q p)
+    spare-of : (e : List ℕ) → recordFault t p e ≡ 0 → spareFault t p e ≡ 0
+    spare-of e fault =
+        or-right (first (byteFault t p e) (t .links)) (spareFault t p e)
+        (or-right (recordLengthFault t e) (orElse (first (byteFault t p e) (t .links)) (spareFault t p e)) fault)
+
+    event-spares : (q : ℕ) → q < t .probes → spareFault t q (own t q (alterFleet t p o r)) ≡ 0
+    event-spares q b = go (ℕ-discrete q p)
       where
-        go : Dec (q ≡ p) → spareFault t q (own t q (alteredBy t r f)) ≡ 0
+        go : Dec (q ≡ p) → spareFault t q (own t q (alterFleet t p o r)) ≡ 0
         go (yes e) =
-            let a = end-laws t (slices-legal x fine) p .stays-usable (eventOf t f) (own t p r) (own-fault p (omega arith)) own-event in
-            let e′ = alter o (own t p r) in
             rw (e, own-altered t p r long o own-links)
-            (or-right (first (byteFault t p e′) (t .links)) (spareFault t p e′) (or-right (recordLengthFault t e′) (orElse (first (byteFault t p e′) (t .links)) (spareFault t p e′)) a))
+            (spare-of (alter o (own t p r)) (end-laws t (slices-legal x fine) p .stays-usable (eventOf t f) (own t p r) (own-fault p (omega arith)) own-event))
         go (no d) = rw (own-else t p r long o own-links q d) (spares-pass q b)
 
+    restart-spares : (q : ℕ) → q < t .probes → spareFault t q (own t q (wiped t p r)) ≡ 0
+    restart-spares q b = go (ℕ-discrete q p)
+      where
+        go : Dec (q ≡ p) → spareFault t q (own t q (wiped t p r)) ≡ 0
+        go (yes e) = rw (e, own-wiped t p r long) (spare-of (fresh t) (end-laws t (slices-legal x fine) p .fresh-usable))
+        go (no d) = rw (own-wiped-else t p r long q d) (spares-pass q b)
+
+    stays : (r′ : List ℕ) → length r′ ≡ length r → MarksAfter t r r′ → ((q : ℕ) → q < t .probes → spareFault t q (own t q r′) ≡ 0) → fleetFault t r′ ≡ 0
+    stays r′ same marks spare =
+        or-none (size r′) (orElse (bytes r′) (spares r′)) (rw (eq-eqb (length r′) (8 * t .links) (same ∙ long)))
+        ∙ or-none (bytes r′) (spares r′) (marked-passes t r′ (legal-table 256 2048 t (slices-legal x fine)) (marks-fit marks))
+        ∙ none-first (λ q. spareFault t q (own t q r′)) (t .probes) spare
+
     pub record-stays : fleetFault t (alteredBy t r f) ≡ 0
-    record-stays =
-        let r′ = alteredBy t r f in
-        or-none (size r′) (orElse (bytes r′) (spares r′)) (rw (eq-eqb (length r′) (4 * t .links) (length-altered t p o r ∙ long)))
-        ∙ or-none (bytes r′) (spares r′)
-        (none-first (overTwo r′) (4 * t .links) (λ j b. rw (le-ltb 2 (item r′ j) (small-altered t p (4 * t .links) r long small o j b))))
-        ∙ none-first (λ q. spareFault t q (own t q r′)) (t .probes) spares-stay
+    record-stays = go (decided (restarts f))
+      where
+        go : (restarts f ≡ true) ⊎ (restarts f ≡ false) → fleetFault t (alteredBy t r f) ≡ 0
+        go (inl e) =
+            subst (λ y. fleetFault t y ≡ 0) (sym (altered-restart t r f e)) (stays (wiped t p r) (length-wiped t p r) (marks-wiped t r marked long p) restart-spares)
+        go (inr e) =
+            subst (λ y. fleetFault t y ≡ 0) (sym (altered-event t r f e))
+            (stays (alterFleet t p o r) (length-altered t p o r) (marks-altered t r marked long p o own-links) event-spares)

@@ -10,20 +10,19 @@ use Rattle.probe_frame.specs.Frame.{frameOf}
 use Rattle.wake_log.specs.declared.Answer.{Answer}
 use Rattle.wake_log.specs.declared.Answer.the-variants as answer
 use Rattle.wake_log.specs.declared.What.{What}
-use Rattle.wake_log.specs.declared.What.the-variants.{Opened, Enough, Taken, TakenDisplacing, Refused, RefusalLearnt, NoChange, AllTried}
+use Rattle.wake_log.specs.declared.What.the-variants.{Opened, Enough, Taken, TakenDisplacing, Refused, RefusalLearnt, NoChange, AllTried, Restarted}
 use Rattle.wake_log.specs.Entry.{entryValues, answerReply}
-use Rattle.probe_rules.specs.Rules.{entryOf}
 use Rattle.fleet.specs.declared.Finishing.{Finishing}
 use Rattle.fleet.specs.declared.Finishing.the-variants as finishing
-use Rattle.fleet_theory.specs.Fleet.{fleetFault, eventFault, outcomeOf, alteredBy, finished}
+use Rattle.fleet_theory.specs.Fleet.{fleetFault, eventFault, entryBy, alteredBy, finished}
 use Rattle.table.specs.Slices.{Slices, tableOf, slicesFault}
 
 -- a line: the entry and the altered record, or the refusal alone and the record unchanged
 pub record Handled (x : Slices) (used room : ℕ) (line : List ℕ) (r : Answer) (before after : List ℕ) : Type 0 where
-  pub answer : answerReply r ≡ replyOf (eventFault x before used room line) (entryValues (entryOf (tableOf x) (frameOf line .to) (outcomeOf (tableOf x) before (frameOf line))))
+  pub answer : answerReply r ≡ replyOf (eventFault x before used room line) (entryValues (entryBy (tableOf x) before (frameOf line)))
   pub record-after : after ≡ cond (eqb (eventFault x before used room line) 0) (alteredBy (tableOf x) before (frameOf line)) before
 
--- how many record bytes an event altered, by its entry
+-- how many changes an event made, by its entry; 02, No. 2: "marks and wipes count nowhere as changes"
 abbrev pub changesOf : What → ℕ
 changesOf (Opened link) = 1
 changesOf Enough = 0
@@ -33,6 +32,7 @@ changesOf (Refused link) = 1
 changesOf (RefusalLearnt link) = 1
 changesOf (NoChange link) = 0
 changesOf AllTried = 0
+changesOf Restarted = 0
 
 -- by its answer
 abbrev pub changesBy : Answer → ℕ

@@ -1,4 +1,4 @@
-// A fleet of ends: its record, driven by lines. Links go by their place in the table. Beside the calls, laws on any record: it stays usable, and an event alters as many bytes as its entry says.
+// A fleet of ends: its record, driven by lines. Links go by their place in the table. Beside the calls, laws on any record: it stays usable, and a line makes as many changes as its entry says.
 ghost use mathlib.Core.Path.{_≡_};
 ghost use Rattle.table.specs.Slices.{slicesOf};
 ghost use Rattle.fleet.specs.Answers.{Handled, finishingReply, whetherFinished, changesOf};
@@ -12,7 +12,7 @@ pub enum Finishing {
     Refused(u8),
 }
 
-// A line of any bytes: an opening, or a frame heard. `used` of the log's `room` entries are used.
+// A line of any bytes: an opening, a frame heard, or a restart. `used` of the log's `room` entries are used.
 pub fn event(
     number: u16,
     probes: u16,
@@ -98,7 +98,7 @@ pub fn finished(
     ))
 }
 
-// How many record bytes an event altered, by its entry.
+// How many changes an event made, by its entry; marks and wipes count nowhere.
 pub fn changes_of(what: wake_log::What) -> u8
     ensures { λ r. ⌜ r ≡ changesOf what ⌝ }
 {
@@ -114,6 +114,7 @@ pub fn changes_of(what: wake_log::What) -> u8
         wake_log::What::RefusalLearnt(_) => 1,
         wake_log::What::NoChange(_) => 0,
         wake_log::What::AllTried => 0,
+        wake_log::What::Restarted => 0,
     }
 }
 

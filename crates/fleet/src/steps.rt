@@ -1,18 +1,21 @@
 // The steps of a fleet. Its public functions and the script program call these, within the bounds that they ask.
 ghost use mathlib.Core.Path.{_≡_};
+ghost use mathlib.Core.Bool.{cond};
 ghost use mathlib.Core.List.{[]};
 ghost use Prim.Native.Nat.{_*_, _<_, _≤_};
 ghost use lib.ListN.{length};
 ghost use Rattle.table.specs.Table.{ofSlices, Degrees};
 ghost use Rattle.table_links.specs.OrderedLinks.{OrderedLinks};
+ghost use Rattle.wake_log.specs.declared.What.the-variants.{Restarted};
 ghost use Rattle.probe_rules.specs.Rules.{befalls, entryOf};
 ghost use Rattle.probe_rules.specs.Within.{EventWithin};
-ghost use Rattle.fleet_theory.specs.Fleet.{own, fleetFault, alterFleet};
+ghost use Rattle.fleet_theory.specs.Fleet.{own, fleetFault, alterFleet, wiped};
 ghost use Rattle.table.specs.Slices.{slicesFault, tableOf, slicesOf};
 ghost use Rattle.fleet.specs.Answers.{Handled};
 
-// Lets the event befall the probe: the fleet's record altered, and the entry.
+// Lets the event befall the probe, or restarts it: the fleet's record altered, and the entry.
 fn apply(
+    restart: bool,
     event: probe_rules::Event,
     links: usize,
     needs: &[u16],
@@ -23,12 +26,20 @@ fn apply(
     probe: u16,
     rec: &mut [u8],
 ) -> wake_log::Entry
-    requires { ⌜ OrderedLinks links (now lows) (now highs) (now costs) × (length (now rec) ≡ 4 * links) × EventWithin links event
+    requires { ⌜ OrderedLinks links (now lows) (now highs) (now costs) × (length (now rec) ≡ 8 * links) × EventWithin links event
         × (probe < length (now degrees)) × Degrees (ofSlices 0 0 links [] (now lows) (now highs) []) (now degrees) ⌝ }
     ensures { λ r. let t = ofSlices 0 0 links (now (needs .entry)) (now (lows .entry)) (now (highs .entry)) (now (costs .entry)) in
         let o = befalls t probe event (own t probe (now (rec .entry))) in
-        ⌜ (r ≡ entryOf t probe o) × (now (rec .exit) ≡ alterFleet t probe o (now (rec .entry))) ⌝ }
+        ⌜ (r ≡ cond restart (record { probe = probe; what = Restarted }) (entryOf t probe o))
+        × (now (rec .exit) ≡ cond restart (wiped t probe (now (rec .entry))) (alterFleet t probe o (now (rec .entry)))) ⌝ }
 {
+    if restart {
+        fleet_rules::own_bytes::wipe(rec, links, lows, highs, probe as usize);
+        return wake_log::Entry {
+            probe,
+            what: wake_log::What::Restarted,
+        };
+    }
     let outcome = fleet_rules::decisions::decide(
         event,
         rec,
@@ -78,6 +89,7 @@ pub fn handle_line(
         return wake_log::Answer::Refused(26);
     }
     let e = apply(
+        frame.kind == 3,
         event,
         links,
         needs,

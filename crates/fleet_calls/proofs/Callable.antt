@@ -8,8 +8,7 @@ use lib.ListN.{length, set}
 use Rattle.table.specs.Slices.{Slices, tableOf}
 use Rattle.probe_frame.specs.Frame.{frameOf}
 use Rattle.wake_log.specs.Entry.{answerOf}
-use Rattle.probe_rules.specs.Rules.{entryOf}
-use Rattle.fleet_theory.specs.Fleet.{eventFault, outcomeOf, alteredBy}
+use Rattle.fleet_theory.specs.Fleet.{eventFault, entryBy, alteredBy}
 use Rattle.fleet_calls.specs.Calls.{SameTable, LoggedCall, LoggedLeft, leftByLogged, KeptLogged, LoggedCalls, loggedGiven, EventCall, EventLeft, leftByEvent, KeptEvent, EventCalls, eventGiven, GivenLines}
 use Rattle.fleet.proofs.Calls.{handled-is}
 
@@ -17,7 +16,7 @@ use Rattle.fleet.proofs.Calls.{handled-is}
 abbrev pub madeLogged : LoggedLeft → Slices → List ℕ → LoggedCall
 madeLogged b y l =
     let fault = eventFault y (b .bytes) (b .used) (length (b .log)) l in
-    let entry = entryOf (tableOf y) (frameOf l .to) (outcomeOf (tableOf y) (b .bytes) (frameOf l)) in
+    let entry = entryBy (tableOf y) (b .bytes) (frameOf l) in
     record {
       slices = y;
       line = l;
@@ -32,7 +31,7 @@ madeEvent room b y l =
     record {
       slices = y;
       line = l;
-      answer = answerOf fault (entryOf (tableOf y) (frameOf l .to) (outcomeOf (tableOf y) (b .bytes) (frameOf l)));
+      answer = answerOf fault (entryBy (tableOf y) (b .bytes) (frameOf l));
       bytes = cond (eqb fault 0) (alteredBy (tableOf y) (b .bytes) (frameOf l)) (b .bytes);
     }
 

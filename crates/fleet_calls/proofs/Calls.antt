@@ -21,8 +21,7 @@ use Rattle.wake_log.specs.declared.Answer.the-variants.{Logged, Refused}
 use Rattle.wake_log.specs.Log.{noEntry}
 use Rattle.wake_log.specs.Entry.{acceptedBy}
 use Rattle.wake_log.proofs.Slots.{slot-used, slot-past-used, slot-of-used, slot-is}
-use Rattle.probe_rules.specs.Rules.{entryOf}
-use Rattle.fleet_theory.specs.Fleet.{own, fleetFault, eventLineFault, eventOf, unsentFault, outcomeOf, State, start, faultOf, answerTo, accepted, next, run}
+use Rattle.fleet_theory.specs.Fleet.{marks, fleetFault, eventLineFault, eventOf, unsentFault, entryBy, State, start, faultOf, answerTo, accepted, next, run}
 use Rattle.fleet.proofs.Calls.{handled-next}
 use Rattle.fleet_log.specs.Logged.{LogsInFleet}
 use Rattle.fleet_calls.specs.Calls.{
@@ -54,7 +53,7 @@ room-free : (x : Slices) (room : ℕ) (s : State) (l : List ℕ) → faultOf x r
 room-free x room s l e =
     let t = tableOf x in
     let f = frameOf l in
-    let sent = unsentFault (eventOf t f) (own t (f .from) (s .bytes)) in
+    let sent = unsentFault (eventOf t f) (marks t (f .from) (s .bytes)) in
     let full : ℕ = cond (ltb (length (s .log)) room) 0 26 in
     ltb-true (length (s .log)) room (unless-none (ltb (length (s .log)) room) 25
     (or-right sent full (or-right (eventLineFault t l) (orElse sent full) (or-right (fleetFault t (s .bytes)) (orElse (eventLineFault t l) (orElse sent full)) (or-right (slicesFault x) (orElse (fleetFault t (s .bytes)) (orElse (eventLineFault t l) (orElse sent full))) e)))))
@@ -71,7 +70,7 @@ behind log es e l =
 
 -- the entry of a line
 abbrev pub entryTo : Slices → State → List ℕ → Entry
-entryTo x s l = entryOf (tableOf x) (frameOf l .to) (outcomeOf (tableOf x) (s .bytes) (frameOf l))
+entryTo x s l = entryBy (tableOf x) (s .bytes) (frameOf l)
 
 -- the count goes up with the log
 pub used-next : (x : Slices) (room : ℕ) (s : State) (l : List ℕ) → length (s .log) + acceptedBy (answerTo x room s l) ≡ length (next x room s l .log)

@@ -15,7 +15,7 @@ use Rattle.wake_log.specs.declared.Entry.{Entry}
 use Rattle.wake_log.specs.declared.Answer.the-variants.{Logged, Refused}
 use Rattle.wake_log.specs.Log.{noEntry}
 use Rattle.fleet_theory.specs.Fleet.{State, start, fleetFault, eventLineFault, next, run, finished}
-use Rattle.fleet_theory.specs.Words.{IsFrame, MaySend, TrulySent, endRests, IsOpening, TrulySentLine, Usable}
+use Rattle.fleet_theory.specs.Words.{IsFrame, MaySend, TrulySent, MarkStep, endRests, IsOpening, IsRestart, TrulySentLine, Usable}
 use Rattle.fleet_theory.specs.ClaimsOfRun.{moments, ClaimsOfRun}
 use Rattle.fleet_theory.proofs.ClaimsOfRun.{claims-of-run}
 use Rattle.fleet.specs.declared.Finishing.{Finishing}
@@ -23,12 +23,12 @@ use Rattle.fleet.specs.declared.Finishing.the-variants.{Says}
 use Rattle.fleet.specs.Answers.{finishingReply, whetherFinished}
 use Rattle.fleet.proofs.Calls.{finishing-is, handled-next}
 use Rattle.fleet_calls.specs.Calls.{SameTable, LoggedCall, LoggedLeft, freshLogged, leftByLogged, KeptLogged, LoggedCalls, leftAfterLogged, loggedLines}
-use Rattle.fleet_calls.specs.Demand3.{recordsOver, LeadsToFinish, Demand3}
+use Rattle.fleet_calls.specs.Demand3.{changesOver, NoRestartIn, recordsOver, LeadsToFinish, Demand3}
 use Rattle.fleet_calls.proofs.Same.{same-own, same-fleet, same-finished}
 use Rattle.fleet_calls.proofs.Promises.{same-fine, same-self}
-use Rattle.fleet_calls.proofs.Calls.{FollowsRun, calls-through, fresh-through, kept-logs, logged-run}
+use Rattle.fleet_calls.proofs.Calls.{FollowsRun, calls-through, fresh-through, step-follows, kept-logs, calls-follow, logged-run}
 use Rattle.fleet_calls.proofs.Callable.{madeLogged, made-kept}
-use Rattle.fleet_calls.proofs.Places.{calls-before, leads-by-calls, changes-of-run, moments-of-run, left-follows, answer-of-run}
+use Rattle.fleet_calls.proofs.Places.{calls-before, calls-behind, call-at, lines-append, changes-are, no-restart-is, leads-by-calls, moments-of-run, left-follows, answer-of-run}
 
 -- calls with these lines, in the slices of x
 made-lines : (x : Slices) → slicesFault x ≡ 0 → (b : LoggedLeft) (ls : List (List ℕ)) → (ds : List LoggedCall) × (loggedLines ds ≡ ls) × LoggedCalls x b ds
@@ -58,17 +58,46 @@ module _ (x : Slices) (fine : slicesFault x ≡ 0) (digits : x .number < 65536) 
     same-moments : recordsOver (start x .bytes) before ≡ moments x room (start x) lines
     same-moments = moments-of-run x fine log before earlier
 
-    unsent-here : (IsOpening t (c .line) → ⊥) → (TrulySentLine t (c .line) (recordsOver (start x .bytes) before) → ⊥) → (n : ℕ) × (c .answer ≡ Refused n)
-    unsent-here no-opening no-frame =
-        let w = claims .unsent-refused lines [] (c .line) refl no-opening (rw same-moments at no-frame) in
+    unsent-here : (IsOpening t (c .line) → ⊥) → (IsRestart t (c .line) → ⊥) → (TrulySentLine t (c .line) (recordsOver (start x .bytes) before) → ⊥)
+        → (n : ℕ) × (c .answer ≡ Refused n)
+    unsent-here no-opening no-restart no-frame =
+        let w = claims .unsent-refused lines [] (c .line) refl no-opening no-restart (rw same-moments at no-frame) in
         (w .0, answer-of-run x fine log before later c k ∙ w .1)
 
-    accepted-here : (e : Entry) → c .answer ≡ Logged e → Usable t (c .line) (recordsOver (start x .bytes) before)
+    accepted-here : (e : Entry) → c .answer ≡ Logged e → Usable t (c .line) (recordsOver (start x .bytes) before) ⊎ IsRestart t (c .line)
     accepted-here e is = rw same-moments (claims .accepted-usable lines [] (c .line) refl e (sym (answer-of-run x fine log before later c k) ∙ is))
 
     by-27-here : IsFrame (frameOf (c .line)) → eventLineFault t (c .line) ≡ 0
         → (c .answer ≡ Refused 27) ↔ (TrulySent t (frameOf (c .line)) (recordsOver (start x .bytes) before) → ⊥)
     by-27-here frame line = rw (answer-of-run x fine log before later c k, same-moments) (claims .unsent-by-27 lines [] (c .line) refl frame line)
+
+    marked-here : (i j : ℕ) → i < x .links → j < 4 → MarkStep (leftAfterLogged (freshLogged x log) before .bytes) (c .bytes) i j
+    marked-here i j l m =
+        let s = run x room (start x) lines in
+        let b = leftAfterLogged (freshLogged x log) before in
+        let follows = left-follows x fine log before earlier in
+        rw (step-follows x log s b c follows (kept-logs x fine b c (call-at x (freshLogged x log) before later c k)) .1 .bytes, follows .bytes)
+        (claims .marks-step lines [] (c .line) refl i j l m)
+
+  -- the calls from a place on
+  module _ (before later : List LoggedCall) (k : LoggedCalls x (freshLogged x log) (before ++ later)) where
+    abbrev reached : State
+    reached = run x room (start x) (loggedLines before)
+
+    abbrev left : LoggedLeft
+    left = leftAfterLogged (freshLogged x log) before
+
+    reached-by : FollowsRun log reached left
+    reached-by = left-follows x fine log before (calls-before x (freshLogged x log) before later k)
+
+    behind : LoggedCalls x left later
+    behind = calls-behind x (freshLogged x log) before later k
+
+    four-from : (i : ℕ) → i < x .links → NoRestartIn t (λ p. touches t p i) later → changesOver (left .bytes) later i ≤ 4
+    four-from i l none =
+        rw (changes-are x fine log reached left reached-by later behind i)
+        (claims-of-run x fine digits room (loggedLines (before ++ later)) .four (loggedLines before) (loggedLines later) (lines-append before later) i l
+        (no-restart-is x fine log (λ p. touches t p i) reached left reached-by later behind none))
 
   -- after all calls
   module _ (cs : List LoggedCall) (k : LoggedCalls x (freshLogged x log) cs) where
@@ -124,6 +153,14 @@ module _ (x : Slices) (fine : slicesFault x ≡ 0) (digits : x .number < 65536) 
     bytes-next : (log′ : List Entry) (c : LoggedCall) → KeptLogged x (withLog log′) c → c .bytes ≡ next x (length log′) s (c .line) .bytes
     bytes-next log′ c kept =
         handled-next x (length log′) s (c .line) (c .answer) (c .bytes) (rw (f .used, f .bytes) at (kept-logs x fine (withLog log′) c kept .handled)) .1
+
+    -- further calls without a restart
+    finished-stays : finished t (after .bytes) ≡ true → (log′ : List Entry) → take (after .used) log′ ≡ take (after .used) (after .log) → (ds : List LoggedCall)
+        → LoggedCalls x (withLog log′) ds → NoRestartIn t (λ p. true) ds → finished t (leftAfterLogged (withLog log′) ds .bytes) ≡ true
+    finished-stays e log′ has ds calls none =
+        let g = follows-with log′ has in
+        rw (calls-follow x fine log′ s (withLog log′) g ds calls .1 .bytes)
+        (all .stays-finished (rw (f .bytes) at e) (length log′) (loggedLines ds) (no-restart-is x fine log′ (λ p. true) s (withLog log′) g ds calls none))
 
     -- a log with the used entries and a given room
     abbrev logOf : ℕ → List Entry
@@ -181,16 +218,19 @@ module _ (x : Slices) (fine : slicesFault x ≡ 0) (digits : x .number < 65536) 
       record {
         passes = λ before later is. passes-after before (calls-before x (freshLogged x log) before later (rw is at k));
         says = λ before later is. says-whether before (calls-before x (freshLogged x log) before later (rw is at k));
-        eight = λ i l. rw (changes-of-run x fine log cs k i) (claimed .eight i l);
-        four = λ i l. rw (changes-of-run x fine log cs k i) (claimed .four i l);
+        eight = λ before later is i l none. let a = four-from before later (rw is at k) i l none in omega arith;
+        four = λ before later is. four-from before later (rw is at k);
         refused-kept = λ i l a. claimed .refused-kept i l (rw (entries-are cs k) at a);
         two-refused = λ j e. rw (entries-are cs k) (claimed .two-refused j (rw (same .bytes) at e));
         unsent-refused = λ before later c is. unsent-here before later c (rw is at k);
         accepted-usable = λ before later c is. accepted-here before later c (rw is at k);
         sent-passes = claimed .sent-passes;
         unsent-by-27 = λ before later c is. by-27-here before later c (rw is at k);
+        marks-say = λ j p i own. rw (same .bytes, moments-of-run x fine log cs k) (claimed .marks-say j p i own);
+        marks-step = λ before later c is. marked-here before later c (rw is at k);
         goes-on = (claimed .goes-on .0, λ log′ has fits. (made-lines x fine (withLog cs k log′) (claimed .goes-on .0), further cs k log′ has fits));
         says-finished = (finished-unaltered cs k, unaltered-finished cs k);
+        stays-finished = finished-stays cs k;
         rests-plan = λ e. rw (same .bytes) (claimed .rests-plan (rw (same .bytes) at e));
         ends-agree = λ e. rw (same .bytes) (claimed .ends-agree (rw (same .bytes) at e));
         same-plan = plans-same cs k;

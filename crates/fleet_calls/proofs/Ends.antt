@@ -8,7 +8,7 @@ use native.Mathlib.Omega.{arith}
 use lib.Dec.{ltb, eqb}
 use lib.ListN.{length}
 use lib.Seq.{sets}
-use borrow.Author.Tests.{ltb-true, ne-eqb}
+use borrow.Author.Tests.{ltb-true}
 use Rattle.range.specs.First.{orElse, first}
 use Rattle.range.specs.Reply.{replyOf}
 use Rattle.range.proofs.Faults.{or-same, first-same}
@@ -19,8 +19,9 @@ use Rattle.plan_theory.proofs.Plan.{at-end}
 use Rattle.table.specs.Same.{Same}
 use Rattle.table.specs.Slices.{Slices, tableOf, slicesFault}
 use Rattle.probe_frame.specs.Frame.{Frame, frameOf, frameFault}
-use Rattle.probe_record.specs.Record.{byteFault, recordFault}
+use Rattle.probe_record.specs.Record.{fresh, byteFault, recordFault}
 use Rattle.wake_log.specs.declared.Entry.{Entry}
+use Rattle.wake_log.specs.declared.What.the-variants.{Restarted}
 use Rattle.wake_log.specs.declared.Answer.{Answer}
 use Rattle.wake_log.specs.declared.Answer.the-variants.{Logged}
 use Rattle.wake_log.specs.Entry.{answerOf}
@@ -32,7 +33,7 @@ use Rattle.probe_rules.specs.Rules.{befalls, alter, entryOf, sendable, rests}
 use Rattle.probe_rules.specs.Frames.{numberFault, heardOf}
 use Rattle.probe_rules.specs.Within.{EventWithin, OwnLink}
 use Rattle.probe_rules.proofs.OutcomeLaws.{befalls-within}
-use Rattle.probe_checks.specs.Checks.{frameKindFault, toFault, probeFault, ownLinkFault, untriedFault, fullFault, heardFault, hearFault, openFault, linkCallFault}
+use Rattle.probe_checks.specs.Checks.{frameKindFault, toFault, probeFault, ownLinkFault, fullFault, heardFault, hearFault, openFault, linkCallFault}
 use Rattle.probe.specs.declared.Kind.{Kind}
 use Rattle.probe.specs.declared.Asked.{Asked}
 use Rattle.probe.specs.declared.Asked.the-variants.{Written}
@@ -40,9 +41,10 @@ use Rattle.probe.specs.declared.Resting.{Resting}
 use Rattle.probe.specs.declared.Resting.the-variants.{Rests}
 use Rattle.probe.proofs.Answers.{befallen-answer, resting-is}
 use Rattle.probe.specs.Answers.{Befallen, Asks, Opens, Hears, AsksFor, askFault, askedEvent, askedFrame, askedLine, restingReply, whetherRests}
-use Rattle.fleet_theory.specs.Fleet.{own, eventLineFault, eventOf, State, start, faultOf, answerTo, next, run}
-use Rattle.fleet_theory.specs.Words.{IsFrame, MaySend, endRests}
+use Rattle.fleet_theory.specs.Fleet.{own, marks, eventLineFault, eventOf, State, start, faultOf, answerTo, next, run}
+use Rattle.fleet_theory.specs.Words.{IsFrame, MaySend, endRests, IsRestart}
 use Rattle.fleet_theory.specs.Ends.{SameAlone, EndsAlone}
+use Rattle.fleet_theory.proofs.Lines.{not-of-one-probe}
 use Rattle.fleet_theory.proofs.Ends.{ends-alone}
 use Rattle.fleet_theory.proofs.Run.{slices-legal}
 use Rattle.fleet.proofs.Checks.{line-to, line-within}
@@ -76,7 +78,7 @@ module _ (t u : Table) (same : Same t u) (p : ℕ) (l : p < t .probes) (e : List
   unfolding hearFault heardFault
   same-hear n m line free is =
       or-same is (or-same same-record
-      (or-same (ap (orElse (frameFault line)) (ap (orElse (frameKindFault f)) (or-same number ends))) (ap (λ (k : ℕ). orElse k (fullFault free)) untried)))
+      (ap (λ (k : ℕ). orElse k (fullFault free)) (ap (orElse (frameFault line)) (ap (orElse (frameKindFault f)) (or-same number ends)))))
     where
       f : Frame
       f = frameOf line
@@ -86,9 +88,6 @@ module _ (t u : Table) (same : Same t u) (p : ℕ) (l : p < t .probes) (e : List
 
       ends : toFault t p f ≡ toFault u p f
       ends = rw (same-between t u same (f .from) (f .to), same .links)
-
-      untried : untriedFault (heardOf t f) e ≡ untriedFault (heardOf u f) e
-      untried = ap (λ (v : Event). untriedFault v e) (same-heard t u same f)
 
   same-link-call : (n m i : ℕ) → n ≡ m → linkCallFault n t p e i ≡ linkCallFault m u p e i
   unfolding linkCallFault
@@ -212,15 +211,24 @@ module _ (x : Slices) (fine : slicesFault x ≡ 0) (log : List Entry) where
           in-line = line-within u l (same-line u t (same .same) l ∙ line)
 
           within : IsFrame f → EventWithin (u .links) (heardOf u f)
-          within (inl one) = rw (ne-eqb (f .kind) 0 (λ z. omega arith)) at in-line
-          within (inr two) = rw (ne-eqb (f .kind) 0 (λ z. omega arith)) at in-line
+          within frame = rw (not-of-one-probe f frame) at in-line
 
     others : (q : ℕ) → (q ≡ p → ⊥) → own t q (c .bytes) ≡ own t q (left .bytes)
-    others q differs = ap (own t q) (stepped .1 .bytes) ∙ go (alone .opens-or-hears (loggedLines before) [] l refl none) ∙ ap (own t q) (sym (follows .bytes))
+    others q differs = ap (own t q) (stepped .1 .bytes) ∙ go (alone .opens-hears-or-restarts (loggedLines before) [] l refl none) ∙ ap (own t q) (sym (follows .bytes))
       where
-        go : (f .kind ≡ 0) ⊎ IsFrame f → own t q (next x room s l .bytes) ≡ own t q (s .bytes)
+        go : (f .kind ≡ 0) ⊎ (IsFrame f ⊎ IsRestart t l) → own t q (next x room s l .bytes) ≡ own t q (s .bytes)
         go (inl kind) = alone .opens-alone (loggedLines before) [] l refl none kind 1 (omega arith) .others-same q differs
-        go (inr frame) = alone .hears-alone (loggedLines before) [] l refl none frame 1 (omega arith) .others-same q differs
+        go (inr (inl frame)) = alone .hears-alone (loggedLines before) [] l refl none frame 1 (omega arith) .others-same q differs
+        go (inr (inr restart)) = alone .restarts-fresh (loggedLines before) [] l refl none restart .others-same q differs
+
+    restarted : IsRestart t l
+        → (c .answer ≡ Logged (record { probe = p; what = Restarted })) × (own t p (c .bytes) ≡ fresh t) × ((q : ℕ) → marks t q (c .bytes) ≡ marks t q (left .bytes))
+    restarted restart =
+        let h = alone .restarts-fresh (loggedLines before) [] l refl none restart in (
+          stepped .0 ∙ h .logged,
+          ap (own t p) (stepped .1 .bytes) ∙ h .own-fresh,
+          λ q. ap (marks t q) (stepped .1 .bytes) ∙ h .marks-stay q ∙ ap (marks t q) (sym (follows .bytes)),
+        )
 
   -- an own link's end is a probe
   own-below : (y : Slices) → SameTable y x → (p i : ℕ) → OwnLink t p i → p < tableOf y .probes
@@ -262,6 +270,7 @@ module _ (x : Slices) (fine : slicesFault x ≡ 0) (log : List Entry) where
         opens-alone = λ before later c here kind y same free some a own′. opens-same before later c (rw (here .place) at k) (here .entry) (here .logged) y same free some a own′ kind;
         hears-alone = λ before later c here frame y same free some a own′. hears-same before later c (rw (here .place) at k) (here .entry) (here .logged) y same free some a own′ frame;
         others-same = λ before later c here. others before later c (rw (here .place) at k) (here .entry) (here .logged);
+        restarts-fresh = λ before later c here. restarted before later c (rw (here .place) at k) (here .entry) (here .logged);
         asked-writes = λ before later is. asked-same before (calls-before x (freshLogged x log) before later (rw is at k));
         rests-alone = λ before later is. rests-same before (calls-before x (freshLogged x log) before later (rw is at k));
       }

@@ -1,7 +1,7 @@
 -- What the promises of a fleet's calls take from the slices: that no check of the table turns them down, and the table's own entries.
 -- Entry and bytes are equal only where the fault is 0: then the line has passed its checks, so its probe and its link are the table's.
 use Prim.Native.Nat.{ℕ}
-use mathlib.Core.Path.{_≡_, refl, sym, _∙_, ap}
+use mathlib.Core.Path.{_≡_, refl, sym, _∙_, ap, ap₂}
 use mathlib.Core.Bool.{Bool, true, false, cond}
 use mathlib.Core.List.{List}
 use lib.Dec.{ltb, eqb}
@@ -17,13 +17,14 @@ use Rattle.table.proofs.Same.{same-fault}
 use Rattle.probe_frame.specs.Frame.{Frame, frameOf}
 use Rattle.wake_log.specs.declared.Entry.{Entry}
 use Rattle.wake_log.specs.declared.Answer.{Answer}
+use Rattle.wake_log.specs.declared.What.the-variants.{Restarted}
 use Rattle.wake_log.specs.Entry.{answerOf}
 use Rattle.probe_rules.specs.declared.Event.{Event}
 use Rattle.probe_rules.specs.declared.Outcome.{Outcome}
 use Rattle.probe_rules.specs.Rules.{befalls, entryOf}
 use Rattle.probe_rules.specs.Within.{Within}
 use Rattle.probe_rules.proofs.OutcomeLaws.{befalls-within}
-use Rattle.fleet_theory.specs.Fleet.{own, eventLineFault, eventOf, eventFault, outcomeOf, alterFleet, alteredBy}
+use Rattle.fleet_theory.specs.Fleet.{own, restarts, eventLineFault, eventOf, eventFault, outcomeOf, alterFleet, alteredBy, entryBy}
 use Rattle.fleet_theory.proofs.Run.{slices-legal}
 use Rattle.fleet.specs.Answers.{Handled}
 use Rattle.fleet.proofs.Calls.{handled-answer, handled-is}
@@ -31,7 +32,7 @@ use Rattle.fleet.proofs.Checks.{line-to, line-within}
 use Rattle.fleet.proofs.Passing.{passed-line}
 use Rattle.fleet_log.specs.Logged.{LogsInFleet}
 use Rattle.fleet_calls.specs.Calls.{SameTable}
-use Rattle.fleet_calls.proofs.Same.{same-own, same-fleet, same-event, same-line, same-unsent, same-befalls, same-entry, same-alter}
+use Rattle.fleet_calls.proofs.Same.{same-own, same-fleet, same-event, same-line, same-unsent, same-befalls, same-entry, same-alter, same-wiped}
 
 -- a legal table's slices that 8 lets pass have no fault
 pub same-fine : (x y : Slices) → slicesFault x ≡ 0 → SameTable y x → slicesFault y ≡ 0
@@ -92,18 +93,21 @@ module _ (x y : Slices) (same : Same (tableOf x) (tableOf y)) (fine : slicesFaul
       within : Within (t .links) (outcomeOf t r f)
       within = befalls-within t (f .to) (eventOf t f) (own t (f .to) r) (line-within t l line)
 
-      entries-same : entryOf t (f .to) (outcomeOf t r f) ≡ entryOf u (f .to) (outcomeOf u r f)
-      entries-same = same-entry t u same (f .to) (outcomeOf t r f) within ∙ ap (entryOf u (f .to)) same-outcome
+      entries-same : entryBy t r f ≡ entryBy u r f
+      entries-same =
+          ap (cond (restarts f) (record { probe = f .to; what = Restarted })) (same-entry t u same (f .to) (outcomeOf t r f) within ∙ ap (entryOf u (f .to)) same-outcome)
 
       bytes-same : alteredBy t r f ≡ alteredBy u r f
-      bytes-same = same-alter t u same (f .to) (outcomeOf t r f) within r ∙ ap (λ (o : Outcome). alterFleet u (f .to) o r) same-outcome
+      bytes-same =
+          ap₂ (cond (restarts f)) (same-wiped t u same (f .to) r)
+          (same-alter t u same (f .to) (outcomeOf t r f) within r ∙ ap (λ (o : Outcome). alterFleet u (f .to) o r) same-outcome)
 
     abbrev fault : Slices → ℕ
     fault z = eventFault z r used room l
 
     -- the answer, and the record after it
-    pub same-answer : answerOf (fault x) (entryOf t (f .to) (outcomeOf t r f)) ≡ answerOf (fault y) (entryOf u (f .to) (outcomeOf u r f))
-    same-answer = answer-same (fault x) (fault y) (entryOf t (f .to) (outcomeOf t r f)) (entryOf u (f .to) (outcomeOf u r f)) same-event-fault entries-same
+    pub same-answer : answerOf (fault x) (entryBy t r f) ≡ answerOf (fault y) (entryBy u r f)
+    same-answer = answer-same (fault x) (fault y) (entryBy t r f) (entryBy u r f) same-event-fault entries-same
 
     pub same-record-after : cond (eqb (fault x) 0) (alteredBy t r f) r ≡ cond (eqb (fault y) 0) (alteredBy u r f) r
     same-record-after = where-none (fault x) (fault y) (alteredBy t r f) (alteredBy u r f) r same-event-fault bytes-same
@@ -117,6 +121,6 @@ module _ (x y : Slices) (same : Same (tableOf x) (tableOf y)) (fine : slicesFaul
         handled = handled-same used (length log) l r a r′ (h .handled);
         log-after = h .log-after
             ∙ where-none (eventFault x r used (length log) l) (eventFault y r used (length log) l)
-            (set log used (entryOf t (frameOf l .to) (outcomeOf t r (frameOf l)))) (set log used (entryOf u (frameOf l .to) (outcomeOf u r (frameOf l)))) log
+            (set log used (entryBy t r (frameOf l))) (set log used (entryBy u r (frameOf l))) log
             (same-event-fault used (length log) l r) (λ none. ap (set log used) (entries-same used (length log) l r none));
       }

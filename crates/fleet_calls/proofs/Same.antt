@@ -1,5 +1,5 @@
 -- What a fleet's calls take from a table: its own entries alone. Two tables that agree on these (`Same`) have the same own bytes, checks, outcomes, entries and finish.
-use Prim.Native.Nat.{ℕ, _*_, _<_}
+use Prim.Native.Nat.{ℕ, _+_, _*_, _<_}
 use mathlib.Core.Path.{_≡_, refl, _∙_, ap}
 use mathlib.Core.Bool.{Bool, true, false, cond, _&&_, _||_}
 use mathlib.Core.List.{List}
@@ -13,7 +13,7 @@ use Rattle.range.specs.Choice.{lowest, best}
 use Rattle.range.proofs.Sums.{weigh-same}
 use Rattle.range.proofs.Faults.{or-same, first-same}
 use Rattle.range.proofs.Lists.{joined-same}
-use Rattle.table.specs.Table.{Table, item, spare, dearer, cheaper, joins, between}
+use Rattle.table.specs.Table.{Table, spare, dearer, cheaper, joins, between}
 use Rattle.table.specs.Same.{Same}
 use Rattle.plan_theory.proofs.Same.{dearer-same, same-degree}
 use Rattle.probe_frame.specs.Frame.{Frame, frameOf, frameFault}
@@ -25,7 +25,8 @@ use Rattle.probe_rules.specs.declared.Outcome.the-variants.{Opened, Enough, Tak
 use Rattle.probe_rules.specs.Rules.{befalls, entryOf}
 use Rattle.probe_rules.specs.Frames.{numberFault, heardOf}
 use Rattle.probe_rules.specs.Within.{EventWithin, Within}
-use Rattle.fleet_theory.specs.Fleet.{ownPair, own, fleetFault, eventKindFault, eventEndsFault, eventLineFault, eventOf, unsentFault, alterFleet, wouldOpen, alters, finished}
+use Rattle.fleet_theory.specs.Fleet.{outAt, inAt, pairAt, own, marks, linkBytesFault, fleetFault, ofOneProbe, eventKindFault, eventEndsFault, eventLineFault, eventOf, unsentFault, alterFleet, wipedTo, wiped, wouldOpen, alters, finished}
+use Rattle.fleet_theory.proofs.Wipe.{wiped-by-ends}
 use Rattle.fleet_calls.proofs.Choice.{lowest-of-same, best-of-same}
 
 -- a test that counts only where another passes
@@ -37,10 +38,21 @@ both-same : {a b c d : Bool} → a ≡ b → c ≡ d → (a && c) ≡ (b && d)
 both-same e f = rw (e, f)
 
 module _ (t u : Table) (e : Same t u) where
+  -- an end's own bytes, and their marks
+  same-pairs : (p : ℕ) (r : List ℕ) (out out′ into into′ : ℕ → ℕ) → ((i : ℕ) → i < t .links → out i ≡ out′ i) → ((i : ℕ) → i < t .links → into i ≡ into′ i)
+      → joined (pairAt t p out into r) (t .links) ≡ joined (pairAt u p out′ into′ r) (u .links)
+  same-pairs p r out out′ into into′ outs ins =
+      joined-same (pairAt t p out into r) (pairAt u p out′ into′ r) (t .links) (λ i l. rw (outs i l, ins i l, e .low i l, e .high i l))
+      ∙ ap (λ (n : ℕ). joined (pairAt u p out′ into′ r) n) (e .links)
+
   pub same-own : (p : ℕ) (r : List ℕ) → own t p r ≡ own u p r
   unfolding own
-  same-own p r =
-      joined-same (ownPair t p r) (ownPair u p r) (t .links) (λ i l. rw (e .low i l, e .high i l)) ∙ ap (λ (n : ℕ). joined (ownPair u p r) n) (e .links)
+  same-own p r = same-pairs p r (outAt t p) (outAt u p) (inAt t p) (inAt u p) (λ i l. rw (e .low i l)) (λ i l. rw (e .low i l))
+
+  same-marks : (p : ℕ) (r : List ℕ) → marks t p r ≡ marks u p r
+  unfolding marks
+  same-marks p r =
+      same-pairs p r (λ i. outAt t p i + 4) (λ i. outAt u p i + 4) (λ i. inAt t p i + 4) (λ i. inAt u p i + 4) (λ i l. rw (e .low i l)) (λ i l. rw (e .low i l))
 
   same-spare : (v : ℕ) → v < t .probes → spare t v ≡ spare u v
   same-spare v l = rw (same-degree t u e v, e .need v l)
@@ -81,10 +93,10 @@ module _ (t u : Table) (e : Same t u) where
   pub same-fleet : (r : List ℕ) → fleetFault t r ≡ fleetFault u r
   same-fleet r = or-same size (or-same bytes spares)
     where
-      size : _≡_ {A = ℕ} (cond (eqb (length r) (4 * t .links)) 0 20) (cond (eqb (length r) (4 * u .links)) 0 20)
+      size : _≡_ {A = ℕ} (cond (eqb (length r) (8 * t .links)) 0 20) (cond (eqb (length r) (8 * u .links)) 0 20)
       size = rw (e .links)
 
-      bytes : first (λ j. cond (ltb 2 (item r j)) 21 0) (4 * t .links) ≡ first (λ j. cond (ltb 2 (item r j)) 21 0) (4 * u .links)
+      bytes : first (linkBytesFault r) (t .links) ≡ first (linkBytesFault r) (u .links)
       bytes = rw (e .links)
 
       spares : first (λ p. spareFault t p (own t p r)) (t .probes) ≡ first (λ p. spareFault u p (own u p r)) (u .probes)
@@ -102,7 +114,7 @@ module _ (t u : Table) (e : Same t u) where
   same-heard f = ap (λ (i : ℕ). cond (eqb (f .kind) 1) (Offer i) (Refusal i)) (same-between (f .from) (f .to))
 
   pub same-event : (f : Frame) → eventOf t f ≡ eventOf u f
-  same-event f = ap (λ (v : Event). cond (eqb (f .kind) 0) Opening v) (same-heard f)
+  same-event f = ap (λ (v : Event). cond (ofOneProbe (f .kind)) Opening v) (same-heard f)
 
   pub same-line : (l : List ℕ) → eventLineFault t l ≡ eventLineFault u l
   same-line l =
@@ -118,8 +130,8 @@ module _ (t u : Table) (e : Same t u) where
       ends : eventEndsFault t f ≡ eventEndsFault u f
       ends = rw (same-between (f .from) (f .to), e .links, e .probes)
 
-  pub same-unsent : (f : Frame) (r : List ℕ) → unsentFault (eventOf t f) (own t (f .from) r) ≡ unsentFault (eventOf u f) (own u (f .from) r)
-  same-unsent f r = ap (λ (v : Event). unsentFault v (own t (f .from) r)) (same-event f) ∙ ap (unsentFault (eventOf u f)) (same-own (f .from) r)
+  pub same-unsent : (f : Frame) (r : List ℕ) → unsentFault (eventOf t f) (marks t (f .from) r) ≡ unsentFault (eventOf u f) (marks u (f .from) r)
+  same-unsent f r = ap (λ (v : Event). unsentFault v (marks t (f .from) r)) (same-event f) ∙ ap (unsentFault (eventOf u f)) (same-marks (f .from) r)
 
   -- what befalls a probe of the table
   same-displaces : (i c : ℕ) → i < t .links → (ltb c (t .links) && dearer t i c) ≡ (ltb c (u .links) && dearer u i c)
@@ -152,6 +164,10 @@ module _ (t u : Table) (e : Same t u) where
   same-alter p (RefusalLearnt i) w r = rw (e .low i w)
   same-alter p (NoChange i) w r = refl
   same-alter p AllTried w r = refl
+
+  -- a restart
+  pub same-wiped : (p : ℕ) (r : List ℕ) → wiped t p r ≡ wiped u p r
+  same-wiped p r = wiped-by-ends t u p (t .links) (e .low) (e .high) r ∙ ap (λ (n : ℕ). wipedTo u p n r) (e .links)
 
   pub same-finished : (r : List ℕ) → finished t r ≡ finished u r
   unfolding finished

@@ -1,4 +1,4 @@
--- Beside demand 3: the ends called alone, each on its own bytes of the fleet's record, in slices of the table of its own. The sentences are those of document 01, "The ends and their frames".
+-- Beside demand 3: the ends called alone, each on its own bytes of the fleet's record, in slices of the table of its own. The sentences are those of document 01, "The ends and their frames", and of 02, No. 2.
 use Prim.Native.Nat.{ℕ, _≤_, _<_}
 use mathlib.Core.Path.{_≡_}
 use mathlib.Core.Logic.{_↔_}
@@ -8,7 +8,9 @@ use lib.Seq.{sets}
 use Rattle.table.specs.Table.{Table}
 use Rattle.table.specs.Slices.{Slices, tableOf}
 use Rattle.probe_frame.specs.Frame.{frameOf}
+use Rattle.probe_record.specs.Record.{fresh}
 use Rattle.wake_log.specs.declared.Entry.{Entry}
+use Rattle.wake_log.specs.declared.What.the-variants.{Restarted}
 use Rattle.wake_log.specs.declared.Answer.{Answer}
 use Rattle.wake_log.specs.declared.Answer.the-variants.{Logged}
 use Rattle.probe_rules.specs.Within.{OwnLink}
@@ -18,8 +20,8 @@ use Rattle.probe.specs.declared.Asked.the-variants.{Written}
 use Rattle.probe.specs.declared.Resting.{Resting}
 use Rattle.probe.specs.declared.Resting.the-variants.{Rests}
 use Rattle.probe.specs.Answers.{Opens, Hears, AsksFor, askedFrame, askedLine, restingReply, whetherRests}
-use Rattle.fleet_theory.specs.Fleet.{own}
-use Rattle.fleet_theory.specs.Words.{IsFrame, MaySend, endRests}
+use Rattle.fleet_theory.specs.Fleet.{own, marks}
+use Rattle.fleet_theory.specs.Words.{IsFrame, MaySend, endRests, IsRestart}
 use Rattle.fleet_calls.specs.Calls.{SameTable, LoggedCall, freshLogged, leftAfterLogged}
 
 module _ (x : Slices) (log : List Entry) (cs : List LoggedCall) where
@@ -54,6 +56,10 @@ module _ (x : Slices) (log : List Entry) (cs : List LoggedCall) where
     -- and no byte of another end is altered
     pub others-same : (before later : List LoggedCall) (c : LoggedCall) → AcceptedAt before later c
         → (p : ℕ) → (p ≡ frameOf (c .line) .to → ⊥) → own t p (c .bytes) ≡ ownAt before p
+    -- 02, No. 2: a restart "makes that probe fresh", "is logged as 08, without a link", and "leaves" the marks
+    pub restarts-fresh : (before later : List LoggedCall) (c : LoggedCall) → AcceptedAt before later c → IsRestart t (c .line)
+        → (let p = frameOf (c .line) .to in
+        (c .answer ≡ Logged (record { probe = p; what = Restarted })) × (own t p (c .bytes) ≡ fresh t) × ((q : ℕ) → marks t q (c .bytes) ≡ marks t q (bytesAt before)))
     -- "at any moment of such a list, asked alone on its own bytes with room for the line, it writes the frame exactly when that frame may then be sent"
     pub asked-writes : (before later : List LoggedCall) → cs ≡ before ++ later → (k : Kind) (p i : ℕ) → OwnLink t p i
         → (y : Slices) → SameTable y x → (out : List ℕ) → 15 ≤ length out → (r : Asked) (out′ : List ℕ) → AsksFor y p k i (ownAt before p) r out out′

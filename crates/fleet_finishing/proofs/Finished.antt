@@ -62,7 +62,7 @@ module _ (better : ℕ → ℕ → Bool) (p : ℕ → Bool) (n₀ : ℕ) where
 
 -- a frame that may be sent on the link i would alter a byte, by its four bytes
 abbrev pub altersOf : List ℕ → ℕ → Bool
-altersOf r i = mayAlter (item r (4 * i)) (item r (4 * i + 1)) || mayAlter (item r (4 * i + 2)) (item r (4 * i + 3))
+altersOf r i = mayAlter (item r (8 * i)) (item r (8 * i + 1)) || mayAlter (item r (8 * i + 2)) (item r (8 * i + 3))
 
 module _ (t : Table) (r : List ℕ) where
   -- an opening of v would open a link, by its counts

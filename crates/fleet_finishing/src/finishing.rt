@@ -26,16 +26,16 @@ fn may_alter(out: u8, into: u8) -> bool
 
 // Whether no frame that may be sent would alter a byte.
 fn none_alters(rec: &[u8], links: usize) -> bool
-    requires { ⌜ 4 * links ≤ length (now rec) ⌝ }
+    requires { ⌜ 8 * links ≤ length (now rec) ⌝ }
     ensures { λ r. let byte = item (now (rec .entry)) in
-        ⌜ r ≡ eqb (count links (λ i. mayAlter (byte (4 * i)) (byte (4 * i + 1)) || mayAlter (byte (4 * i + 2)) (byte (4 * i + 3)))) 0 ⌝ }
+        ⌜ r ≡ eqb (count links (λ i. mayAlter (byte (8 * i)) (byte (8 * i + 1)) || mayAlter (byte (8 * i + 2)) (byte (8 * i + 3)))) 0 ⌝ }
 {
     let mut i = 0;
     while i < links {
-        if may_alter(rec[4 * i], rec[4 * i + 1]) {
+        if may_alter(rec[8 * i], rec[8 * i + 1]) {
             return false;
         }
-        if may_alter(rec[4 * i + 2], rec[4 * i + 3]) {
+        if may_alter(rec[8 * i + 2], rec[8 * i + 3]) {
             return false;
         }
         i += 1;
@@ -79,7 +79,7 @@ pub fn is_finished(
     highs: &[u16],
     rec: &[u8],
 ) -> bool
-    requires { ⌜ LegalWithoutCosts probes links (now needs) (now lows) (now highs) × (4 * links ≤ length (now rec))
+    requires { ⌜ LegalWithoutCosts probes links (now needs) (now lows) (now highs) × (8 * links ≤ length (now rec))
         × (probes ≤ length (now degrees)) × Degrees (ofSlices 0 probes links (now needs) (now lows) (now highs) []) (now degrees) ⌝ }
     ensures { λ r. ⌜ ((number : ℕ) (costs : List ℕ) → r ≡ finished (ofSlices number probes links (now (needs .entry)) (now (lows .entry)) (now (highs .entry)) costs) (now (rec .entry))) ⌝ }
 {

@@ -27,7 +27,7 @@ fn one_if(byte: u8) -> usize
 
 // The end's byte on the link k: with value 0 the outbound byte, with value 1 the inbound one.
 fn side_byte(value: u8, rec: &[u8], lows: &[u16], highs: &[u16], probe: usize, k: usize) -> u8
-    requires { ⌜ (k < length (now lows)) × (k < length (now highs)) × (k < 65536) × (4 * k + 3 < length (now rec)) ⌝ }
+    requires { ⌜ (k < length (now lows)) × (k < length (now highs)) × (k < 65536) × (8 * k + 7 < length (now rec)) ⌝ }
     ensures { λ r. ⌜ ((links : ℕ) → k < links
         → r ≡ sideByte value (own (ofSlices 0 0 links [] (now (lows .entry)) (now (highs .entry)) []) probe (now (rec .entry))) k) ⌝ }
 {
@@ -62,7 +62,7 @@ fn survey(
     costs: &[u16],
     probe: usize,
 ) -> Survey
-    requires { ⌜ OrderedLinks links (now lows) (now highs) (now costs) × (length (now rec) ≡ 4 * links) ⌝ }
+    requires { ⌜ OrderedLinks links (now lows) (now highs) (now costs) × (length (now rec) ≡ 8 * links) ⌝ }
     ensures { λ r. let t = ofSlices 0 0 links [] (now (lows .entry)) (now (highs .entry)) (now (costs .entry)) in
         ⌜ Surveyed t probe (sideByte value (own t probe (now (rec .entry)))) (sideBetter value t) value links r ⌝ }
 {
@@ -92,7 +92,7 @@ fn decide_opening(
     costs: &[u16],
     probe: usize,
 ) -> Outcome
-    requires { ⌜ OrderedLinks links (now lows) (now highs) (now costs) × (length (now rec) ≡ 4 * links)
+    requires { ⌜ OrderedLinks links (now lows) (now highs) (now costs) × (length (now rec) ≡ 8 * links)
         × (probe < length (now degrees)) × Degrees (ofSlices 0 0 links [] (now lows) (now highs) []) (now degrees) ⌝ }
     ensures { λ r. let t = ofSlices 0 0 links (now (needs .entry)) (now (lows .entry)) (now (highs .entry)) (now (costs .entry)) in
         ⌜ r ≡ opening t probe (own t probe (now (rec .entry))) ⌝ }
@@ -118,7 +118,7 @@ fn decide_offer(
     probe: usize,
     i: usize,
 ) -> Outcome
-    requires { ⌜ OrderedLinks links (now lows) (now highs) (now costs) × (length (now rec) ≡ 4 * links) × (i < links)
+    requires { ⌜ OrderedLinks links (now lows) (now highs) (now costs) × (length (now rec) ≡ 8 * links) × (i < links)
         × (probe < length (now degrees)) × Degrees (ofSlices 0 0 links [] (now lows) (now highs) []) (now degrees) ⌝ }
     ensures { λ r. let t = ofSlices 0 0 links (now (needs .entry)) (now (lows .entry)) (now (highs .entry)) (now (costs .entry)) in
         ⌜ r ≡ offer t probe (own t probe (now (rec .entry))) i ⌝ }
@@ -149,7 +149,7 @@ pub fn decide(
     costs: &[u16],
     probe: usize,
 ) -> Outcome
-    requires { ⌜ OrderedLinks links (now lows) (now highs) (now costs) × (length (now rec) ≡ 4 * links) × EventWithin links event
+    requires { ⌜ OrderedLinks links (now lows) (now highs) (now costs) × (length (now rec) ≡ 8 * links) × EventWithin links event
         × (probe < length (now degrees)) × Degrees (ofSlices 0 0 links [] (now lows) (now highs) []) (now degrees) ⌝ }
     ensures { λ r. let t = ofSlices 0 0 links (now (needs .entry)) (now (lows .entry)) (now (highs .entry)) (now (costs .entry)) in
         ⌜ r ≡ befalls t probe event (own t probe (now (rec .entry))) ⌝ }

@@ -66,11 +66,11 @@ module _ (low high : ℕ → ℕ) (r : List ℕ) (k m value : ℕ) where
 
   -- after the ends l and h of the link i are counted
   pub counted-next : (i l h : ℕ) (d e f : List ℕ) → l ≡ low i → h ≡ high i → low i < length d → high i < length d → low i < high i
-      → e ≡ more d l (cond (eqb (item r (4 * i + k)) value) 1 0) → f ≡ more e h (cond (eqb (item r (4 * i + m)) value) 1 0)
+      → e ≡ more d l (cond (eqb (item r (8 * i + k)) value) 1 0) → f ≡ more e h (cond (eqb (item r (8 * i + m)) value) 1 0)
       → (v : ℕ) → getD d v 0 ≡ countedAt i v → getD f v 0 ≡ countedAt (i + 1) v
   counted-next i l h d e f el eh in-low in-high rises one two v was =
-      let a = eqb (item r (4 * i + k)) value in
-      let b = eqb (item r (4 * i + m)) value in
+      let a = eqb (item r (8 * i + k)) value in
+      let b = eqb (item r (8 * i + m)) value in
       let s = ends-more d (low i) (high i) (cond a 1 0) (cond b 1 0) in-low in-high rises v in
       let u = end-bits v (low i) (high i) a b rises in
       let w = weigh-next i (endWith low high r k m value v) (λ j. 1) in
@@ -82,7 +82,7 @@ module _ (t : Table) (r : List ℕ) (value v i : ℕ) (l : i < t .links) where
   out-counted = go (ℕ-discrete v (t .low i)) (ℕ-discrete v (t .high i))
     where
       go : Dec (v ≡ t .low i) → Dec (v ≡ t .high i) → endWith (t .low) (t .high) r 0 2 value v i ≡ ownWith t v (outbound (own t v r)) value i
-      go (yes a) d = rw (out-is t v r i l, eq-eqb v (t .low i) a, add-zero (4 * i))
+      go (yes a) d = rw (out-is t v r i l, eq-eqb v (t .low i) a, add-zero (8 * i))
       go (no a) (yes b) = rw (out-is t v r i l, ne-eqb v (t .low i) a, eq-eqb v (t .high i) b)
       go (no a) (no b) = rw (ne-eqb v (t .low i) a, ne-eqb v (t .high i) b)
 

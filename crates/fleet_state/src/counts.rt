@@ -30,7 +30,7 @@ pub fn count_bytes(
     m: usize,
     value: u8,
 )
-    requires { ⌜ (links ≤ length (now lows)) × (links ≤ length (now highs)) × (links ≤ 65535) × (4 * links ≤ length (now rec)) × (k ≤ 3) × (m ≤ 3)
+    requires { ⌜ (links ≤ length (now lows)) × (links ≤ length (now highs)) × (links ≤ 65535) × (8 * links ≤ length (now rec)) × (k ≤ 3) × (m ≤ 3)
         × ((i : ℕ) → i < links → Ends (length (now counts)) (item (now lows) i) (item (now highs) i))
         × ((v : ℕ) → getD (now counts) v 0 ≡ 0) ⌝ }
     ensures { λ _. ⌜ ((v : ℕ) → getD (now (counts .exit)) v 0 ≡ count links (endWith (item (now (lows .entry))) (item (now (highs .entry))) (now (rec .entry)) k m value v)) ⌝ }
@@ -39,8 +39,8 @@ pub fn count_bytes(
     while i < links {
         let low = table::numbers::wide(lows[i]);
         let high = table::numbers::wide(highs[i]);
-        add_if(counts, low, rec[4 * i + k], value);
-        add_if(counts, high, rec[4 * i + m], value);
+        add_if(counts, low, rec[8 * i + k], value);
+        add_if(counts, high, rec[8 * i + m], value);
         i += 1;
     }
 }

@@ -14,18 +14,29 @@ use Rattle.probe_rules.specs.declared.Outcome.the-variants.{Opened, Taken, Take
 use Rattle.probe_rules.specs.Rules.{befalls}
 use Rattle.probe_rules.specs.Within.{OwnEvent, OwnOutcome}
 use Rattle.probe_rules.proofs.Befalls.{Befell, opened, enough, all-tried, taken, displacing, refused, seen, learnt, known, befell, befell-own, own-within}
-use Rattle.fleet_theory.proofs.EndState.{Step, idle, opens, takes, displaces, refuses, learns, Sent, Denied}
+use Rattle.fleet_theory.proofs.EndState.{Step, idle, opens, takes, displaces, refuses, learns}
 use Rattle.fleet_theory.specs.Fleet.{own, alterFleet}
-use Rattle.fleet_theory.proofs.Own.{outOf, inOf}
+use Rattle.fleet_theory.proofs.Own.{outOf, inOf, outMark, inMark}
 use Rattle.fleet_theory.proofs.Bytes.{altered-out, altered-in}
+
+-- by the marks: the offer of p on i could be sent so far, and the refusal of that offer
+abbrev pub OfferMarked : Table → List ℕ → ℕ → ℕ → Type 0
+OfferMarked t r p i = outMark t r p i ≡ 1
+
+abbrev pub RefusalMarked : Table → List ℕ → ℕ → ℕ → Type 0
+RefusalMarked t r p i = (w : ℕ) × Across t i p w × (inMark t r w i ≡ 1)
+
+-- a step from one record to another
+abbrev pub Steps : Table → List ℕ → List ℕ → Type 0
+Steps t r r′ = Step t (OfferMarked t r) (RefusalMarked t r) (outOf t r) (inOf t r) (outOf t r′) (inOf t r′)
 
 -- an event of the probe p, whose frame could be sent so far
 abbrev pub Came : Table → List ℕ → ℕ → Event → Type 0
 Came t r p Opening = Unit
-Came t r p (Offer i) = (w : ℕ) × (i < t .links) × Across t i w p × (outOf t r w i ≡ 0 → ⊥)
-Came t r p (Refusal i) = (w : ℕ) × (i < t .links) × Across t i w p × (inOf t r w i ≡ 2)
+Came t r p (Offer i) = (w : ℕ) × (i < t .links) × Across t i w p × OfferMarked t r w i
+Came t r p (Refusal i) = (w : ℕ) × (i < t .links) × Across t i w p × (inMark t r w i ≡ 1)
 
-pub came-own : (t : Table) (r : List ℕ) (p : ℕ) (v : Event) → Came t r p v → OwnEvent t p v
+came-own : (t : Table) (r : List ℕ) (p : ℕ) (v : Event) → Came t r p v → OwnEvent t p v
 came-own t r p Opening x = tt
 came-own t r p (Offer i) (w, l, x, f) = (l, near (back x))
 came-own t r p (Refusal i) (w, l, x, f) = (l, near (back x))
@@ -33,13 +44,10 @@ came-own t r p (Refusal i) (w, l, x, f) = (l, near (back x))
 -- an outcome of p on its own links, and a step
 pub record StepBy (t : Table) (r : List ℕ) (p : ℕ) (o : Outcome) : Type 0 where
   pub own-links : OwnOutcome t p o
-  pub step : Step t (Sent (outOf t r)) (Denied t (inOf t r)) (outOf t r) (inOf t r) (outOf t (alterFleet t p o r)) (inOf t (alterFleet t p o r))
+  pub step : Steps t r (alterFleet t p o r)
 
-module _ (t : Table) (r : List ℕ) (long : length r ≡ 4 * t .links) (p : ℕ) where
-  abbrev StepOf : Outcome → Type 0
-  StepOf o = Step t (Sent (outOf t r)) (Denied t (inOf t r)) (outOf t r) (inOf t r) (outOf t (alterFleet t p o r)) (inOf t (alterFleet t p o r))
-
-  befell-step : {v : Event} {o : Outcome} → Befell t p (own t p r) v o → Came t r p v → OwnOutcome t p o → StepOf o
+module _ (t : Table) (r : List ℕ) (long : length r ≡ 8 * t .links) (p : ℕ) where
+  befell-step : {v : Event} {o : Outcome} → Befell t p (own t p r) v o → Came t r p v → OwnOutcome t p o → Steps t r (alterFleet t p o r)
   befell-step (opened i a z m h) x own-links =
       opens p i (a .0) (a .1) z m (λ g l at. h g (l, at)) (altered-out t p r long (Opened i) own-links) (altered-in t p r long (Opened i) own-links)
   befell-step (enough m) x own-links = idle (λ q j. refl) (λ q j. refl)
@@ -56,7 +64,7 @@ module _ (t : Table) (r : List ℕ) (long : length r ≡ 4 * t .links) (p : ℕ)
       learns p i l (near (back x)) (w, back x, f) (altered-out t p r long (RefusalLearnt i) own-links) (altered-in t p r long (RefusalLearnt i) own-links)
   befell-step (known i y) x own-links = idle (λ q j. refl) (λ q j. refl)
 
-pub befalls-step : (t : Table) → Legal t → (r : List ℕ) → length r ≡ 4 * t .links → (p : ℕ) (v : Event) → Came t r p v → StepBy t r p (befalls t p v (own t p r))
+pub befalls-step : (t : Table) → Legal t → (r : List ℕ) → length r ≡ 8 * t .links → (p : ℕ) (v : Event) → Came t r p v → StepBy t r p (befalls t p v (own t p r))
 befalls-step t legal r long p v x =
     let o = came-own t r p v x in
     let b = befell t legal p (own t p r) v (own-within t p v o) in

@@ -1,6 +1,6 @@
--- Laws of the bytes: one byte stored, the ends of a link, counts of the byte 1.
+-- Laws of the bytes: the same bytes, one byte stored, the ends of a link, counts of the byte 1.
 use Prim.Native.Nat.{ℕ, suc, _≤_, _<_}
-use mathlib.Core.Path.{_≡_, refl, sym, _∙_, ap}
+use mathlib.Core.Path.{_≡_, refl, sym, _∙_, ap, subst₂, fun-ext}
 use mathlib.Core.Logic.{_⊎_, inl, inr}
 use mathlib.Core.Bool.{Bool, true, _&&_, and-false}
 use native.Mathlib.Omega.{arith}
@@ -14,6 +14,10 @@ use Rattle.table.specs.Table.{Table, touches, spare}
 use Rattle.table.specs.Legal.{LegalTable}
 use Rattle.plan_theory.specs.Criterion.{Across, up, down}
 use Rattle.fleet_theory.proofs.EndState.{onesAt, store, SameBytes}
+
+-- what holds of bytes holds of the same bytes
+pub same-bytes : (P : (ℕ → ℕ → ℕ) → (ℕ → ℕ → ℕ) → Type 0) (o n o′ n′ : ℕ → ℕ → ℕ) → SameBytes o′ o → SameBytes n′ n → P o n → P o′ n′
+same-bytes P o n o′ n′ so sn = subst₂ P (fun-ext (λ p. fun-ext (λ i. sym (so p i)))) (fun-ext (λ p. fun-ext (λ i. sym (sn p i))))
 
 -- the byte of q on j, where the byte of p on i is stored
 pub data Cell (b b′ : ℕ → ℕ → ℕ) (p i v q j : ℕ) : Type 0 where
@@ -43,6 +47,14 @@ before-store b b′ p i u s q j v d e = go (cell b b′ p i u s q j)
     go : Cell b b′ p i u q j → b q j ≡ v
     go (here x y f) = absurd (d (sym e ∙ f))
     go (there x f) = sym f ∙ e
+
+-- a byte stored as it was
+pub store-same : (b b′ : ℕ → ℕ → ℕ) (p i v : ℕ) → SameBytes b′ (store b p i v) → b p i ≡ v → SameBytes b′ b
+store-same b b′ p i v s was q j = go (cell b b′ p i v s q j)
+  where
+    go : Cell b b′ p i v q j → b′ q j ≡ b q j
+    go (here x y e) = let k : b q j ≡ b p i = rw (x, y) in omega arith
+    go (there d e) = e
 
 -- the byte of q on j, where the byte of p on i becomes 1 and then its byte on c becomes 2
 pub data Swap (b b′ : ℕ → ℕ → ℕ) (p i c q j : ℕ) : Type 0 where

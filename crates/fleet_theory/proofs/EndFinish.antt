@@ -1,4 +1,4 @@
--- The bytes and the plan: at each moment, and when nothing would alter a byte.
+-- The bytes and the plan: at each moment, and at a quiet one.
 use Prim.Native.Nat.{ℕ, zero, suc, _+_, _≤_, _<_}
 use mathlib.Core.Path.{_≡_, sym, _∙_}
 use mathlib.Core.Logic.{_⊎_, inl, inr}
@@ -18,7 +18,7 @@ use Rattle.plan_theory.proofs.Order.{dearer-order}
 use Rattle.plan_theory.proofs.Plan.{plan-criterion, rested-at}
 use Rattle.plan_theory.specs.Criterion.{dearerAt, UnderSpare, Across, up, down}
 use Rattle.plan_theory.proofs.Settled.{near, back, both}
-use Rattle.fleet_theory.proofs.EndState.{FleetInv, Sent, Denied, Good, Quiet, four}
+use Rattle.fleet_theory.proofs.EndState.{FleetInv, Quiet, four}
 use Rattle.table.proofs.LegalLaws.{legal-table}
 use Rattle.fleet_theory.proofs.EndBytes.{far}
 
@@ -31,6 +31,16 @@ module _ (t : Table) (legal : Legal t) (F G : ℕ → ℕ → Type 0) (o n : ℕ
   both-offered i p w l x f g =
       plan-criterion t rises i l .1
       (both (λ v. UnderSpare t (rested t) i v) x (inv .offer-fits p i l (near x) f) (inv .offer-fits w i l (near (back x)) g))
+
+  -- where the offer of one end on a kept link could be sent, the other end has its spare of rested dearer links
+  pub far-full : (i p w : ℕ) → i < t .links → Across t i p w → F p i → rested t i ≡ false → spare t w ≤ dearerAt t (rested t) i w
+  far-full i p w l x f kept = go (decLt (dearerAt t (rested t) i w) (spare t w))
+    where
+      go : Dec (UnderSpare t (rested t) i w) → spare t w ≤ dearerAt t (rested t) i w
+      go (no y) = omega arith
+      go (yes y) =
+          let c = plan-criterion t rises i l .1 (both (λ v. UnderSpare t (rested t) i v) x (inv .offer-fits p i l (near x) f) y) in
+          absurd (true≢false (sym c ∙ kept))
 
   -- an end rests only links that the plan rests
   pub rested-in : (p i : ℕ) → i < t .links → touches t p i ≡ true → o p i ≡ 1 → n p i ≡ 1 → rested t i ≡ true
@@ -56,11 +66,10 @@ module _ (t : Table) (legal : Legal t) (F G : ℕ → ℕ → Type 0) (o n : ℕ
   in-two p i r e = true≢false (sym r ∙ refused-plan p i (inr e))
 
   module _ (quiet : Quiet t o n) where
-    -- where p has not tried a rested link i, it has an offer standing on a dearer link that is kept
-    standing-kept : (p i : ℕ) → i < t .links → rested t i ≡ true → touches t p i ≡ true → o p i ≡ 0
+    -- where p has not tried a link i that would fit its spare, it has an offer standing on a dearer link that is kept
+    standing-kept : (p i : ℕ) → i < t .links → UnderSpare t (rested t) i p → touches t p i ≡ true → o p i ≡ 0
         → (f : ℕ) × (f < t .links) × (touches t p f ≡ true) × (o p f ≡ 1) × (dearer t f i ≡ true) × (rested t f ≡ false)
-    standing-kept p i l r at z =
-        let free = rested-at t rises i p l r at in
+    standing-kept p i l free at z =
         let many = quiet .opened p i l at z in
         let m = member-outside (t .links) (λ g. touches t p g && (dearer t g i && rested t g)) (λ g. touches t p g && eqb (o p g) 1) (omega arith) in
         let f = m .0 in
@@ -83,7 +92,7 @@ module _ (t : Table) (legal : Legal t) (F G : ℕ → ℕ → Type 0) (o n : ℕ
             let n0 : (n w f ≡ 0 → ⊥) = quiet .heard f p w l x e in
             let n2 : (n w f ≡ 2 → ⊥) = λ y. let a = quiet .told f p w l x y in omega arith in
             let held : n w f ≡ 1 = omega arith in
-            let many = full (decLt (dearerAt t (rested t) f w) (spare t w)) in
+            let many = far-full f p w l x (inv .offered p f (λ z. omega arith)) kept in
             let few = inv .holding w in
             let m = other-outside (t .links) (λ g. touches t w g && eqb (n w g) 1) (λ g. touches t w g && (dearer t g f && rested t g)) f (omega arith) l
             (and-intro (near (back x)) (eq-eqb (n w f) 1 held)) (rw (dearer-order t rises .irreflexive f l) (and-false (touches t w f))) in
@@ -105,19 +114,12 @@ module _ (t : Table) (legal : Legal t) (F G : ℕ → ℕ → Type 0) (o n : ℕ
                     let out-one : (o v h ≡ 1 → ⊥) = λ e. quiet .heard h v w lh y e c in
                     (h, v, lh, near y, omega (arith, out-two v h r), d, r)
 
-            full : Dec (UnderSpare t (rested t) f w) → spare t w ≤ dearerAt t (rested t) f w
-            full (no y) = omega arith
-            full (yes y) =
-                let c = plan-criterion t rises f l .1
-                (both (λ v. UnderSpare t (rested t) f v) x (inv .offer-fits p f l at (inv .offered p f (λ z. omega arith))) y) in
-                absurd (true≢false (sym c ∙ kept))
-
     -- no end of a rested link has its offer untried; from the dearest link on, by the places
     tried : (b i : ℕ) → i < t .links → place (t .links) (dearer t) i < b → rested t i ≡ true → (p : ℕ) → touches t p i ≡ true → o p i ≡ 0 → ⊥
     tried zero i l s r p at z = omega arith
     tried (suc b) i l s r p at z =
         let order : Order (t .links) (dearer t) = dearer-order t rises in
-        let (f, lf, af, ef, df, kf) = standing-kept p i l r at z in
+        let (f, lf, af, ef, df, kf) = standing-kept p i l (rested-at t rises i p l r at) at z in
         let (h, v, lh, ah, zh, dh, rh) = untried-rested p f lf af ef kf in
         let less = place-lt (t .links) (dearer t) order h i lh l (order .transitive h f i lh lf l dh df) in
         tried b h lh (omega arith) rh v ah zh
@@ -128,6 +130,22 @@ module _ (t : Table) (legal : Legal t) (F G : ℕ → ℕ → Type 0) (o n : ℕ
         let n0 : (o p i ≡ 0 → ⊥) = tried (suc (place (t .links) (dearer t) i)) i l (omega arith) r p at in
         omega (arith, out-two p i r)
 
+    -- an offer stands only on a link that the plan rests
+    pub standing-rested : (p i : ℕ) → i < t .links → touches t p i ≡ true → o p i ≡ 1 → rested t i ≡ true
+    standing-rested p i l at e = go (decided (rested t i))
+      where
+        go : (rested t i ≡ true) ⊎ (rested t i ≡ false) → rested t i ≡ true
+        go (inl r) = r
+        go (inr kept) =
+            let (h, v, lh, ah, zh, dh, rh) = untried-rested p i l at e kept in
+            absurd (tried (suc (place (t .links) (dearer t) h)) h lh (omega arith) rh v ah zh)
+
+    -- an offer that could be sent so far is tried
+    pub could-tried : (p i : ℕ) → i < t .links → touches t p i ≡ true → F p i → o p i ≡ 0 → ⊥
+    could-tried p i l at f z =
+        let (g, lg, ag, eg, dg, kg) = standing-kept p i l (inv .offer-fits p i l at f) at z in
+        true≢false (sym (standing-rested p g lg ag eg) ∙ kg)
+
     -- each end rests every link that the plan rests
     pub finished-plan : (p i : ℕ) → i < t .links → touches t p i ≡ true → rested t i ≡ true → (o p i ≡ 1) × (n p i ≡ 1)
     finished-plan p i l at r =
@@ -136,29 +154,30 @@ module _ (t : Table) (legal : Legal t) (F G : ℕ → ℕ → Type 0) (o n : ℕ
         let n0 : (n p i ≡ 0 → ⊥) = quiet .heard i (w .0) p l (w .1) (stands (w .0) i l (near (w .1)) r) in
         (stands p i l at r, omega (arith, in-two p i r))
 
--- the two bytes of a link's direction: at most 2 where it is rested, 0 where its maker never offered
-module _ (t : Table) (legal : Legal t) (o n : ℕ → ℕ → ℕ) (good : Good t o n) where
+-- the two bytes of a link's direction: at most 2 where it is rested, 0 where its maker could send no offer
+module _ (t : Table) (legal : Legal t) (F G : ℕ → ℕ → Type 0) (o n : ℕ → ℕ → ℕ) (inv : FleetInv t F G o n) (decides : (p i : ℕ) → Dec (F p i)) where
   rested-two : (i p w : ℕ) → rested t i ≡ true → o p i + n w i ≤ 2
   rested-two i p w r =
-      let a = good .out-small p i in
-      let b = good .in-small w i in
-      omega (arith, out-two t legal (Sent o) (Denied t n) o n good p i r, in-two t legal (Sent o) (Denied t n) o n good w i r)
+      let a = inv .out-small p i in
+      let b = inv .in-small w i in
+      omega (arith, out-two t legal F G o n inv p i r, in-two t legal F G o n inv w i r)
 
-  never-none : (i p w : ℕ) → Across t i p w → o p i ≡ 0 → o p i + n w i ≡ 0
-  never-none i p w x z = go (ℕ-discrete (n w i) 0)
+  never-none : (i p w : ℕ) → Across t i p w → (F p i → ⊥) → o p i + n w i ≡ 0
+  never-none i p w x never = go (ℕ-discrete (o p i) 0) (ℕ-discrete (n w i) 0)
     where
-      go : Dec (n w i ≡ 0) → o p i + n w i ≡ 0
-      go (yes e) = omega arith
-      go (no y) = absurd (good .seen i p w x y z)
+      go : Dec (o p i ≡ 0) → Dec (n w i ≡ 0) → o p i + n w i ≡ 0
+      go (yes d) (yes e) = omega arith
+      go (yes d) (no y) = absurd (never (inv .seen i p w x y))
+      go (no y) e = absurd (never (inv .offered p i y))
 
   any-four : (i p w : ℕ) → o p i + n w i ≤ 4
   any-four i p w =
-      let a = good .out-small p i in
-      let b = good .in-small w i in
+      let a = inv .out-small p i in
+      let b = inv .in-small w i in
       omega arith
 
   pub four-most : (i : ℕ) → i < t .links → four t o n i ≤ 4
-  four-most i l = go (decided (rested t i)) (ℕ-discrete (o low i) 0) (ℕ-discrete (o high i) 0)
+  four-most i l = go (decided (rested t i)) (decides low i) (decides high i)
     where
       low : ℕ
       low = t .low i
@@ -166,8 +185,8 @@ module _ (t : Table) (legal : Legal t) (o n : ℕ → ℕ → ℕ) (good : Good 
       high : ℕ
       high = t .high i
 
-      go : (rested t i ≡ true) ⊎ (rested t i ≡ false) → Dec (o low i ≡ 0) → Dec (o high i ≡ 0) → o low i + n high i + (o high i + n low i) ≤ 4
+      go : (rested t i ≡ true) ⊎ (rested t i ≡ false) → Dec (F low i) → Dec (F high i) → o low i + n high i + (o high i + n low i) ≤ 4
       go (inl r) d e = let a = rested-two i low high r in let b = rested-two i high low r in omega arith
-      go (inr k) (yes z) e = let a = never-none i low high up z in let b = any-four i high low in omega arith
-      go (inr k) (no y) (yes z) = let a = any-four i low high in let b = never-none i high low down z in omega arith
-      go (inr k) (no y) (no z) = absurd (true≢false (sym (both-offered t legal (Sent o) (Denied t n) o n good i low high l up y z) ∙ k))
+      go (inr k) (no y) e = let a = never-none i low high up y in let b = any-four i high low in omega arith
+      go (inr k) (yes f) (no y) = let a = any-four i low high in let b = never-none i high low down y in omega arith
+      go (inr k) (yes f) (yes g) = absurd (true≢false (sym (both-offered t legal F G o n inv i low high l up f g) ∙ k))

@@ -1,7 +1,7 @@
--- What holds at each moment is kept by every event.
+-- What holds at each moment is kept by every event, and holds of the same bytes and of equivalent marks.
 use Prim.Native.Nat.{ℕ, _≤_, _<_}
 use mathlib.Core.Path.{_≡_, refl, sym, _∙_}
-use mathlib.Core.Logic.{_⊎_, inl, inr}
+use mathlib.Core.Logic.{_↔_, _⊎_, inl, inr}
 use mathlib.Core.Bool.{true, false, _&&_, true≢false}
 use native.Mathlib.Omega.{arith}
 use lib.Dec.{eqb}
@@ -18,7 +18,7 @@ use Rattle.plan_theory.specs.Criterion.{UnderSpare, Across}
 use Rattle.plan_theory.proofs.Settled.{near, back, both}
 use Rattle.fleet_theory.proofs.EndState.{onesAt, store, SameBytes, Step, idle, opens, takes, displaces, refuses, learns, FleetInv, EverOffered, Refused}
 use Rattle.table.proofs.LegalLaws.{legal-table}
-use Rattle.fleet_theory.proofs.EndBytes.{Cell, here, there, cell, before-store, Swap, gone, new, old, swap, far, far-one, WithinSpares, fits-fewer, fits-same, fits-more, fits-swap, swap-many}
+use Rattle.fleet_theory.proofs.EndBytes.{same-bytes, Cell, here, there, cell, before-store, Swap, gone, new, old, swap, far, far-one, WithinSpares, fits-fewer, fits-same, fits-more, fits-swap, swap-many}
 use Rattle.fleet_theory.proofs.EndNext.{Out, out-same, out-open, out-learn, In, in-same, in-take, in-refuse, DearestFirst, next}
 
 module _ (t : Table) (s : LegalTable 256 2048 t) (F G : ℕ → ℕ → Type 0) (o n : ℕ → ℕ → ℕ) (inv : FleetInv t F G o n) (o′ n′ : ℕ → ℕ → ℕ) where
@@ -188,3 +188,27 @@ inv-step t legal F G o n o′ n′ inv step = go step
     go (displaces p w i c l x f z many lc at e dear least so sn) = on-displace t s F G o n inv o′ n′ p w i l x f so c z many lc at e dear least sn
     go (refuses p w i l x f z many dear so sn) = on-refuse t s F G o n inv o′ n′ p w i l x f so many dear sn
     go (learns p i l at g so sn) = on-learn t s F G o n inv o′ n′ p i l at g so sn
+
+pub inv-same : (t : Table) (F G : ℕ → ℕ → Type 0) (o n o′ n′ : ℕ → ℕ → ℕ) → SameBytes o′ o → SameBytes n′ n → FleetInv t F G o n → FleetInv t F G o′ n′
+inv-same t F G = same-bytes (FleetInv t F G)
+
+-- the marks may be said in other words
+pub inv-marks : (t : Table) (F G F′ G′ : ℕ → ℕ → Type 0) (o n : ℕ → ℕ → ℕ) → ((p i : ℕ) → F p i ↔ F′ p i) → ((p i : ℕ) → G p i ↔ G′ p i) → FleetInv t F G o n
+    → FleetInv t F′ G′ o n
+inv-marks t F G F′ G′ o n f g inv =
+    record {
+      out-small = inv .out-small;
+      in-small = inv .in-small;
+      out-own = inv .out-own;
+      in-own = inv .in-own;
+      seen = λ i p w x z. f p i .0 (inv .seen i p w x z);
+      learnt = λ p i e. g p i .0 (inv .learnt p i e);
+      offered = λ p i z. f p i .0 (inv .offered p i z);
+      refused = λ i p w x e. g p i .0 (inv .refused i p w x e);
+      refused-offered = λ p i r. f p i .0 (inv .refused-offered p i (g p i .1 r));
+      standing = inv .standing;
+      holding = inv .holding;
+      order = inv .order;
+      offer-fits = λ p i l at m. inv .offer-fits p i l at (f p i .1 m);
+      refused-kept = λ p i l at r. inv .refused-kept p i l at (g p i .1 r);
+    }

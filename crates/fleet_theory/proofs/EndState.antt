@@ -65,16 +65,6 @@ EverOffered F o p i = F p i ⊎ (o p i ≡ 1)
 abbrev pub Refused : Table → (ℕ → ℕ → Type 0) → (ℕ → ℕ → ℕ) → ℕ → ℕ → Type 0
 Refused t G n p i = G p i ⊎ ((w : ℕ) × Across t i p w × (n w i ≡ 2))
 
--- without restarts the marks are read off the bytes
-abbrev pub Sent : (ℕ → ℕ → ℕ) → ℕ → ℕ → Type 0
-Sent o p i = o p i ≡ 0 → ⊥
-
-abbrev pub Denied : Table → (ℕ → ℕ → ℕ) → ℕ → ℕ → Type 0
-Denied t n p i = (w : ℕ) × Across t i p w × (n w i ≡ 2)
-
-abbrev pub Good : Table → (ℕ → ℕ → ℕ) → (ℕ → ℕ → ℕ) → Type 0
-Good t o n = FleetInv t (Sent o) (Denied t n) o n
-
 -- no opening and no frame that may be sent would alter a byte
 pub record Quiet (t : Table) (o n : ℕ → ℕ → ℕ) : Type 0 where
   pub opened : (p i : ℕ) → i < t .links → touches t p i ≡ true → o p i ≡ 0 → spare t p ≤ onesAt t o p

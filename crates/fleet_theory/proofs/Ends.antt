@@ -6,19 +6,19 @@ use mathlib.Core.Bool.{Bool, true, false, true≢false}
 use mathlib.Core.List.{List}
 use native.Mathlib.Omega.{arith}
 use native.Mathlib.Decide.{ℕ-discrete}
-use lib.Dec.{eqb}
 use lib.ListN.{length, length-replicate}
 use lib.Seq.{sets}
-use borrow.Author.Tests.{le-ltb, lt-ltb, eqb-true, eq-eqb, ne-eqb}
+use borrow.Author.Tests.{le-ltb, lt-ltb, eq-eqb, ne-eqb}
 use Rattle.range.specs.First.{orElse}
-use Rattle.range.proofs.Bools.{decided, unless-none}
+use Rattle.range.proofs.Bools.{decided}
 use Rattle.range.proofs.Faults.{or-left, or-right, or-none}
 use Rattle.range.proofs.Lists.{zeros-at}
 use Rattle.table.specs.Table.{Table, touches, between}
 use Rattle.table.specs.Legal.{Legal, lentFault}
-use Rattle.plan_theory.proofs.Settled.{back}
+use Rattle.plan_theory.specs.Criterion.{Across}
 use Rattle.probe_frame.specs.Frame.{Frame, frameOf, frameFault}
 use Rattle.probe_record.specs.Record.{fresh, recordFault}
+use Rattle.wake_log.specs.declared.Answer.the-variants.{Logged}
 use Rattle.probe_record.proofs.Bytes.{record-passes}
 use Rattle.probe_rules.specs.declared.Event.{Event}
 use Rattle.probe_rules.specs.declared.Event.the-variants.{Opening}
@@ -31,18 +31,18 @@ use Rattle.probe.specs.declared.Kind.the-variants as kind
 use Rattle.probe.specs.declared.Asked.{Asked}
 use Rattle.probe.specs.declared.Asked.the-variants as asked
 use Rattle.probe_checks.specs.Checks as end
-use Rattle.probe_checks.specs.Checks.{toFault, probeFault, ownLinkFault, untriedFault, fullFault, heardFault, hearFault, openFault, linkCallFault}
+use Rattle.probe_checks.specs.Checks.{toFault, probeFault, ownLinkFault, fullFault, heardFault, hearFault, openFault, linkCallFault}
 use Rattle.probe.specs.Answers.{Asks, askedEvent, askedFrame, askedLine}
 use Rattle.probe.proofs.Calls.{asked-event}
 use Rattle.probe.proofs.Answers.{asks-answer}
-use Rattle.fleet_theory.specs.Fleet.{own, eventKindFault, eventEndsFault, eventOf, outcomeOf, State, start, run}
+use Rattle.fleet_theory.specs.Fleet.{own, marks, restarts, eventKindFault, eventEndsFault, eventOf, outcomeOf, alterFleet, wiped, State, start, next, run}
 use Rattle.table.specs.Slices.{Slices, tableOf, slicesFault}
-use Rattle.fleet_theory.specs.Words.{IsFrame, MaySend}
-use Rattle.fleet_theory.specs.Ends.{SameAlone, EndsAlone}
+use Rattle.fleet_theory.specs.Words.{IsFrame, MaySend, IsRestart}
+use Rattle.fleet_theory.specs.Ends.{SameAlone, MadeFresh, EndsAlone}
 use Rattle.fleet_theory.proofs.Own.{outOf, inOf, length-own}
-use Rattle.fleet_theory.proofs.Events.{Says, an-opening, an-offer, a-refusal, says, line-step}
+use Rattle.fleet_theory.proofs.Events.{Says, an-opening, a-restart, an-offer, a-refusal, says, line-step, altered-restart, entry-restart, altered-event, entry-event}
 use Rattle.fleet_theory.proofs.Run.{slices-legal, HoldsAfter, Passed, passed, passed-fault, next-accepted, start-out, start-in, start-holds, run-holds}
-use Rattle.fleet_theory.proofs.Alone.{pairs-equal, own-altered, own-else}
+use Rattle.fleet_theory.proofs.Alone.{pairs-equal, own-altered, own-else, own-wiped, own-wiped-else, marks-wiped}
 
 -- whether the line was written
 abbrev isWritten : Asked → Bool
@@ -93,27 +93,43 @@ module _ (x : Slices) (fine : slicesFault x ≡ 0) (s : State) (h : HoldsAfter (
     abbrev e : List ℕ
     e = own t p r
 
-    pub opening-or-frame : (f .kind ≡ 0) ⊎ IsFrame f
-    opening-or-frame = go (says t l (a .line))
+    opening-frame-or-restart : (f .kind ≡ 0) ⊎ (IsFrame f ⊎ IsRestart t l)
+    opening-frame-or-restart = go (says t l (a .line))
       where
-        go : Says t f → (f .kind ≡ 0) ⊎ IsFrame f
+        go : Says t f → (f .kind ≡ 0) ⊎ (IsFrame f ⊎ IsRestart t l)
         go (an-opening k b v) = inl k
-        go (an-offer i k b c v is) = inr (inl k)
-        go (a-refusal i k b c v is) = inr (inr k)
+        go (a-restart k b v) = inr (inr (a .line, k))
+        go (an-offer i k b c v is) = inr (inl (inl k))
+        go (a-refusal i k b c v is) = inr (inl (inr k))
 
     own-links : OwnOutcome t p (outcomeOf t r f)
     own-links = line-step t legal r (h .long) l (a .line) (a .sent) .own-links
 
-    same-alone : (event : Event) (fault : ℕ) → eventOf t f ≡ event → fault ≡ 0 → SameAlone x room s l event fault
-    same-alone event fault is none =
+    same-alone : (event : Event) (fault : ℕ) → restarts f ≡ false → eventOf t f ≡ event → fault ≡ 0 → SameAlone x room s l event fault
+    same-alone event fault some is none =
         record {
           no-fault = none;
           promised = record {
-            answer = rw (passed-fault x fine s h room l a, none, is);
-            record-after = rw (next-accepted x fine s h room l a, none, ← is) (own-altered t p r (h .long) (outcomeOf t r f) own-links);
+            answer = rw (passed-fault x fine s h room l a, entry-event t r f some, none, is);
+            record-after = ap (own t p) after ∙ rw (none, ← is) (own-altered t p r (h .long) (outcomeOf t r f) own-links);
           };
-          others-same = λ q d. rw (next-accepted x fine s h room l a) (own-else t p r (h .long) (outcomeOf t r f) own-links q d);
+          others-same = λ q d. ap (own t q) after ∙ own-else t p r (h .long) (outcomeOf t r f) own-links q d;
         }
+      where
+        after : next x room s l .bytes ≡ alterFleet t p (outcomeOf t r f) r
+        after = ap (λ y. y .bytes) (next-accepted x fine s h room l a) ∙ altered-event t r f some
+
+    restart-same : IsRestart t l → MadeFresh x room s l
+    restart-same k =
+        record {
+          logged = rw (passed-fault x fine s h room l a) (ap Logged (entry-restart t r f (rw (k .1))));
+          own-fresh = ap (own t p) after ∙ own-wiped t p r (h .long);
+          others-same = λ q d. ap (own t q) after ∙ own-wiped-else t p r (h .long) q d;
+          marks-stay = λ q. ap (marks t q) after ∙ marks-wiped t p r (h .long) q;
+        }
+      where
+        after : next x room s l .bytes ≡ wiped t p r
+        after = ap (λ y. y .bytes) (next-accepted x fine s h room l a) ∙ altered-restart t r f (rw (k .1))
 
     open-passes : p < t .probes → (free : ℕ) → 0 < free → openFault (slicesFault x) t p e free ≡ 0
     unfolding openFault
@@ -123,11 +139,12 @@ module _ (x : Slices) (fine : slicesFault x ≡ 0) (s : State) (h : HoldsAfter (
         ∙ or-none (probeFault t p) (fullFault free) (rw (lt-ltb p (t .probes) b))
         ∙ not-full free k
 
-    pub opens-same : f .kind ≡ 0 → (free : ℕ) → 0 < free → SameAlone x room s l Opening (openFault (slicesFault x) t p e free)
+    opens-same : f .kind ≡ 0 → (free : ℕ) → 0 < free → SameAlone x room s l Opening (openFault (slicesFault x) t p e free)
     opens-same z free k = go (says t l (a .line))
       where
         go : Says t f → SameAlone x room s l Opening (openFault (slicesFault x) t p e free)
-        go (an-opening y b v) = same-alone Opening (openFault (slicesFault x) t p e free) v (open-passes b free k)
+        go (an-opening y b v) = same-alone Opening (openFault (slicesFault x) t p e free) (rw y) v (open-passes b free k)
+        go (a-restart y b v) = absurd (omega arith)
         go (an-offer i y b c v is) = absurd (omega arith)
         go (a-refusal i y b c v is) = absurd (omega arith)
 
@@ -146,37 +163,33 @@ module _ (x : Slices) (fine : slicesFault x ≡ 0) (s : State) (h : HoldsAfter (
         kinds (inl k) = rw k
         kinds (inr k) = rw k
 
-    hear-passes : IsFrame f → between t (f .from) p < t .links → untriedFault (heardOf t f) e ≡ 0 → (free : ℕ) → 0 < free → hearFault (slicesFault x) t p e l free ≡ 0
+    hear-passes : IsFrame f → between t (f .from) p < t .links → (free : ℕ) → 0 < free → hearFault (slicesFault x) t p e l free ≡ 0
     unfolding hearFault
-    hear-passes frame b tried free k =
-        let last = orElse (untriedFault (heardOf t f) e) (fullFault free) in
-        or-none (slicesFault x) (orElse (recordFault t p e) (orElse (heardFault t p l) last)) fine
-        ∙ or-none (recordFault t p e) (orElse (heardFault t p l) last) (own-passes p)
-        ∙ or-none (heardFault t p l) last (heard-passes frame b)
-        ∙ or-none (untriedFault (heardOf t f) e) (fullFault free) tried
+    hear-passes frame b free k =
+        or-none (slicesFault x) (orElse (recordFault t p e) (orElse (heardFault t p l) (fullFault free))) fine
+        ∙ or-none (recordFault t p e) (orElse (heardFault t p l) (fullFault free)) (own-passes p)
+        ∙ or-none (heardFault t p l) (fullFault free) (heard-passes frame b)
         ∙ not-full free k
 
-    pub hears-same : IsFrame f → (free : ℕ) → 0 < free → SameAlone x room s l (heardOf t f) (hearFault (slicesFault x) t p e l free)
-    hears-same frame free k = go (says t l (a .line))
+    hears-same : IsFrame f → (free : ℕ) → 0 < free → SameAlone x room s l (heardOf t f) (hearFault (slicesFault x) t p e l free)
+    hears-same frame free k = go frame (says t l (a .line))
       where
-        go : Says t f → SameAlone x room s l (heardOf t f) (hearFault (slicesFault x) t p e l free)
-        go (an-opening z b v) = absurd (kinds frame)
-          where
-            kinds : IsFrame f → ⊥
-            kinds (inl y) = omega arith
-            kinds (inr y) = omega arith
-        go (an-offer i y b c v is) =
-            same-alone (heardOf t f) (hearFault (slicesFault x) t p e l free) (v ∙ sym is)
-            (hear-passes frame (rw (between-is t legal i (f .from) p b c) b) (rw is) free k)
-        go (a-refusal i y b c v is) =
-            let two = eqb-true (inOf t r (f .from) i) 2 (unless-none (eqb (inOf t r (f .from) i) 2) 26 (rw v at (a .sent))) in
-            same-alone (heardOf t f) (hearFault (slicesFault x) t p e l free) (v ∙ sym is)
-            (hear-passes frame (rw (between-is t legal i (f .from) p b c) b)
-            (rw (is, ne-eqb (outOf t r p i) 0 (h .good .seen i p (f .from) (back c) (λ z. omega arith)))) free k)
+        heard : (i : ℕ) → i < t .links → Across t i (f .from) p → eventOf t f ≡ heardOf t f → restarts f ≡ false
+            → SameAlone x room s l (heardOf t f) (hearFault (slicesFault x) t p e l free)
+        heard i b c is some =
+            same-alone (heardOf t f) (hearFault (slicesFault x) t p e l free) some is (hear-passes frame (rw (between-is t legal i (f .from) p b c) b) free k)
+
+        go : IsFrame f → Says t f → SameAlone x room s l (heardOf t f) (hearFault (slicesFault x) t p e l free)
+        go (inl y) (an-opening z b v) = absurd (omega arith)
+        go (inr y) (an-opening z b v) = absurd (omega arith)
+        go (inl y) (a-restart z b v) = absurd (omega arith)
+        go (inr y) (a-restart z b v) = absurd (omega arith)
+        go y (an-offer i z b c v is) = heard i b c (v ∙ sym is) (rw z)
+        go y (a-refusal i z b c v is) = heard i b c (v ∙ sym is) (rw z)
 
   -- an end that is asked for a frame on an own link
   module _ (p i : ℕ) (a : OwnLink t p i) where
-    pub ask-passes : linkCallFault (slicesFault x) t p (own t p r) i ≡ 0
+    ask-passes : linkCallFault (slicesFault x) t p (own t p r) i ≡ 0
     unfolding linkCallFault
     ask-passes =
         or-none (slicesFault x) (orElse (recordFault t p (own t p r)) (ownLinkFault t p i)) fine
@@ -187,7 +200,7 @@ module _ (x : Slices) (fine : slicesFault x ≡ 0) (s : State) (h : HoldsAfter (
       abbrev may : Bool
       may = sendable (askedEvent k i) (own t p r)
 
-      pub ask-may-send : (may ≡ true) ↔ MaySend t r (askedFrame t p k i)
+      ask-may-send : (may ≡ true) ↔ MaySend t r (askedFrame t p k i)
       ask-may-send = (λ m. ((refl, framed k), rw (asked-event t legal p i a k) m), λ m. rw (asked-event t legal p i a k) at (m .1))
         where
           framed : (k : Kind) → IsFrame (askedFrame t p k i)
@@ -201,7 +214,7 @@ module _ (x : Slices) (fine : slicesFault x ≡ 0) (s : State) (h : HoldsAfter (
         none : fault ≡ 0
         none = or-none (lentFault (length out) 15) (linkCallFault (slicesFault x) t p (own t p r) i) (rw (le-ltb (length out) 15 long)) ∙ ask-passes
 
-        pub ask-writes : Asks fault t p k i (own t p r) answer out out′
+        ask-writes : Asks fault t p k i (own t p r) answer out out′
             → ((answer ≡ asked.Written) × (out′ ≡ sets out 0 (askedLine t p k i))) ↔ MaySend t r (askedFrame t p k i)
         ask-writes q = (λ w. ask-may-send .0 (go (decided may) (w .0)), λ m. written (ask-may-send .1 m))
           where
@@ -221,9 +234,10 @@ pub ends-alone : (x : Slices) → slicesFault x ≡ 0 → (room : ℕ) (ls : Lis
 ends-alone x fine room ls =
     record {
       own-start = own-start x;
-      opens-or-hears = λ xs ys l e n. opening-or-frame x fine (after xs) (holds xs) room l (passed x fine (after xs) (holds xs) room l n);
+      opens-hears-or-restarts = λ xs ys l e n. opening-frame-or-restart x fine (after xs) (holds xs) room l (passed x fine (after xs) (holds xs) room l n);
       opens-alone = λ xs ys l e n. opens-same x fine (after xs) (holds xs) room l (passed x fine (after xs) (holds xs) room l n);
       hears-alone = λ xs ys l e n. hears-same x fine (after xs) (holds xs) room l (passed x fine (after xs) (holds xs) room l n);
+      restarts-fresh = λ xs ys l e n. restart-same x fine (after xs) (holds xs) room l (passed x fine (after xs) (holds xs) room l n);
       asked-passes = λ xs ys e. ask-passes x fine (after xs) (holds xs);
       asked-may-send = λ xs ys e k p i a. ask-may-send x fine (after xs) (holds xs) p i a k;
       asked-writes = λ xs ys e k p i a. ask-writes x fine (after xs) (holds xs) p i a k;

@@ -17,21 +17,22 @@ use Rattle.plan_theory.specs.Bounds.{NoneForNothing}
 use Rattle.plan_theory.proofs.Plan.{touches-low, plan-meets}
 use Rattle.plan_theory.proofs.Bound.{bound, short-keeps, same-none-for-nothing}
 use Rattle.probe_frame.specs.Frame.{Frame, frameOf}
-use Rattle.probe_rules.specs.Rules.{entryOf}
-use Rattle.fleet_theory.proofs.EndState.{SameBytes, Sent, Denied, Quiet, Live, total}
+use Rattle.fleet_theory.proofs.EndState.{SameBytes, Quiet, Live, total}
 use Rattle.table.proofs.LegalLaws.{legal-table}
 use Rattle.fleet_theory.proofs.EndRise.{grows, total-most}
 use Rattle.fleet_theory.proofs.EndFinish.{rested-in, finished-plan}
+use Rattle.fleet_theory.proofs.EndQuiet.{quiet-step}
 use Rattle.fleet_theory.proofs.EndLive.{live-or-quiet}
-use Rattle.fleet_theory.specs.Fleet.{eventLineFault, outcomeOf, State, accepted, next, run, finished}
+use Rattle.fleet_theory.specs.Fleet.{eventLineFault, entryBy, State, accepted, next, run, finished}
 use Rattle.table.specs.Slices.{Slices, tableOf, slicesFault}
 use Rattle.fleet_theory.specs.Words.{MaySend, TrulySent, endRests, Usable}
-use Rattle.fleet_theory.specs.ClaimsOfRun.{moments, LeadsOn}
+use Rattle.fleet_theory.specs.ClaimsOfRun.{moments, LeadsOn, NoRestart}
 use Rattle.fleet_theory.proofs.Lines.{line-frame}
 use Rattle.fleet_theory.proofs.Own.{outOf, inOf}
-use Rattle.fleet_theory.proofs.Run.{slices-legal, HoldsAfter, Passed, passed-fault, next-accepted, accepted-holds, accepted-steps}
+use Rattle.fleet_theory.proofs.Connect.{OfferMarked, RefusalMarked}
+use Rattle.fleet_theory.proofs.Run.{slices-legal, HoldsAfter, Passed, passed-fault, next-accepted, accepted-holds, accepted-steps, next-holds, event-steps}
 use Rattle.fleet_theory.proofs.Quiet.{quiet-finished, finished-quiet, quiet-stays}
-use Rattle.fleet_theory.proofs.Live.{usable-sent, Altering, live-line}
+use Rattle.fleet_theory.proofs.Live.{UsableNow, usable-event, usable-sent, Altering, live-line}
 
 -- what may be sent now is truly sent
 abbrev NowSent : Table → List ℕ → List (List ℕ) → Type 0
@@ -58,10 +59,10 @@ module _ (x : Slices) (fine : slicesFault x ≡ 0) where
     r = s .bytes
 
     abbrev Unaltered : Type 0
-    Unaltered = (l : List ℕ) → eventLineFault t l ≡ 0 → (frameOf l .kind ≡ 0) ⊎ MaySend t r (frameOf l) → (room : ℕ) → length (s .log) < room → next x room s l .bytes ≡ r
+    Unaltered = (l : List ℕ) → eventLineFault t l ≡ 0 → UsableNow t r (frameOf l) → (room : ℕ) → length (s .log) < room → next x room s l .bytes ≡ r
 
-    usable-passed : (room : ℕ) (l : List ℕ) → eventLineFault t l ≡ 0 → (frameOf l .kind ≡ 0) ⊎ MaySend t r (frameOf l) → length (s .log) < room → Passed x room s l
-    usable-passed room l e u free = record { line = e; sent = usable-sent t r l e u; free = free }
+    usable-passed : (room : ℕ) (l : List ℕ) → eventLineFault t l ≡ 0 → UsableNow t r (frameOf l) → length (s .log) < room → Passed x room s l
+    usable-passed room l e u free = record { line = e; sent = usable-sent t r l (h .marked) e u; free = free }
 
     pub finished-unaltered : finished t r ≡ true → Unaltered
     finished-unaltered e l line u room free =
@@ -73,7 +74,7 @@ module _ (x : Slices) (fine : slicesFault x ≡ 0) where
         go : Live t (outOf t r) (inOf t r) ⊎ Quiet t (outOf t r) (inOf t r) → finished t r ≡ true
         go (inr quiet) = quiet-finished t legal r quiet
         go (inl live) =
-            let (l, a) = live-line t legal r (h .long) digits live in
+            let (l, a) = live-line t legal r (h .long) (h .marked) digits live in
             let room = suc (length (s .log)) in
             let free : length (s .log) < room = omega arith in
             let e = sym (ap (λ s′. s′ .bytes) (next-accepted x fine s h room l (usable-passed room l (a .line) (a .usable) free))) ∙ unaltered l (a .line) (a .usable) room free in
@@ -88,7 +89,7 @@ module _ (x : Slices) (fine : slicesFault x ≡ 0) where
     -- finished or not, an end rests only what the plan rests
     rests : (i p : ℕ) → i < x .links → touches t p i ≡ true → endRests t r p i ≡ true → rested t i ≡ true
     rests i p l at a =
-        rested-in t legal (Sent o) (Denied t n) o n (h .good) p i l at (eqb-true (o p i) 1 (and-left (eqb (o p i) 1) (eqb (n p i) 1) a))
+        rested-in t legal (OfferMarked t r) (RefusalMarked t r) o n (h .good) p i l at (eqb-true (o p i) 1 (and-left (eqb (o p i) 1) (eqb (n p i) 1) a))
         (eqb-true (n p i) 1 (and-right (eqb (o p i) 1) (eqb (n p i) 1) a))
 
     pub short-rests-none : (p i : ℕ) → isShort t p ≡ true → i < x .links → touches t p i ≡ true → endRests t r p i ≡ false
@@ -104,7 +105,7 @@ module _ (x : Slices) (fine : slicesFault x ≡ 0) where
         where
           planned : rested t i ≡ true → endRests t r p i ≡ true
           planned a =
-              let b = finished-plan t legal (Sent o) (Denied t n) o n (h .good) (finished-quiet t legal r e) p i l at a in
+              let b = finished-plan t legal (OfferMarked t r) (RefusalMarked t r) o n (h .good) (finished-quiet t legal r e) p i l at a in
               and-intro (eq-eqb (o p i) 1 (b .0)) (eq-eqb (n p i) 1 (b .1))
 
       pub needs-kept : (v : ℕ) → v < x .probes → countedNeed t v ≤ linksAt t (λ i. not (endRests t r v i)) v
@@ -130,6 +131,18 @@ module _ (x : Slices) (fine : slicesFault x ≡ 0) where
       pub kept-none-for-nothing : NoneForNothing t (λ i. not (endRests t r (t .low i) i))
       kept-none-for-nothing = same-none-for-nothing t legal (λ i. not (endRests t r (t .low i) i)) low-keeps
 
+  -- a finished fleet stays finished until a restart is accepted
+  pub stays-finished : (room : ℕ) (s : State) → HoldsAfter t s → finished t (s .bytes) ≡ true → (ms : List (List ℕ)) → NoRestart x room (λ p. true) s ms
+      → finished t (run x room s ms .bytes) ≡ true
+  unfolding run
+  stays-finished room s h e [] none = e
+  stays-finished room s h e (l ∷ ms) none =
+      let r = s .bytes in
+      let s′ = next x room s l in
+      let quiet = quiet-step t legal (OfferMarked t r) (RefusalMarked t r) (outOf t r) (inOf t r) (h .good) (finished-quiet t legal r e) (outOf t (s′ .bytes)) (inOf t (s′ .bytes))
+      (event-steps x fine s h room l (λ is. none .0 is refl)) in
+      stays-finished room s′ (next-holds x fine s h room l) (quiet-finished t legal (s′ .bytes) quiet) ms (none .1)
+
   -- the sum of all bytes of a record
   abbrev totalOf : List ℕ → ℕ
   totalOf r = total t (outOf t r) (inOf t r)
@@ -140,13 +153,13 @@ module _ (x : Slices) (fine : slicesFault x ≡ 0) where
       (ms : List (List ℕ)) × ((so-far : List (List ℕ)) → NowSent t (s .bytes) so-far → (room : ℕ) → length (s .log) + length ms ≤ room → LeadsOn x room so-far s ms)
 
   leads-on : x .number < 65536 → (b : ℕ) (s : State) → HoldsAfter t s → 8 * x .links < totalOf (s .bytes) + b → Leads s
-  leads-on digits zero s h few = let a = total-most t (outOf t (s .bytes)) (inOf t (s .bytes)) (h .good) in absurd (omega arith)
+  leads-on digits zero s h few = let a = total-most t (OfferMarked t (s .bytes)) (RefusalMarked t (s .bytes)) (outOf t (s .bytes)) (inOf t (s .bytes)) (h .good) in absurd (omega arith)
   leads-on digits (suc b) s h few = go (leads-on digits b) (live-or-quiet t (outOf t (s .bytes)) (inOf t (s .bytes)))
     where
       go : ((s′ : State) → HoldsAfter t s′ → 8 * x .links < totalOf (s′ .bytes) + b → Leads s′)
           → Live t (outOf t (s .bytes)) (inOf t (s .bytes)) ⊎ Quiet t (outOf t (s .bytes)) (inOf t (s .bytes)) → Leads s
       go on (inr quiet) = ([], λ so-far now-sent room fits. quiet-finished t legal (s .bytes) quiet)
-      go on (inl live) = let (l, a) = live-line t legal (s .bytes) (h .long) digits live in first l a
+      go on (inl live) = let (l, a) = live-line t legal (s .bytes) (h .long) (h .marked) digits live in first l a
         where
           first : (l : List ℕ) → Altering t (s .bytes) l → Leads s
           first l a = (l ∷ rest .0, then-on)
@@ -162,8 +175,8 @@ module _ (x : Slices) (fine : slicesFault x ≡ 0) where
 
               more : totalOf (s .bytes) < totalOf (s′ .bytes)
               more =
-                  sure (grows t legal (outOf t (s .bytes)) (inOf t (s .bytes)) (outOf t (s′ .bytes)) (inOf t (s′ .bytes)) (h .good)
-                  (accepted-steps x fine s h (suc (length (s .log))) l one))
+                  sure (grows t (OfferMarked t (s .bytes)) (RefusalMarked t (s .bytes)) (outOf t (s .bytes)) (inOf t (s .bytes)) (outOf t (s′ .bytes)) (inOf t (s′ .bytes)) (h .good)
+                  (accepted-steps x fine s h (suc (length (s .log))) l one (usable-event t (s .bytes) (frameOf l) (a .usable))))
                 where
                   sure : (SameBytes (outOf t (s′ .bytes)) (outOf t (s .bytes)) × SameBytes (inOf t (s′ .bytes)) (inOf t (s .bytes))) ⊎ (totalOf (s .bytes) < totalOf (s′ .bytes))
                       → totalOf (s .bytes) < totalOf (s′ .bytes)
@@ -177,13 +190,13 @@ module _ (x : Slices) (fine : slicesFault x ≡ 0) where
                   → LeadsOn x room so-far s (l ∷ rest .0)
               then-on so-far now-sent room fits =
                   let pass = passed room (omega arith) in
-                  let long = length-append (s .log) (entryOf t (frameOf l .to) (outcomeOf t (s .bytes) (frameOf l)) ∷ []) in (
+                  let long = length-append (s .log) (entryBy t (s .bytes) (frameOf l) ∷ []) in (
                     sent (a .usable),
-                    (entryOf t (frameOf l .to) (outcomeOf t (s .bytes) (frameOf l)), rw (passed-fault x fine s h room l pass) refl),
+                    (entryBy t (s .bytes) (frameOf l), rw (passed-fault x fine s h room l pass) refl),
                     rw (next-accepted x fine s h room l pass) (rest .1 (so-far ++ (s′ .bytes ∷ [])) (last-sent t (s′ .bytes) so-far) room (omega arith)),
                   )
                 where
-                  sent : (frameOf l .kind ≡ 0) ⊎ MaySend t (s .bytes) (frameOf l) → Usable t l so-far
+                  sent : UsableNow t (s .bytes) (frameOf l) → Usable t l so-far
                   sent (inl z) = inl (a .line, z)
                   sent (inr m) = inr (line-frame t l (a .line), now-sent (frameOf l) m)
 

@@ -5,9 +5,12 @@ pub mod EndKeep
 pub mod EndWipe
 pub mod EndRise
 pub mod EndFinish
+pub mod EndQuiet
 pub mod EndLive
 pub mod Own
 pub mod Bytes
+pub mod Wipe
+pub mod Marked
 pub mod Lines
 pub mod Connect
 pub mod Events
@@ -22,3 +25,4 @@ pub mod ClaimsOfRun
 pub mod Alone
 pub mod Ends
 pub mod Samples
+pub mod Withdrawn

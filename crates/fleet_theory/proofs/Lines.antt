@@ -2,10 +2,11 @@
 use Prim.Native.Nat.{ℕ, _<_}
 use mathlib.Core.Path.{_≡_, refl, _∙_, ap}
 use mathlib.Core.Logic.{_⊎_, inl, inr}
+use mathlib.Core.Bool.{false}
 use mathlib.Core.List.{List}
 use native.Mathlib.Omega.{arith}
 use lib.Dec.{eqb}
-use borrow.Author.Tests.{lt-ltb, eqb-true, eq-eqb, ne-eqb}
+use borrow.Author.Tests.{lt-ltb, eqb-true, eq-eqb}
 use Rattle.range.specs.First.{orElse}
 use Rattle.range.proofs.Bools.{unless-none}
 use Rattle.range.proofs.Faults.{or-left, or-right, or-none}
@@ -16,15 +17,20 @@ use Rattle.probe_frame.specs.Frame.{Frame, frameLine, frameOf, frameFault}
 use Rattle.probe_frame.proofs.Laws.{Writable, line-passes, line-says}
 use Rattle.probe_rules.specs.Frames.{numberFault}
 use Rattle.probe_rules.proofs.Frames.{between-is, ends-below, writable}
-use Rattle.fleet_theory.specs.Fleet.{eventKindFault, eventEndsFault, eventLineFault}
+use Rattle.fleet_theory.specs.Fleet.{ofOneProbe, eventKindFault, eventEndsFault, eventLineFault}
 
 -- the checks of a line after 1 and 2 are those of its frame
 abbrev pub frameChecks : Table → Frame → ℕ
 frameChecks t f = orElse (eventKindFault f) (orElse (numberFault t f) (eventEndsFault t f))
 
-pub frame-checks : (t : Table) (f : Frame) → f .number ≡ t .number → f .kind < 3 → eventEndsFault t f ≡ 0 → frameChecks t f ≡ 0
+-- a frame is of two probes
+pub not-of-one-probe : (f : Frame) → (f .kind ≡ 1) ⊎ (f .kind ≡ 2) → ofOneProbe (f .kind) ≡ false
+not-of-one-probe f (inl e) = rw e
+not-of-one-probe f (inr e) = rw e
+
+pub frame-checks : (t : Table) (f : Frame) → f .number ≡ t .number → f .kind < 4 → eventEndsFault t f ≡ 0 → frameChecks t f ≡ 0
 frame-checks t f number kind ends =
-    or-none (eventKindFault f) (orElse (numberFault t f) (eventEndsFault t f)) (rw (lt-ltb (f .kind) 3 kind))
+    or-none (eventKindFault f) (orElse (numberFault t f) (eventEndsFault t f)) (rw (lt-ltb (f .kind) 4 kind))
     ∙ or-none (numberFault t f) (eventEndsFault t f) (rw (eq-eqb (f .number) (t .number) number))
     ∙ ends
 
@@ -39,7 +45,7 @@ module _ (t : Table) (l : List ℕ) (e : eventLineFault t l ≡ 0) where
       let rest = or-right (eventKindFault f) (orElse (numberFault t f) (eventEndsFault t f)) (or-right (frameFault l) (frameChecks t f) e) in
       eqb-true (f .number) (t .number) (unless-none (eqb (f .number) (t .number)) 22 (or-left (numberFault t f) (eventEndsFault t f) rest))
 
-line-fault : (t : Table) (f : Frame) → Writable f → f .number ≡ t .number → f .kind < 3 → eventEndsFault t f ≡ 0 → eventLineFault t (frameLine f) ≡ 0
+line-fault : (t : Table) (f : Frame) → Writable f → f .number ≡ t .number → f .kind < 4 → eventEndsFault t f ≡ 0 → eventLineFault t (frameLine f) ≡ 0
 line-fault t f w number kind ends =
     or-none (frameFault (frameLine f)) (frameChecks t (frameOf (frameLine f))) (line-passes f w)
     ∙ ap (frameChecks t) (line-says f w)
@@ -61,10 +67,10 @@ module _ (t : Table) (legal : Legal t) (digits : t .number < 65536) where
       let f : Frame = record { kind = kind; number = t .number; from = p; to = w } in
       let b = ends-below t legal i p w l a in
       let n = kinds k in
-      let g = writable t legal digits kind p w (n .1) (b .0) (b .1) in
+      let g = writable t legal digits kind p w n (b .0) (b .1) in
       let e = between-is t legal i p w l a in
-      (line-fault t f g refl (n .1) (rw (ne-eqb kind 0 (n .0), e, lt-ltb i (t .links) l)), line-says f g, e)
+      (line-fault t f g refl (omega (arith, n)) (rw (not-of-one-probe f k, e, lt-ltb i (t .links) l)), line-says f g, e)
     where
-      kinds : (kind ≡ 1) ⊎ (kind ≡ 2) → (kind ≡ 0 → ⊥) × (kind < 3)
-      kinds (inl e) = (λ z. omega arith, omega arith)
-      kinds (inr e) = (λ z. omega arith, omega arith)
+      kinds : (kind ≡ 1) ⊎ (kind ≡ 2) → kind < 3
+      kinds (inl e) = omega arith
+      kinds (inr e) = omega arith

@@ -25,27 +25,39 @@ use Rattle.probe_rules.specs.Rules.{offer, befalls}
 use Rattle.fleet_theory.proofs.EndState.{onesAt, store, SameBytes, Live, may-open, may-hear, may-learn}
 use Rattle.table.proofs.LegalLaws.{legal-table}
 use Rattle.fleet_theory.proofs.EndBytes.{storedByte, Swap, gone, new, old, swap}
-use Rattle.fleet_theory.specs.Fleet.{own, eventLineFault, alterFleet, alteredBy}
+use Rattle.fleet_theory.specs.Fleet.{own, restarts, eventLineFault, outcomeOf, alterFleet, alteredBy}
 use Rattle.fleet_theory.specs.Words.{MaySend}
 use Rattle.fleet_theory.proofs.Own.{outOf, inOf}
 use Rattle.fleet_theory.proofs.Bytes.{storedIn, altered-out, altered-in}
+use Rattle.fleet_theory.proofs.Marked.{MarkedBytes}
 use Rattle.fleet_theory.proofs.Lines.{opening-line, frame-line}
-use Rattle.fleet_theory.proofs.Connect.{befalls-step}
-use Rattle.fleet_theory.proofs.Events.{Says, an-opening, an-offer, a-refusal, says, may-offer, may-refuse, NotUnsent}
+use Rattle.fleet_theory.proofs.Connect.{OfferMarked, befalls-step}
+use Rattle.fleet_theory.proofs.Events.{Says, an-opening, a-restart, an-offer, a-refusal, says, may-offer, may-refuse, NotUnsent, altered-event}
 
--- 27 turns down no opening and no frame that may be sent
-pub usable-sent : (t : Table) (r l : List ℕ) → eventLineFault t l ≡ 0 → (frameOf l .kind ≡ 0) ⊎ MaySend t r (frameOf l) → NotUnsent t r (frameOf l)
-usable-sent t r l e u = go (says t l e) u
+-- an opening, or a frame that may be sent
+abbrev pub UsableNow : Table → List ℕ → Frame → Type 0
+UsableNow t r f = (f .kind ≡ 0) ⊎ MaySend t r f
+
+-- neither is a restart
+pub usable-event : (t : Table) (r : List ℕ) (f : Frame) → UsableNow t r f → restarts f ≡ false
+usable-event t r f (inl z) = rw z
+usable-event t r f (inr ((number, inl k), m)) = rw k
+usable-event t r f (inr ((number, inr k), m)) = rw k
+
+-- 27 turns down none of them
+pub usable-sent : (t : Table) (r l : List ℕ) → MarkedBytes t r → eventLineFault t l ≡ 0 → UsableNow t r (frameOf l) → NotUnsent t r (frameOf l)
+usable-sent t r l marked e u = go (says t l e) u
   where
     f : Frame
     f = frameOf l
 
-    go : Says t f → (f .kind ≡ 0) ⊎ MaySend t r f → NotUnsent t r f
+    go : Says t f → UsableNow t r f → NotUnsent t r f
     go (an-opening k b v) u = rw v refl
+    go (a-restart k b v) u = rw v refl
     go (an-offer i k b x v is) (inl z) = absurd (omega arith)
-    go (an-offer i k b x v is) (inr m) = let o = may-offer t f i is r .0 m in rw (v, ne-eqb (outOf t r (f .from) i) 0 (λ z. omega arith))
+    go (an-offer i k b x v is) (inr m) = rw (v, marked .outs (f .from) i .marked (may-offer t f i is r .0 m))
     go (a-refusal i k b x v is) (inl z) = absurd (omega arith)
-    go (a-refusal i k b x v is) (inr m) = rw (v, eq-eqb (inOf t r (f .from) i) 2 (may-refuse t f i is r .0 m))
+    go (a-refusal i k b x v is) (inr m) = rw (v, marked .ins (f .from) i .marked (may-refuse t f i is r .0 m))
 
 -- some byte differs
 abbrev Differ : Table → List ℕ → List ℕ → Type 0
@@ -53,10 +65,10 @@ Differ t r r′ = SameBytes (outOf t r′) (outOf t r) → SameBytes (inOf t r�
 
 pub record Altering (t : Table) (r l : List ℕ) : Type 0 where
   pub line : eventLineFault t l ≡ 0
-  pub usable : (frameOf l .kind ≡ 0) ⊎ MaySend t r (frameOf l)
+  pub usable : UsableNow t r (frameOf l)
   pub alters : Differ t r (alteredBy t r (frameOf l))
 
-module _ (t : Table) (legal : Legal t) (r : List ℕ) (long : length r ≡ 4 * t .links) where
+module _ (t : Table) (legal : Legal t) (r : List ℕ) (long : length r ≡ 8 * t .links) where
   -- the bytes after an event
   abbrev after : ℕ → Event → List ℕ
   after p v = alterFleet t p (befalls t p v (own t p r)) r
@@ -78,7 +90,7 @@ module _ (t : Table) (legal : Legal t) (r : List ℕ) (long : length r ≡ 4 * t
           omega arith
 
   -- an offer heard first is no longer unseen
-  offer-alters : (i p w : ℕ) → i < t .links → Across t i p w → (outOf t r p i ≡ 0 → ⊥) → inOf t r w i ≡ 0 → Differ t r (after w (Offer i))
+  offer-alters : (i p w : ℕ) → i < t .links → Across t i p w → OfferMarked t r p i → inOf t r w i ≡ 0 → Differ t r (after w (Offer i))
   offer-alters i p w l x s z _ same =
       let own-links = befalls-step t legal r long w (Offer i) (p, l, x, s) .own-links in
       let c = altered-in t w r long (befalls t w (Offer i) e) own-links w i in
@@ -121,27 +133,27 @@ module _ (t : Table) (legal : Legal t) (r : List ℕ) (long : length r ≡ 4 * t
       let c = rw (ne-eqb (outOf t r p i) 2 d) at (same p i) in
       d (sym c ∙ a ∙ b)
 
-  altering : (f : Frame) → eventLineFault t (frameLine f) ≡ 0 → frameOf (frameLine f) ≡ f → (f .kind ≡ 0) ⊎ MaySend t r f → Differ t r (alteredBy t r f)
+  altering : (f : Frame) → eventLineFault t (frameLine f) ≡ 0 → frameOf (frameLine f) ≡ f → UsableNow t r f → Differ t r (alterFleet t (f .to) (outcomeOf t r f) r)
       → (l : List ℕ) × Altering t r l
   altering f e is u d = (
     frameLine f,
     record {
       line = e;
-      usable = subst (λ g. (g .kind ≡ 0) ⊎ MaySend t r g) (sym is) u;
-      alters = subst (λ g. Differ t r (alteredBy t r g)) (sym is) d;
+      usable = subst (UsableNow t r) (sym is) u;
+      alters = subst (λ g. Differ t r (alteredBy t r g)) (sym is) (subst (Differ t r) (sym (altered-event t r f (usable-event t r f u))) d);
     },
   )
 
-  pub live-line : t .number < 65536 → Live t (outOf t r) (inOf t r) → (l : List ℕ) × Altering t r l
-  live-line digits (may-open p i l at z room) =
+  pub live-line : MarkedBytes t r → t .number < 65536 → Live t (outOf t r) (inOf t r) → (l : List ℕ) × Altering t r l
+  live-line marked digits (may-open p i l at z room) =
       let ends = legal-table 256 2048 t legal .ends i l in
       let a = opening-line t legal digits p (at-end t (λ v. v < t .probes) p i at (omega arith) (ends .below)) in
       altering (record { kind = 0; number = t .number; from = p; to = p }) (a .0) (a .1) (inl refl) (opening-alters p i l at z room)
-  live-line digits (may-hear i p w l x e z) =
+  live-line marked digits (may-hear i p w l x e z) =
       let a = frame-line t legal digits 1 i p w (inl refl) l x in
       altering (record { kind = 1; number = t .number; from = p; to = w }) (a .0) (a .1) (inr ((refl, inl refl), rw (a .2) (eq-eqb (outOf t r p i) 1 e)))
-      (rw (a .2) (offer-alters i p w l x (λ y. omega arith) z))
-  live-line digits (may-learn i p w l x e d) =
+      (rw (a .2) (offer-alters i p w l x (marked .outs p i .marked e) z))
+  live-line marked digits (may-learn i p w l x e d) =
       let a = frame-line t legal digits 2 i w p (inr refl) l (back x) in
       altering (record { kind = 2; number = t .number; from = w; to = p }) (a .0) (a .1) (inr ((refl, inr refl), rw (a .2) (eq-eqb (inOf t r w i) 2 e)))
       (rw (a .2) (refusal-alters i p l (near x) d))

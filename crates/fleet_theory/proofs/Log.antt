@@ -1,9 +1,8 @@
--- The entries that say a refusal, against the inbound bytes that are 2.
+-- The entries that say a refusal, against the marks of inbound bytes.
 use Prim.Native.Nat.{ℕ, _<_}
 use mathlib.Core.Path.{_≡_, refl, sym, _∙_}
 use mathlib.Core.Logic.{_⊎_, inl, inr}
 use mathlib.Core.List.{List, [], _∷_, _++_}
-use native.Mathlib.Omega.{arith}
 use Rattle.table.specs.Table.{Table, other}
 use Rattle.table.specs.Legal.{Legal}
 use Rattle.wake_log.specs.declared.Entry.{Entry}
@@ -13,9 +12,9 @@ use Rattle.probe_rules.specs.Rules.{whatOf}
 use Rattle.probe_rules.specs.Within.{OwnOutcome}
 use Rattle.probe_rules.proofs.Frames.{joins-across, across-joins, other-across, one-link}
 use Rattle.fleet_theory.proofs.EndState.{store}
-use Rattle.fleet_theory.proofs.EndBytes.{Cell, here, there, cell, storedByte, before-store, Swap, gone, new, old, swap}
+use Rattle.fleet_theory.proofs.EndBytes.{Cell, here, there, cell, storedByte}
 use Rattle.fleet_theory.specs.Words.{Refuses, RefusedIn}
-use Rattle.fleet_theory.proofs.Bytes.{storedIn}
+use Rattle.fleet_theory.proofs.Bytes.{markedIn}
 
 -- an entry more
 module _ (t : Table) (i : ℕ) (e : Entry) where
@@ -36,30 +35,29 @@ module _ (t : Table) (i : ℕ) (e : Entry) where
       go (inl b) = inl (inr b)
       go (inr b) = inr b
 
-module _ (t : Table) (p : ℕ) (n : ℕ → ℕ → ℕ) where
-  -- a byte 2 was there before, or the entry says it
-  pub two-new : (o : Outcome) → OwnOutcome t p o → (q j : ℕ) → storedIn p o n q j ≡ 2 → (n q j ≡ 2) ⊎ Refuses t j p (whatOf t p o)
-  two-new (Opened i) a q j e = inl e
-  two-new Enough a q j e = inl e
-  two-new (Taken i) a q j e = inl (before-store n (store n p i 1) p i 1 (λ x y. refl) q j 2 (λ z. omega arith) e)
-  two-new (TakenDisplacing i c) a q j e = go (swap n (store (store n p i 1) p c 2) p i c (λ x y. refl) q j)
+module _ (t : Table) (p : ℕ) (a : ℕ → ℕ → ℕ) where
+  -- a mark was there before, or the entry says it
+  pub mark-new : (o : Outcome) → OwnOutcome t p o → (q j : ℕ) → markedIn p o a q j ≡ 1 → (a q j ≡ 1) ⊎ Refuses t j p (whatOf t p o)
+  mark-new (Opened i) own q j e = inl e
+  mark-new Enough own q j e = inl e
+  mark-new (Taken i) own q j e = inl e
+  mark-new (TakenDisplacing i c) own q j e = go (cell a (store a p c 1) p c 1 (λ x y. refl) q j)
     where
-      go : Swap n (store (store n p i 1) p c 2) p i c q j → (n q j ≡ 2) ⊎ Refuses t j p (whatOf t p (TakenDisplacing i c))
-      go (gone x y f) = inr (rw y (across-joins (other-across t p c (a .1 .1))))
-      go (new x y f) = absurd (omega arith)
-      go (old x y f) = inl (sym f ∙ e)
-  two-new (Refused i) a q j e = go (cell n (store n p i 2) p i 2 (λ x y. refl) q j)
+      go : Cell a (store a p c 1) p c 1 q j → (a q j ≡ 1) ⊎ Refuses t j p (whatOf t p (TakenDisplacing i c))
+      go (here x y f) = inr (rw y (across-joins (other-across t p c (own .1 .1))))
+      go (there d f) = inl (sym f ∙ e)
+  mark-new (Refused i) own q j e = go (cell a (store a p i 1) p i 1 (λ x y. refl) q j)
     where
-      go : Cell n (store n p i 2) p i 2 q j → (n q j ≡ 2) ⊎ Refuses t j p (whatOf t p (Refused i))
+      go : Cell a (store a p i 1) p i 1 q j → (a q j ≡ 1) ⊎ Refuses t j p (whatOf t p (Refused i))
       go (here x y f) = inr (sym y)
       go (there d f) = inl (sym f ∙ e)
-  two-new (RefusalLearnt i) a q j e = inl e
-  two-new (NoChange i) a q j e = inl e
-  two-new AllTried a q j e = inl e
+  mark-new (RefusalLearnt i) own q j e = inl e
+  mark-new (NoChange i) own q j e = inl e
+  mark-new AllTried own q j e = inl e
 
-  -- what the entry says has a byte 2
-  pub new-two : Legal t → (o : Outcome) → OwnOutcome t p o → (j : ℕ) → j < t .links → Refuses t j p (whatOf t p o) → storedIn p o n p j ≡ 2
-  new-two legal (TakenDisplacing i c) a j l e =
-      let one = one-link t legal j c p (other t p c) l (a .1 .0) (joins-across t p (other t p c) j e) (other-across t p c (a .1 .1)) in
-      rw one (storedByte (store n p i 1) (store (store n p i 1) p c 2) p c 2 (λ x y. refl))
-  new-two legal (Refused i) a j l e = rw (← e) (storedByte n (store n p i 2) p i 2 (λ x y. refl))
+  -- what the entry says has a mark
+  pub new-mark : Legal t → (o : Outcome) → OwnOutcome t p o → (j : ℕ) → j < t .links → Refuses t j p (whatOf t p o) → markedIn p o a p j ≡ 1
+  new-mark legal (TakenDisplacing i c) own j l e =
+      let one = one-link t legal j c p (other t p c) l (own .1 .0) (joins-across t p (other t p c) j e) (other-across t p c (own .1 .1)) in
+      rw one (storedByte a (store a p c 1) p c 1 (λ x y. refl))
+  new-mark legal (Refused i) own j l e = rw (← e) (storedByte a (store a p i 1) p i 1 (λ x y. refl))

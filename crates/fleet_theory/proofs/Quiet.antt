@@ -28,7 +28,7 @@ use Rattle.table.proofs.LegalLaws.{legal-table}
 use Rattle.fleet_theory.specs.Fleet.{own, eventLineFault, alterFleet, alteredBy, wouldOpen, alters, finished}
 use Rattle.fleet_theory.specs.Words.{MaySend}
 use Rattle.fleet_theory.proofs.Own.{outOf, inOf}
-use Rattle.fleet_theory.proofs.Events.{Says, an-opening, an-offer, a-refusal, says, may-offer, may-refuse}
+use Rattle.fleet_theory.proofs.Events.{Says, an-opening, a-restart, an-offer, a-refusal, says, may-offer, may-refuse, altered-event}
 
 module _ (t : Table) (legal : Legal t) (r : List ℕ) where
   abbrev BothQuiet : Type 0
@@ -136,15 +136,19 @@ module _ (t : Table) (legal : Legal t) (r : List ℕ) where
       f = frameOf l
 
       go : Says t f → (f .kind ≡ 0) ⊎ MaySend t r f → alteredBy t r f ≡ r
-      go (an-opening k b v) u = rw v (stays (befell t legal (f .to) (own t (f .to) r) Opening tt))
+      go (an-opening k b v) u =
+          altered-event t r f (rw k) ∙ rw v (stays (befell t legal (f .to) (own t (f .to) r) Opening tt))
         where
           stays : {o : Outcome} → Befell t (f .to) (own t (f .to) r) Opening o → alterFleet t (f .to) o r ≡ r
           stays (opened i a z m h) = let full = quiet .opened (f .to) i (a .0) (a .1) z in absurd (omega arith)
           stays (enough m) = refl
           stays (all-tried m h) = refl
+      go (a-restart k b v) (inl z) = absurd (omega arith)
+      go (a-restart k b v) (inr ((number, inl z), m)) = absurd (omega arith)
+      go (a-restart k b v) (inr ((number, inr z), m)) = absurd (omega arith)
       go (an-offer i k b x v is) (inl z) = absurd (omega arith)
       go (an-offer i k b x v is) (inr m) =
-          rw (v, ne-eqb (inOf t r (f .to) i) 0 (quiet .heard i (f .from) (f .to) b x (may-offer t f i is r .0 m)))
+          altered-event t r f (rw k) ∙ rw (v, ne-eqb (inOf t r (f .to) i) 0 (quiet .heard i (f .from) (f .to) b x (may-offer t f i is r .0 m)))
       go (a-refusal i k b x v is) (inl z) = absurd (omega arith)
       go (a-refusal i k b x v is) (inr m) =
-          rw (v, eq-eqb (outOf t r (f .to) i) 2 (quiet .told i (f .to) (f .from) b (back x) (may-refuse t f i is r .0 m)))
+          altered-event t r f (rw k) ∙ rw (v, eq-eqb (outOf t r (f .to) i) 2 (quiet .told i (f .to) (f .from) b (back x) (may-refuse t f i is r .0 m)))

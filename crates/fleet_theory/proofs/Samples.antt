@@ -11,11 +11,11 @@ use Rattle.lines.specs.Digits.{lineFault}
 use Rattle.table.specs.Table.{dearer}
 use Rattle.table.specs.Legal.{linkFault}
 use Rattle.probe_frame.specs.Frame.{frameLine, frameFault}
-use Rattle.fleet_theory.specs.Fleet.{own, next, run, changes, finished}
+use Rattle.fleet_theory.specs.Fleet.{own, marks, wipedTo, next, run, changes, finished}
 use Rattle.fleet_theory.specs.Samples.{Samples}
 
 pub samples : Samples
-unfolding sum first joined lowest best valueOf digitOf numberAt digits untilFeed lineAt lineFault dearer linkFault frameLine frameFault own next run changes finished
+unfolding sum first joined lowest best valueOf digitOf numberAt digits untilFeed lineAt lineFault dearer linkFault frameLine frameFault own marks wipedTo next run changes finished
 samples =
     record {
       m1-to-m10 = sites;
@@ -24,6 +24,9 @@ samples =
       m11-openings = record { table-legal = refl; entries-logged = refl; says-finished = refl; changes-made = refl };
       spare-none = record { table-legal = refl; entries-logged = refl; says-finished = refl; changes-made = refl };
       one-refused = record { table-legal = refl; entries-logged = refl; says-finished = refl; changes-made = refl };
+      late = record { table-legal = refl; entries-logged = refl; says-finished = refl; changes-made = refl };
+      late-again = record { table-legal = refl; entries-logged = refl; says-finished = refl; changes-made = refl };
+      m11-restarted = record { table-legal = refl; entries-logged = refl; says-finished = refl; changes-made = refl };
       refusals = record {
         cut-line = refl;
         capital-digit = refl;
@@ -31,9 +34,11 @@ samples =
         other-table = refl;
         no-probe = refl;
         two-ends = refl;
+        restart-of-two = refl;
         no-link = refl;
         never-offered = refl;
         never-refused = refl;
+        restart-on-full-log = refl;
         full-log = refl;
       };
       m4-table = refl;

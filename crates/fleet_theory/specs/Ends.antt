@@ -1,4 +1,4 @@
--- Beside the claims about the run: the ends called alone, each on its own bytes of the fleet's record. The sentences are those of document 01, "The ends and their frames".
+-- Beside the claims about the run: the ends called alone, each on its own bytes of the fleet's record. The sentences are those of document 01, "The ends and their frames", and of 02, No. 2.
 use Prim.Native.Nat.{ℕ, _≤_, _<_}
 use mathlib.Core.Path.{_≡_}
 use mathlib.Core.Logic.{_↔_, _⊎_}
@@ -7,6 +7,8 @@ use mathlib.Core.List.{List, _∷_, _++_}
 use lib.ListN.{length}
 use lib.Seq.{sets}
 use Rattle.range.specs.First.{orElse}
+use Rattle.wake_log.specs.declared.What.the-variants.{Restarted}
+use Rattle.wake_log.specs.declared.Answer.the-variants.{Logged}
 use Rattle.table.specs.Table.{Table}
 use Rattle.probe_frame.specs.Frame.{frameOf}
 use Rattle.probe_record.specs.Record.{fresh}
@@ -21,9 +23,9 @@ use Rattle.probe.specs.declared.Asked.the-variants.{Written}
 use Rattle.probe_checks.specs.Checks.{hearFault, openFault, linkCallFault}
 use Rattle.probe.specs.Answers.{Befallen, Asks, askedEvent, askedFrame, askedLine}
 use Rattle.table.specs.Legal.{lentFault}
-use Rattle.fleet_theory.specs.Fleet.{State, start, own, faultOf, answerTo, next, run}
+use Rattle.fleet_theory.specs.Fleet.{State, start, own, marks, faultOf, answerTo, next, run}
 use Rattle.table.specs.Slices.{Slices, tableOf, slicesFault}
-use Rattle.fleet_theory.specs.Words.{IsFrame, MaySend}
+use Rattle.fleet_theory.specs.Words.{IsFrame, MaySend, IsRestart}
 
 -- the line l at the state s, and the probe `to` called alone: `event` is what reaches it, `fault` the fault of its call
 module _ (x : Slices) (room : ℕ) (s : State) (l : List ℕ) where
@@ -43,6 +45,14 @@ module _ (x : Slices) (room : ℕ) (s : State) (l : List ℕ) where
     -- and no byte of another end is altered
     pub others-same : (p : ℕ) → (p ≡ receiver → ⊥) → ownAfter p ≡ ownBefore p
 
+  -- a restart of the probe `to`
+  pub record MadeFresh : Type 0 where
+    -- "A wipe is logged as 08, without a link."
+    pub logged : answerTo x room s l ≡ Logged (record { probe = receiver; what = Restarted })
+    pub own-fresh : ownAfter receiver ≡ fresh (tableOf x)
+    pub others-same : (p : ℕ) → (p ≡ receiver → ⊥) → ownAfter p ≡ ownBefore p
+    pub marks-stay : (p : ℕ) → marks (tableOf x) p (next x room s l .bytes) ≡ marks (tableOf x) p (s .bytes)
+
 module _ (x : Slices) (room : ℕ) (ls : List (List ℕ)) where
   abbrev t : Table
   t = tableOf x
@@ -58,8 +68,8 @@ module _ (x : Slices) (room : ℕ) (ls : List (List ℕ)) where
     -- "The list starts from a fresh fleet's record": each end's own bytes are then fresh
     pub own-start : (p : ℕ) → own t p (start x .bytes) ≡ fresh t
     -- "For each opening or frame that the fleet accepts .. the end that opens or hears, called alone on its own bytes of the fleet's record with an entry free"
-    pub opens-or-hears : (xs ys : List (List ℕ)) (l : List ℕ) → ls ≡ xs ++ l ∷ ys → faultOf x room (stateAfter xs) l ≡ 0
-        → (frameOf l .kind ≡ 0) ⊎ IsFrame (frameOf l)
+    pub opens-hears-or-restarts : (xs ys : List (List ℕ)) (l : List ℕ) → ls ≡ xs ++ l ∷ ys → faultOf x room (stateAfter xs) l ≡ 0
+        → (frameOf l .kind ≡ 0) ⊎ (IsFrame (frameOf l) ⊎ IsRestart t l)
     pub opens-alone : (xs ys : List (List ℕ)) (l : List ℕ) → ls ≡ xs ++ l ∷ ys → faultOf x room (stateAfter xs) l ≡ 0 → frameOf l .kind ≡ 0
         → (free : ℕ) → 0 < free
         → let p = frameOf l .to in
@@ -68,6 +78,9 @@ module _ (x : Slices) (room : ℕ) (ls : List (List ℕ)) where
         → (free : ℕ) → 0 < free
         → let p = frameOf l .to in
         SameAlone x room (stateAfter xs) l (heardOf t (frameOf l)) (hearFault (slicesFault x) t p (ownBytes p xs) l free)
+    -- 02, No. 2: a restart "makes that probe fresh", no byte of another end is altered, and "a wipe leaves" the marks
+    pub restarts-fresh : (xs ys : List (List ℕ)) (l : List ℕ) → ls ≡ xs ++ l ∷ ys → faultOf x room (stateAfter xs) l ≡ 0 → IsRestart t l
+        → MadeFresh x room (stateAfter xs) l
     -- "at any moment of such a list, asked alone on its own bytes with room for the line, it writes the frame exactly when that frame may then be sent"
     pub asked-passes : (xs ys : List (List ℕ)) → ls ≡ xs ++ ys → (p i : ℕ) → OwnLink t p i → linkCallFault (slicesFault x) t p (ownBytes p xs) i ≡ 0
     pub asked-may-send : (xs ys : List (List ℕ)) → ls ≡ xs ++ ys → (k : Kind) (p i : ℕ) → OwnLink t p i

@@ -3,3 +3,4 @@ pub mod Words
 pub mod ClaimsOfRun
 pub mod Ends
 pub mod Samples
+pub mod Withdrawn

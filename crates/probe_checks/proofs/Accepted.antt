@@ -1,16 +1,16 @@
 -- What it means that a call of an end has no fault.
 use Prim.Native.Nat.{ℕ, _≤_, _<_}
-use mathlib.Core.Path.{_≡_, sym, _∙_, ap}
+use mathlib.Core.Path.{_≡_, refl, sym, _∙_, ap}
 use mathlib.Core.Logic.{_⊎_, inl, inr}
 use mathlib.Core.Bool.{true, false, _&&_, _||_}
 use mathlib.Core.List.{List}
 use lib.Dec.{ltb, eqb}
 use native.Mathlib.Omega.{arith}
 use native.Mathlib.Decide.{ℕ-discrete}
-use borrow.Author.Tests.{ltb-true, eqb-true, ne-eqb}
+use borrow.Author.Tests.{ltb-true, eqb-true, eq-eqb, ne-eqb}
 use Rattle.range.specs.First.{orElse}
 use Rattle.range.proofs.Bools.{and-left, and-right, unless-none, decided}
-use Rattle.range.proofs.Faults.{or-here, or-none, or-left, or-right, or-through, or-past}
+use Rattle.range.proofs.Faults.{or-here, or-none, or-same, or-left, or-right, or-through, or-past}
 use Rattle.table.specs.Table.{Table, touches, between}
 use Rattle.probe_frame.specs.Frame.{Frame, frameOf, frameFault, frameRead, ReadsFrame}
 use Rattle.probe_frame.specs.declared.FrameLine.{FrameLine}
@@ -19,7 +19,7 @@ use Rattle.probe_rules.specs.declared.Event.{Event}
 use Rattle.probe_rules.specs.declared.Event.the-variants.{Opening}
 use Rattle.probe_rules.specs.Frames.{numberFault, heardOf}
 use Rattle.probe_rules.specs.Within.{EventWithin}
-use Rattle.probe_checks.specs.Checks.{frameKindFault, toFault, probeFault, ownLinkFault, untriedFault, fullFault, heardFault, HearsFrame, hearFault, openFault, linkCallFault}
+use Rattle.probe_checks.specs.Checks.{frameKindFault, toFault, probeFault, ownLinkFault, fullFault, heardFault, HearsFrame, hearFault, openFault, linkCallFault}
 
 -- 9, 23, 24 of a frame
 abbrev pub heardChecks : Table → ℕ → Frame → ℕ
@@ -58,10 +58,10 @@ module _ (slices : ℕ) (t : Table) (p : ℕ) (e : List ℕ) where
   pub hear-parts : (l : List ℕ) (free : ℕ) → hearFault slices t p e l free ≡ 0 → (slices ≡ 0) × (recordFault t p e ≡ 0) × (heardFault t p l ≡ 0)
   unfolding hearFault
   hear-parts l free f =
-      let last = orElse (untriedFault (heardOf t (frameOf l)) e) (fullFault free) in
-      let a = or-right slices (orElse (recordFault t p e) (orElse (heardFault t p l) last)) f in
-      let b = or-right (recordFault t p e) (orElse (heardFault t p l) last) a in
-      (or-left slices (orElse (recordFault t p e) (orElse (heardFault t p l) last)) f, or-left (recordFault t p e) (orElse (heardFault t p l) last) a, or-left (heardFault t p l) last b)
+      let last = orElse (heardFault t p l) (fullFault free) in
+      let a = or-right slices (orElse (recordFault t p e) last) f in
+      let b = or-right (recordFault t p e) last a in
+      (or-left slices (orElse (recordFault t p e) last) f, or-left (recordFault t p e) last a, or-left (heardFault t p l) (fullFault free) b)
 
   pub open-parts : (free : ℕ) → openFault slices t p e free ≡ 0 → (slices ≡ 0) × (recordFault t p e ≡ 0)
   unfolding openFault
@@ -80,12 +80,12 @@ module _ (slices : ℕ) (t : Table) (p : ℕ) (e : List ℕ) where
   module _ (r : ℕ) where
     pub hear-early : (l : List ℕ) (free : ℕ) → r ≡ orElse slices (recordFault t p e) → (r ≡ 0 → ⊥) → r ≡ hearFault slices t p e l free
     unfolding hearFault
-    hear-early l free = or-through r slices (recordFault t p e) (orElse (heardFault t p l) (orElse (untriedFault (heardOf t (frameOf l)) e) (fullFault free)))
+    hear-early l free = or-through r slices (recordFault t p e) (orElse (heardFault t p l) (fullFault free))
 
-    pub hear-late : (l : List ℕ) (free : ℕ) → orElse slices (recordFault t p e) ≡ 0
-        → r ≡ orElse (heardFault t p l) (orElse (untriedFault (heardOf t (frameOf l)) e) (fullFault free)) → r ≡ hearFault slices t p e l free
+    -- n is the frame's fault
+    pub hear-late : (l : List ℕ) (free n : ℕ) → orElse slices (recordFault t p e) ≡ 0 → n ≡ heardFault t p l → r ≡ orElse n (fullFault free) → r ≡ hearFault slices t p e l free
     unfolding hearFault
-    hear-late l free = or-past r slices (recordFault t p e) (orElse (heardFault t p l) (orElse (untriedFault (heardOf t (frameOf l)) e) (fullFault free)))
+    hear-late l free n z is f = or-past r slices (recordFault t p e) (orElse (heardFault t p l) (fullFault free)) z (f ∙ or-same is refl)
 
     pub open-early : (free : ℕ) → r ≡ orElse slices (recordFault t p e) → (r ≡ 0 → ⊥) → r ≡ openFault slices t p e free
     unfolding openFault
@@ -124,6 +124,9 @@ module _ (t : Table) (p : ℕ) (l : List ℕ) (r : FrameLine) (reads : ReadsFram
     frame-heard v e is = (of-frame 0 (sym e), λ none. is ∙ ap (heardOf t) (reads .1 z))
 
 -- the code's tests of the kind
+pub no-kind : (k : ℕ) → k ≡ 0 → (eqb k 1 || eqb k 2) ≡ false
+no-kind k z = rw z
+
 pub known-kind : (k : ℕ) → (k ≡ 0 → ⊥) → k ≤ 2 → (eqb k 1 || eqb k 2) ≡ true
 known-kind k n l = go (ℕ-discrete k 1)
   where
@@ -133,3 +136,7 @@ known-kind k n l = go (ℕ-discrete k 1)
 
 pub other-kind : (k : ℕ) → 2 < k → (eqb k 1 || eqb k 2) ≡ false
 other-kind k l = rw (ne-eqb k 1 (omega arith), ne-eqb k 2 (omega arith))
+
+-- of a kind that an end knows, and of this table, a frame can only be turned down by 24
+pub only-to : (t : Table) (p : ℕ) (f : Frame) → (f .kind ≡ 0 → ⊥) → f .kind ≤ 2 → f .number ≡ t .number → heardChecks t p f ≡ toFault t p f
+only-to t p f n l e = rw (known-kind (f .kind) n l, eq-eqb (f .number) (t .number) e)

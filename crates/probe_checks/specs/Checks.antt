@@ -7,9 +7,7 @@ use lib.Dec.{ltb, eqb}
 use Rattle.range.specs.First.{orElse}
 use Rattle.table.specs.Table.{Table, touches, between}
 use Rattle.probe_frame.specs.Frame.{Frame, frameOf, frameFault}
-use Rattle.probe_record.specs.Record.{outbound, recordFault}
-use Rattle.probe_rules.specs.declared.Event.{Event}
-use Rattle.probe_rules.specs.declared.Event.the-variants.{Opening, Offer, Refusal}
+use Rattle.probe_record.specs.Record.{recordFault}
 use Rattle.probe_rules.specs.Frames.{numberFault, heardOf}
 use Rattle.probe_checks.specs.declared.Heard.{Heard}
 
@@ -28,12 +26,6 @@ probeFault t p = cond (ltb p (t .probes)) 0 24
 abbrev pub ownLinkFault : Table → ℕ → ℕ → ℕ
 ownLinkFault t p i = cond (ltb i (t .links) && touches t p i) 0 24
 
--- 25: "One end alone: a refusal where outbound is 0."
-abbrev pub untriedFault : Event → List ℕ → ℕ
-untriedFault Opening e = 0
-untriedFault (Offer i) e = 0
-untriedFault (Refusal i) e = cond (eqb (outbound e i) 0) 25 0
-
 -- 26: "The log is full."
 abbrev pub fullFault : ℕ → ℕ
 fullFault free = cond (eqb free 0) 26 0
@@ -48,11 +40,11 @@ heardFault t p l =
 abbrev pub HearsFrame : Table → ℕ → List ℕ → Heard → Type 0
 HearsFrame t p l h = (h .fault ≡ heardFault t p l) × (h .fault ≡ 0 → h .event ≡ heardOf t (frameOf l))
 
--- "These come after the table's checks: 20, 21, 22, then the frame's 1, 2, 9, 23, 24, then 25 .., then 26."
+-- "These come after the table's checks: 20, 21, 22, then the frame's 1, 2, 9, 23, 24, .. then 26."
+-- 02, No. 2: "A refusal of an untried link is now learnt." "Refusal 25 is withdrawn".
 unfoldable pub hearFault : ℕ → Table → ℕ → List ℕ → List ℕ → ℕ → ℕ
 hearFault slices t p e l free =
-    orElse slices
-    (orElse (recordFault t p e) (orElse (heardFault t p l) (orElse (untriedFault (heardOf t (frameOf l)) e) (fullFault free))))
+    orElse slices (orElse (recordFault t p e) (orElse (heardFault t p l) (fullFault free)))
 
 unfoldable pub openFault : ℕ → Table → ℕ → List ℕ → ℕ → ℕ
 openFault slices t p e free = orElse slices (orElse (recordFault t p e) (orElse (probeFault t p) (fullFault free)))

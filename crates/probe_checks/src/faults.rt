@@ -3,9 +3,7 @@ use super::Heard;
 ghost use mathlib.Core.Path.{_≡_};
 ghost use mathlib.Core.Bool.{cond};
 ghost use mathlib.Core.List.{[]};
-ghost use Prim.Native.Nat.{_/_};
 ghost use lib.Dec.{eqb};
-ghost use lib.ListN.{length};
 ghost use Rattle.range.specs.First.{orElse};
 ghost use Rattle.table.specs.Table.{ofSlices};
 ghost use Rattle.table.specs.Slices.{slicesOf, tableOf, slicesFault};
@@ -13,9 +11,8 @@ ghost use Rattle.probe_frame.specs.Frame.{frameOf};
 ghost use Rattle.probe_record.specs.Record.{recordFault};
 ghost use Rattle.probe_rules.specs.declared.Event.the-variants.{Opening, Offer, Refusal};
 ghost use Rattle.probe_rules.specs.Frames.{heardOf};
-ghost use Rattle.probe_rules.specs.Within.{EventWithin};
 ghost use Rattle.table_links.specs.RisingSlices.{RisingSlices};
-ghost use Rattle.probe_checks.specs.Checks.{untriedFault, HearsFrame, hearFault, openFault, linkCallFault};
+ghost use Rattle.probe_checks.specs.Checks.{HearsFrame, hearFault, openFault, linkCallFault};
 
 fn refused(fault: u8) -> Heard
     ensures { λ r. ⌜ r ≡ record { fault = fault; event = Opening } ⌝ }
@@ -71,23 +68,6 @@ fn check_frame(
     Heard {
         fault: 0,
         event: event_of(read.kind, link),
-    }
-}
-
-// 25.
-fn untried_fault(event: probe_rules::Event, rec: &[u8]) -> u8
-    requires { ⌜ EventWithin (length (now rec) / 2) event ⌝ }
-    ensures { λ r. ⌜ r ≡ untriedFault event (now (rec .entry)) ⌝ }
-{
-    match event {
-        probe_rules::Event::Opening => 0,
-        probe_rules::Event::Offer(_) => 0,
-        probe_rules::Event::Refusal(i) => {
-            if rec[2 * i] == 0 {
-                return 25;
-            }
-            0
-        }
     }
 }
 
@@ -165,11 +145,6 @@ pub fn check_hearing(
     let heard = check_frame(number, links, lows, highs, probe, frame);
     if heard.fault != 0 {
         return heard;
-    }
-    let event = heard.event;
-    let untried = untried_fault(event, rec);
-    if untried != 0 {
-        return refused(untried);
     }
     if free == 0 {
         return refused(26);

@@ -16,7 +16,9 @@ use Rattle.script_output.specs.Handling.{endCallFault}
 use Rattle.script_calls.specs.Calls.{PieceLeft}
 use Rattle.script_reads.specs.Handled.{HandledBy}
 use Rattle.script_reads.proofs.Chain.{leftOf}
-use Rattle.script.specs.Writing.{Answered}
+use Rattle.script.specs.Writing.{Answered, AnswersScript, leftToWrite}
+use Rattle.script.specs.declared.Ending.{Ending}
+use Rattle.script.specs.declared.Ending.the-variants as ending
 
 pub answered-by : (x : Slices) (line₀ : List ℕ) → 16 ≤ length line₀ → (p : Progress) (rec line out out′ : List ℕ) (n : ℕ) → HandledBy x line₀ (leftOf p rec line)
     → (let printed = endText x rec (p .held) (p .changed) in Prints (endCallFault x rec printed out) printed (Length n) out out′) → Answered x n out′
@@ -27,7 +29,7 @@ answered-by x line₀ long p rec line out out′ n h end =
     record { line = line₀; long = long; calls = h .calls; kept = h .kept; out = out; end = subst Ends (sym (h .left)) end }
 
 -- what it has printed stands within its slice
-pub answered-within : {x : Slices} {n : ℕ} {out′ : List ℕ} → Answered x n out′ → n ≤ length out′
+answered-within : {x : Slices} {n : ℕ} {out′ : List ℕ} → Answered x n out′ → n ≤ length out′
 answered-within {x} {n} {out′} a = within _ _ n (a .out) out′ (a .end)
   where
     within : (fault : ℕ) (printed : List ℕ) (n : ℕ) (out out′ : List ℕ) → Prints fault printed (Length n) out out′ → n ≤ length out′
@@ -40,3 +42,8 @@ answered-within {x} {n} {out′} a = within _ _ n (a .out) out′ (a .end)
             let l = length-append printed (drop (length printed) out) in
             omega arith
         go false e o = let z : _≡_ {A = ℕ} 0 1 = cc in absurd (omega arith)
+
+pub answers-within : (x : Slices) (e : Ending) (out′ : List ℕ) → AnswersScript x e out′ → leftToWrite e ≤ length out′
+unfolding leftToWrite
+answers-within x (ending.Printed n) out′ a = answered-within a
+answers-within x ending.Failed out′ a = omega arith

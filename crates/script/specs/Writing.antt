@@ -32,6 +32,11 @@ abbrev pub AnswersScript : Slices → Ending → List ℕ → Type 0
 AnswersScript x (ending.Printed n) out′ = Answered x n out′
 AnswersScript x ending.Failed out′ = Unit {0}
 
+-- the count of bytes that are left to write
+unfoldable pub leftToWrite : Ending → ℕ
+leftToWrite (ending.Printed n) = n
+leftToWrite ending.Failed = 0
+
 -- the program's slices before the table is read into them
 abbrev pub zeroSlices : Lent
 zeroSlices = lentOf (replicate 256 0) (replicate 2048 0) (replicate 2048 0) (replicate 2048 0)

@@ -14,7 +14,7 @@ ghost use lib.ListN.{length};
 ghost use Rattle.table.specs.Slices.{slicesOf, slicesFault};
 ghost use Rattle.output.specs.Output.{refusalLine, Prints};
 ghost use Rattle.output.specs.declared.Output.the-variants.{Length};
-ghost use Rattle.script.specs.Writing.{AnswersScript};
+ghost use Rattle.script.specs.Writing.{AnswersScript, leftToWrite};
 
 // What is left to write: what the text's end printed; nothing where a read or write failed.
 enum Ending {
@@ -51,8 +51,8 @@ fn answer_script(
     ensures { λ r. let x = slicesOf number probes links (now (needs .entry)) (now (lows .entry)) (now (highs .entry)) (now (costs .entry)) in
         ⌜ AnswersScript x r (now (out .exit)) ⌝ }
 {
-    let mut bytes = [0u8; 8192];
-    let rec = &mut bytes[..4 * (links as usize)];
+    let mut bytes = [0u8; 16384];
+    let rec = &mut bytes[..8 * (links as usize)];
     let mut line = [0u8; 16];
     let mut degrees = [0u16; 256];
     count_degrees(&mut degrees, links as usize, lows, highs);
@@ -84,6 +84,18 @@ fn answer_script(
             out,
         )),
         Stop::Failed => Ending::Failed,
+    }
+}
+
+// Writes what is left to write.
+fn write_ending(ending: Ending, out: &[u8])
+    requires { ⌜ leftToWrite ending ≤ length (now out) ⌝ }
+{
+    match ending {
+        Ending::Printed(length) => {
+            write(&out[..length]);
+        }
+        Ending::Failed => {}
     }
 }
 
@@ -121,12 +133,7 @@ fn answer_text(text: &mut [u8], n: usize)
                 &mut text[..4096],
                 &mut out,
             );
-            match ending {
-                Ending::Printed(length) => {
-                    write(&out[..length]);
-                }
-                Ending::Failed => {}
-            }
+            write_ending(ending, &out);
         }
         table_read::Reading::Refused(fault) => {
             let length = refuse(fault, &mut out);

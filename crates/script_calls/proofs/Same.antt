@@ -10,18 +10,19 @@ use Rattle.table.specs.Same.{Same}
 use Rattle.table.specs.Slices.{Slices, tableOf, slicesFault}
 use Rattle.output.specs.Output.{refusalLine}
 use Rattle.wake_log.specs.declared.Answer.{Answer}
-use Rattle.fleet_theory.specs.Fleet.{eventFault, linkChanges}
+use Rattle.probe_frame.specs.Frame.{Frame, frameOf}
+use Rattle.fleet_theory.specs.Fleet.{eventFault, frameChanges}
 use Rattle.fleet_calls.proofs.Same.{same-finished}
 use Rattle.fleet_calls.proofs.Promises.{same-event-fault, same-answer, same-record-after}
 use Rattle.script_theory.specs.Script.{answerLine, lastLine, Script, answered, bytesAfter, afterLine, afterByte, afterPiece, endText}
 
 -- a script after a line, by what the line gives
-abbrev afterAnswer : Script → ℕ → List ℕ → Answer → ℕ → Script
-afterAnswer p fault bytes answer links =
+abbrev afterAnswer : Script → Frame → ℕ → List ℕ → Answer → ℕ → Script
+afterAnswer p f fault bytes answer links =
     record {
       bytes = bytes;
       used = p .used + cond (eqb fault 0) 1 0;
-      changed = (p .changed + sum links (linkChanges (p .bytes) bytes)) % 4294967296;
+      changed = (p .changed + sum links (frameChanges f (p .bytes) bytes)) % 4294967296;
       held = [];
       out = p .out ++ answerLine answer;
     }
@@ -30,10 +31,10 @@ module _ (x y : Slices) (same : Same (tableOf x) (tableOf y)) (fine : slicesFaul
   same-after-line : (p : Script) (l : List ℕ) → afterLine x room p l ≡ afterLine y room p l
   same-after-line p l =
       let fault : Slices → ℕ = λ z. eventFault z (p .bytes) (p .used) room l in
-      ap (λ (n : ℕ). afterAnswer p n (bytesAfter x room p l) (answered x room p l) (x .links)) (same-event-fault x y same fine fine′ (p .used) room l (p .bytes))
-      ∙ ap (λ (r : List ℕ). afterAnswer p (fault y) r (answered x room p l) (x .links)) (same-record-after x y same fine fine′ (p .used) room l (p .bytes))
-      ∙ ap (λ (a : Answer). afterAnswer p (fault y) (bytesAfter y room p l) a (x .links)) (same-answer x y same fine fine′ (p .used) room l (p .bytes))
-      ∙ ap (λ (n : ℕ). afterAnswer p (fault y) (bytesAfter y room p l) (answered y room p l) n) (same .links)
+      ap (λ (n : ℕ). afterAnswer p (frameOf l) n (bytesAfter x room p l) (answered x room p l) (x .links)) (same-event-fault x y same fine fine′ (p .used) room l (p .bytes))
+      ∙ ap (λ (r : List ℕ). afterAnswer p (frameOf l) (fault y) r (answered x room p l) (x .links)) (same-record-after x y same fine fine′ (p .used) room l (p .bytes))
+      ∙ ap (λ (a : Answer). afterAnswer p (frameOf l) (fault y) (bytesAfter y room p l) a (x .links)) (same-answer x y same fine fine′ (p .used) room l (p .bytes))
+      ∙ ap (λ (n : ℕ). afterAnswer p (frameOf l) (fault y) (bytesAfter y room p l) (answered y room p l) n) (same .links)
 
   same-after-byte : (p : Script) (b : ℕ) → afterByte x room p b ≡ afterByte y room p b
   same-after-byte p b =

@@ -156,7 +156,7 @@ fn fresh() -> [Entry; 16] {
 
 // The ten lines of the fleet.
 fn fleet() {
-    let mut rec = [0u8; 12];
+    let mut rec = [0u8; 24];
     let mut entries = fresh();
     let mut k = 0;
     while k < 10 {

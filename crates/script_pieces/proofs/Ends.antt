@@ -79,12 +79,12 @@ some-left [] some e = absurd (omega arith)
 some-left (a ∷ l) some e = absurd (omega arith)
 
 -- a script from its start
-module _ (x : Slices) (fine : slicesFault x ≡ 0) (within : 4 * x .links ≤ 8192) where
+module _ (x : Slices) (fine : slicesFault x ≡ 0) (within : 8 * x .links ≤ 16384) where
   abbrev zeros : List ℕ
-  zeros = take (4 * x .links) (replicate 8192 0)
+  zeros = take (8 * x .links) (replicate 16384 0)
 
   pub zeros-are : zeros ≡ start x .bytes
-  zeros-are = zeros-part (4 * x .links) 8192 within
+  zeros-are = zeros-part (8 * x .links) 16384 within
 
   pub zeros-pass : fleetFault (tableOf x) zeros ≡ 0
   zeros-pass = rw zeros-are (fleet-passes x fine (start x) (start-holds x fine))

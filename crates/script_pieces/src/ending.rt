@@ -35,7 +35,7 @@ pub fn put_end(
     out: &mut [u8],
     at: usize,
 ) -> usize
-    requires { ⌜ LegalWithoutCosts probes links (now needs) (now lows) (now highs) × (4 * links ≤ length (now rec))
+    requires { ⌜ LegalWithoutCosts probes links (now needs) (now lows) (now highs) × (8 * links ≤ length (now rec))
         × (probes ≤ length (now degrees)) × Degrees (ofSlices 0 probes links (now needs) (now lows) (now highs) []) (now degrees) × (at ≤ 9223372036854775808) ⌝ }
     ensures { λ r. ⌜ ((number : ℕ) (costs : List ℕ) → (now (out .exit) ≡ storedWithin (now (out .entry)) at
         (endText (slicesOf number probes links (now (needs .entry)) (now (lows .entry)) (now (highs .entry)) costs) (now (rec .entry)) held changed)))

@@ -210,7 +210,7 @@ pub fn count_piece(
     ensures { λ r. let x = slicesOf number probes links (now (needs .entry)) (now (lows .entry)) (now (highs .entry)) (now (costs .entry)) in
         ⌜ r ≡ capped (length (afterPiece x 1024 (underWay progress (now (rec .entry)) (now (line .entry))) (now (piece .entry)) .out)) ⌝ }
 {
-    let mut bytes = [0u8; 8192];
+    let mut bytes = [0u8; 16384];
     let mut none = [0u8; 1];
     let length = rec.len();
     script_steps::line_bytes::copy(&mut bytes, 0, rec, length);

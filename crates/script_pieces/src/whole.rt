@@ -13,6 +13,20 @@ ghost use Rattle.output.specs.Output.{outputFault, Prints};
 ghost use Rattle.script_lines.specs.Fitting.{capped};
 ghost use Rattle.script_theory.specs.Script.{scriptText};
 
+// A script's start: nothing is printed, used, held or changed.
+fn begin() -> Place
+    ensures { λ r. ⌜ (r .at ≡ 0) × (r .progress .used ≡ 0) × (r .progress .held ≡ 0) × (r .progress .changed ≡ 0) ⌝ }
+{
+    Place {
+        at: 0,
+        progress: Progress {
+            used: 0,
+            held: 0,
+            changed: 0,
+        },
+    }
+}
+
 // The lines behind a table, all of them, and the end, printed as far as they fit. Answers their length.
 fn put_script(
     number: u16,
@@ -32,16 +46,9 @@ fn put_script(
         let printed = scriptText x 1024 (now (text .entry)) in
         ⌜ (r ≡ capped (length printed)) × (length printed ≤ length (now (out .entry)) → now (out .exit) ≡ sets (now (out .entry)) 0 printed) ⌝ }
 {
-    let mut bytes = [0u8; 8192];
-    let rec = &mut bytes[..4 * links];
-    let start = Place {
-        at: 0,
-        progress: Progress {
-            used: 0,
-            held: 0,
-            changed: 0,
-        },
-    };
+    let mut bytes = [0u8; 16384];
+    let rec = &mut bytes[..8 * links];
+    let start = begin();
     let closed = script_steps::steps::take_lines(
         number,
         probes,

@@ -19,8 +19,7 @@ use Rattle.wake_log.specs.declared.Entry.{Entry}
 use Rattle.wake_log.specs.declared.Answer.{Answer}
 use Rattle.wake_log.specs.declared.Answer.the-variants.{Logged, Refused}
 use Rattle.wake_log.specs.Entry.{answerOf, acceptedBy}
-use Rattle.probe_rules.specs.Rules.{entryOf}
-use Rattle.fleet_theory.specs.Fleet.{fleetFault, eventLineFault, eventFault, outcomeOf, linkChanges}
+use Rattle.fleet_theory.specs.Fleet.{fleetFault, eventLineFault, eventFault, entryBy, frameChanges}
 use Rattle.table.specs.Slices.{Slices, tableOf, slicesFault}
 use Rattle.fleet_theory.proofs.Events.{unsentOf}
 use Rattle.fleet.specs.Answers.{Handled, changesBy}
@@ -41,7 +40,7 @@ use Rattle.script_steps.specs.declared.Place.{Place}
 -- What an answer prints and adds, of a line handled.
 module _ (x : Slices) (used room : ℕ) (l r : List ℕ) where
   abbrev entry : Entry
-  entry = entryOf (tableOf x) (frameOf l .to) (outcomeOf (tableOf x) r (frameOf l))
+  entry = entryBy (tableOf x) r (frameOf l)
 
   -- five bytes for each byte of the line are enough
   pub answer-short : 5 ≤ 5 * length l → length (answerLine (answerOf (eventFault x r used room l) entry)) ≤ 5 * length l
@@ -93,7 +92,7 @@ module _ (x : Slices) (fine : slicesFault x ≡ 0) (p : Progress) (room at : ℕ
         bytes = h .record-after;
         used = u ∙ ap (λ (a : Answer). p .used + acceptedBy a) (handled-answer h) ∙ ap (λ (k : ℕ). p .used + k) (taken x (p .used) room l rec);
         changed = c ∙ ap (λ (k : ℕ). (p .changed + k) % 4294967296)
-            (sym (line-changes x fine room rec good (p .used) l answer rec′ h) ∙ ap (λ (r : List ℕ). sum (x .links) (linkChanges rec r)) (h .record-after));
+            (sym (line-changes x fine room rec good (p .used) l answer rec′ h) ∙ ap (λ (r : List ℕ). sum (x .links) (frameChanges (frameOf l) rec r)) (h .record-after));
         held = refl;
         kept = refl;
         at = n ∙ ap (λ (a : Answer). capped (at + length (answerLine a))) (handled-answer h);

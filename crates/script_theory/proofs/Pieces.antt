@@ -15,10 +15,9 @@ use Rattle.range.specs.First.{orElse}
 use Rattle.range.proofs.Faults.{or-right}
 use Rattle.range.proofs.Sums.{sum-add, none-count}
 use Rattle.probe_frame.specs.Frame.{frameOf, frameFault}
-use Rattle.probe_rules.specs.Rules.{entryOf}
-use Rattle.fleet_theory.specs.Fleet.{fleetFault, outcomeOf, faultOf, State, start, accepted, answerTo, next, run, linkChanges, changes, allChanges, finished}
+use Rattle.fleet_theory.specs.Fleet.{fleetFault, entryBy, faultOf, State, start, accepted, answerTo, next, run, frameChanges, changes, allChanges, finished}
 use Rattle.table.specs.Slices.{Slices, tableOf, slicesFault}
-use Rattle.fleet_theory.proofs.Changes.{no-changes}
+use Rattle.fleet_theory.proofs.Changes.{no-frame-changes}
 use Rattle.fleet_theory.proofs.Run.{HoldsAfter, start-holds, fault-is, next-holds}
 use Rattle.script_theory.specs.Script.{answerLine, linesFrom, printed, lastLine, scriptText, Script, afterLine, afterByte, afterPiece, begun, endText, together, carried, printedBy}
 use Rattle.script_theory.proofs.Lines.{same-digits, Unclosed, unclosed-none, unclosed-next, unclosed-rest, unclosed-refused, short-take, take-again, short-or-long}
@@ -70,16 +69,16 @@ module _ (x : Slices) (room : ℕ) where
   beside s changed held out = record { bytes = s .bytes; used = length (s .log); changed = changed; held = held; out = out }
 
   line-beside : (s : State) (c : ℕ) (h o l : List ℕ)
-      → afterLine x room (beside s c h o) l ≡ beside (next x room s l) ((c + sum (x .links) (linkChanges (s .bytes) (next x room s l .bytes))) % 4294967296) [] (o ++ answerLine (answerTo x room s l))
+      → afterLine x room (beside s c h o) l ≡ beside (next x room s l) ((c + sum (x .links) (frameChanges (frameOf l) (s .bytes) (next x room s l .bytes))) % 4294967296) [] (o ++ answerLine (answerTo x room s l))
   unfolding next
   line-beside s c h o l = go (decided (eqb (faultOf x room s l) 0))
     where
       go : (eqb (faultOf x room s l) 0 ≡ true) ⊎ (eqb (faultOf x room s l) 0 ≡ false)
           → afterLine x room (beside s c h o) l
           ≡ (let s′ = cond (eqb (faultOf x room s l) 0) (accepted x s l) s in
-          beside s′ ((c + sum (x .links) (linkChanges (s .bytes) (s′ .bytes))) % 4294967296) [] (o ++ answerLine (answerTo x room s l)))
+          beside s′ ((c + sum (x .links) (frameChanges (frameOf l) (s .bytes) (s′ .bytes))) % 4294967296) [] (o ++ answerLine (answerTo x room s l)))
       go (inl e) =
-          let n : length (s .log) + 1 ≡ length (accepted x s l .log) = sym (length-append (s .log) (entryOf (tableOf x) (frameOf l .to) (outcomeOf (tableOf x) (s .bytes) (frameOf l)) ∷ [])) in
+          let n : length (s .log) + 1 ≡ length (accepted x s l .log) = sym (length-append (s .log) (entryBy (tableOf x) (s .bytes) (frameOf l) ∷ [])) in
           rw (e, n)
       go (inr e) = let n : length (s .log) + 0 ≡ length (s .log) = omega arith in rw (e, n)
 
@@ -90,7 +89,7 @@ module _ (x : Slices) (room : ℕ) where
       let some : eqb (orElse (slicesFault x) (orElse fleet 1)) 0 ≡ false =
       ne-eqb (orElse (slicesFault x) (orElse fleet 1)) 0
       (λ z. let a = or-right fleet 1 (or-right (slicesFault x) (orElse fleet 1) z) in omega arith) in
-      rw (e, e′, some)
+      rw (e, e′, some, no-frame-changes (frameOf l) (p .bytes) (x .links), no-frame-changes (frameOf l′) (p .bytes) (x .links))
 
   -- 16 bytes of a line do as the line
   pub line-cut : (p : Script) (h : List ℕ) → afterLine x room p (take 16 h) ≡ afterLine x room p h
@@ -126,9 +125,9 @@ module _ (x : Slices) (room : ℕ) where
       ∙ rw (append-assoc (p .held) l (10 ∷ []))
 
   changes-first : (s : State) (l : List ℕ) (ls : List (List ℕ))
-      → allChanges x room s (l ∷ ls) ≡ sum (x .links) (linkChanges (s .bytes) (next x room s l .bytes)) + allChanges x room (next x room s l) ls
+      → allChanges x room s (l ∷ ls) ≡ sum (x .links) (frameChanges (frameOf l) (s .bytes) (next x room s l .bytes)) + allChanges x room (next x room s l) ls
   unfolding changes
-  changes-first s l ls = sum-add (x .links) (linkChanges (s .bytes) (next x room s l .bytes)) (changes x room (next x room s l) ls)
+  changes-first s l ls = sum-add (x .links) (frameChanges (frameOf l) (s .bytes) (next x room s l .bytes)) (changes x room (next x room s l) ls)
 
   changes-none : (s : State) → allChanges x room s [] ≡ 0
   unfolding changes
@@ -151,9 +150,9 @@ module _ (x : Slices) (room : ℕ) where
     refused-stays s l f =
         let stays : next x room s l ≡ s = rw f in
         let n = changes-first s l [] in
-        let m = ap (λ (s′ : State). sum (x .links) (linkChanges (s .bytes) (s′ .bytes)) + allChanges x room s′ []) stays in
+        let m = ap (λ (s′ : State). sum (x .links) (frameChanges (frameOf l) (s .bytes) (s′ .bytes)) + allChanges x room s′ []) stays in
         let k = changes-none s in
-        let w = no-changes (s .bytes) (x .links) in
+        let w = no-frame-changes (frameOf l) (s .bytes) (x .links) in
         (stays, omega arith)
 
     ends : (s : State) → HoldsAfter (tableOf x) s → (c : ℕ) (h o : List ℕ) → Unclosed h → Prints s c h o []
@@ -179,7 +178,7 @@ module _ (x : Slices) (room : ℕ) where
             q .out ++ endText x (q .bytes) (length (q .held)) (q .changed) ≡ o ++ (printed x room s ls ++ lastLine (finished (tableOf x) (run x room s ls .bytes)) (c + allChanges x room s ls)))
         go (inl e) rest =
             let s′ = next x room s l in
-            let k : ℕ = sum (x .links) (linkChanges (s .bytes) (s′ .bytes)) in
+            let k : ℕ = sum (x .links) (frameChanges (frameOf l) (s .bytes) (s′ .bytes)) in
             let ls = linesFrom [] bs in
             let a = answerLine (answerTo x room s l) in
             let done = lastLine (finished (tableOf x) (run x room s′ ls .bytes)) in
@@ -223,7 +222,7 @@ module _ (x : Slices) (room : ℕ) where
             (q .bytes ≡ run x room s ls .bytes) × (q .used ≡ length (run x room s ls .log)) × (q .changed ≡ (c + allChanges x room s ls) % 4294967296))
         go (inl e) rest =
             let s′ = next x room s l in
-            let k : ℕ = sum (x .links) (linkChanges (s .bytes) (s′ .bytes)) in
+            let k : ℕ = sum (x .links) (frameChanges (frameOf l) (s .bytes) (s′ .bytes)) in
             let ls = linesFrom [] bs in
             let c′ : ℕ = (c + k) % 4294967296 in
             let r = rest s′ (next-holds x fine s hs room l) c′ (omega arith) [] (o ++ answerLine (answerTo x room s l)) unclosed-none in

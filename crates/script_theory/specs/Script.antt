@@ -15,8 +15,7 @@ use Rattle.wake_log.specs.declared.Answer.{Answer}
 use Rattle.wake_log.specs.declared.Answer.the-variants.{Logged, Refused}
 use Rattle.wake_log.specs.Entry.{answerOf, codeOf, linkOf, displacedOf}
 use Rattle.probe_frame.specs.Frame.{frameOf}
-use Rattle.probe_rules.specs.Rules.{entryOf}
-use Rattle.fleet_theory.specs.Fleet.{eventFault, outcomeOf, alteredBy, State, start, answerTo, next, run, linkChanges, allChanges, finished}
+use Rattle.fleet_theory.specs.Fleet.{eventFault, entryBy, alteredBy, State, start, answerTo, next, run, frameChanges, allChanges, finished}
 use Rattle.table.specs.Slices.{Slices, tableOf}
 
 -- "the entry: probe, what (two digits), link's place in the table from 0, displaced probe; four digits each but for the second"
@@ -83,7 +82,7 @@ module _ (x : Slices) (room : ℕ) where
 
   abbrev pub answered : Script → List ℕ → Answer
   answered p l =
-      answerOf (eventFault x (p .bytes) (p .used) room l) (entryOf (tableOf x) (frameOf l .to) (outcomeOf (tableOf x) (p .bytes) (frameOf l)))
+      answerOf (eventFault x (p .bytes) (p .used) room l) (entryBy (tableOf x) (p .bytes) (frameOf l))
 
   -- after a line, a byte, and a piece of the text
   abbrev pub afterLine : Script → List ℕ → Script
@@ -91,7 +90,7 @@ module _ (x : Slices) (room : ℕ) where
       record {
         bytes = bytesAfter p l;
         used = p .used + cond (eqb (eventFault x (p .bytes) (p .used) room l) 0) 1 0;
-        changed = (p .changed + sum (x .links) (linkChanges (p .bytes) (bytesAfter p l))) % 4294967296;
+        changed = (p .changed + sum (x .links) (frameChanges (frameOf l) (p .bytes) (bytesAfter p l))) % 4294967296;
         held = [];
         out = p .out ++ answerLine (answered p l);
       }

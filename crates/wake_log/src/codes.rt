@@ -19,6 +19,7 @@ pub fn code(what: What) -> u8
         What::RefusalLearnt(_) => 5,
         What::NoChange(_) => 6,
         What::AllTried => 7,
+        What::Restarted => 8,
     }
 }
 
@@ -35,6 +36,7 @@ pub fn link_place(what: What) -> u16
         What::RefusalLearnt(link) => link,
         What::NoChange(link) => link,
         What::AllTried => 65535,
+        What::Restarted => 65535,
     }
 }
 
@@ -51,5 +53,6 @@ pub fn displaced_probe(what: What) -> u16
         What::RefusalLearnt(_) => 65535,
         What::NoChange(_) => 65535,
         What::AllTried => 65535,
+        What::Restarted => 65535,
     }
 }

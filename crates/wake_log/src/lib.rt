@@ -17,6 +17,7 @@ pub enum What {
     RefusalLearnt(u16),
     NoChange(u16),
     AllTried,
+    Restarted,
 }
 
 pub struct Entry {

@@ -30,8 +30,10 @@ fn fuzz_plans() {
 #[test]
 fn fuzz_scripts() {
     let tally = reached(72, 350_000, fuzz::script);
-    tally.assert_share(&CODES, 1_000);
-    tally.assert_share(&["finished after changes", "not finished"], 1_000);
+    let [others @ .., restarted] = CODES;
+    tally.assert_share(&others, 1_000);
+    tally.assert_share(&["not finished"], 1_000);
+    tally.assert_share(&[restarted, "finished after changes"], 800);
     tally.assert_share(&["finished from the start"], 300);
     let refusals = ["e001", "e002", "e009", "e023", "e024", "e027"];
     tally.assert_share(&refusals, 300);
@@ -42,4 +44,5 @@ fn fuzz_scripts() {
     tally.assert_share(&of_tables.each_ref().map(|refused| &refused[..]), 25);
     tally.assert_none("table e007");
     tally.assert_none("e007");
+    tally.assert_none("e025");
 }

@@ -10,7 +10,7 @@ use planner_tests::compare_script::{in_pieces, text, Pieces};
 use planner_tests::ends::{Entry, What};
 use planner_tests::events::own_links;
 use planner_tests::ffi;
-use planner_tests::fleet::{own_record, Site, BYTES};
+use planner_tests::fleet::{own_record, with_marks, without_marks, Site, MARKS};
 use planner_tests::lines::{offer, opening, refusal};
 use planner_tests::random::Random;
 use planner_tests::reference::{table_of_text, Behind, Caller, Table};
@@ -192,7 +192,7 @@ fn every_link_refused_goes_by_the_spare() {
     for (probe, what) in [(0, What::AllTried), (1, What::Enough), (2, What::AllTried)] {
         for need in [2, 3, 65_535] {
             let table = site(&[[0, 1, 5], [1, 2, 6]], &[0, need, 0]);
-            let record = [2, 0, 2, 0, 2, 0, 2, 0];
+            let record = with_marks(&[2, 0, 2, 0, 2, 0, 2, 0]);
             let entry = Entry { probe, what };
             end_says(&table, &own_record(&table, probe, &record), entry);
             fleet_says(&table, &record, entry);
@@ -217,7 +217,7 @@ fn all_refused_is_all_tried() {
 #[test]
 fn fewer_standing_and_the_rest_refused_is_all_tried() {
     let case = forked([0, 0, 1], one_refused());
-    assert_eq!(case.record(), [1, 0, 0, 0, 2, 2, 0, 0]);
+    assert_eq!(without_marks(&case.record()), [1, 0, 0, 0, 2, 2, 0, 0]);
     case.says(What::AllTried);
 }
 
@@ -247,7 +247,7 @@ fn spare_standing_with_none_untried_is_enough() {
     m4.says(What::Enough);
     forked([0, 0, 1], vec![opening(0), opening(0)]).says(What::Enough);
     let case = forked([1, 0, 1], one_refused());
-    assert_eq!(case.record(), [1, 0, 0, 0, 2, 2, 0, 0]);
+    assert_eq!(without_marks(&case.record()), [1, 0, 0, 0, 2, 2, 0, 0]);
     case.says(What::Enough);
 }
 
@@ -348,7 +348,8 @@ fn every_record_of_a_fleet() {
     let checks = Site::of_legal(table.clone());
     let mut fleet = Fleet::fresh(&table);
     let (mut records, mut counted) = (0, Counted::default());
-    for record in every_choice(BYTES * table.links.len()) {
+    for bytes in every_choice(MARKS * table.links.len()) {
+        let record = with_marks(&bytes);
         if checks.check_record(&record).is_err() {
             continue;
         }

@@ -6,6 +6,7 @@ use planner_tests::random::Random;
 use planner_tests::reference::{plan_output, table_of_text, Behind, Caller, Table};
 use planner_tests::repository::{program, top};
 use planner_tests::samples::{self, input, M11, M11_PRINTED, M4, M4_PRINTED};
+use planner_tests::samples::{LATE, LATE_PRINTED, LATE_SCRIPT, RESTARTED, RESTARTED_PRINTED};
 use planner_tests::samples::{VALLEY, VALLEY_PLANNED, VALLEY_PRINTED, VALLEY_SCRIPT};
 use planner_tests::script;
 use planner_tests::sites::{damage_text, legal_of_size, marked, set_needs, M2};
@@ -126,10 +127,29 @@ fn samples() {
         ("examples/m4.script", input(3, &M4), &M4_PRINTED[..]),
         ("examples/m11.script", input(1, &M11), &M11_PRINTED),
         ("examples/valley.script", script, &VALLEY_PRINTED),
+        (
+            "examples/restart.script",
+            input(1, &RESTARTED),
+            &RESTARTED_PRINTED,
+        ),
     ];
     for (path, input, printed) in scripts {
         assert_eq!(file(path), input);
         assert_eq!(run("script", &input, &WHOLE), samples::text(printed));
+    }
+}
+
+/// 02's restarts: a late frame that alters a finished fleet, and a restart of each probe in M11.
+#[test]
+fn restarts() {
+    let late = [&LATE[..], &LATE_SCRIPT].map(samples::text).concat();
+    for (input, printed) in [
+        (late, &LATE_PRINTED[..]),
+        (input(1, &RESTARTED), &RESTARTED_PRINTED),
+    ] {
+        for sizes in [&WHOLE[..], &ODD] {
+            assert_eq!(run("script", &input, sizes), samples::text(printed));
+        }
     }
 }
 

@@ -2,7 +2,7 @@
 
 use planner_tests::compare;
 use planner_tests::random::{each_seed, Random};
-use planner_tests::reference::{text_length, Behind, Caller, WITHDRAWN};
+use planner_tests::reference::{text_length, Behind, Caller};
 use planner_tests::sites::{self, Numbers};
 
 const CASES: u64 = 12_000;
@@ -77,7 +77,7 @@ fn damaged_tables() {
         let (checked, _) = check_plan_and_write(&numbers, random);
         tally[checked.err().unwrap_or(0) as usize] += 1;
     });
-    assert_eq!(tally[usize::from(WITHDRAWN)], 0);
+    assert_eq!(tally[7], 0);
     let often = |answer: usize| tally[answer] > 300;
     assert!([0, 3, 4, 5, 8].into_iter().all(often), "{tally:?}");
 }

@@ -2,7 +2,7 @@
 
 use planner_tests::compare;
 use planner_tests::random::{each_seed, Random};
-use planner_tests::reference::{plan_output, Behind, Caller, Table, WITHDRAWN};
+use planner_tests::reference::{plan_output, Behind, Caller, Table};
 use planner_tests::sites::{self, Numbers};
 
 const CASES: u64 = 12_000;
@@ -40,7 +40,7 @@ impl Tally {
     /// Each of these refusals came more often than this, and a withdrawn one never.
     #[track_caller]
     fn assert_refused(&self, refusals: &[usize], times: usize) {
-        assert_eq!(self.refused[usize::from(WITHDRAWN)], 0);
+        assert_eq!(self.refused[7], 0);
         let often = |&refusal: &usize| self.refused[refusal] > times;
         assert!(refusals.iter().all(often), "{self:?}");
     }

@@ -7,6 +7,7 @@ use planner_tests::compare_fleet::Fleet;
 use planner_tests::compare_script::{in_pieces, text};
 use planner_tests::ends::{Entry, Kind, What, LINE};
 use planner_tests::events::{any_table, each_table, own_links};
+use planner_tests::fleet::with_marks;
 use planner_tests::lines::{offer, opening, refusal};
 use planner_tests::random::{each_seed, Random};
 use planner_tests::reference::{table_of_text, Behind, Caller, Table};
@@ -269,12 +270,12 @@ fn record_of_a_short_probe() {
             assert_eq!(end.rests(0).err(), number);
         }
     }
-    // Outbound from 1, inbound at 1, of its two links, which have places 0 and 2.
+    // Outbound from 1, inbound at 1, of its two links, which have places 0 and 2, at four bytes a link.
     for place in [2, 1, 8, 11] {
         for (byte, number) in [(1, Some(22)), (2, None)] {
-            let mut record = [0; 16];
-            record[place] = byte;
-            let mut fleet = Fleet::with(&valley(), &record);
+            let mut bytes = [0; 16];
+            bytes[place] = byte;
+            let mut fleet = Fleet::with(&valley(), &with_marks(&bytes));
             assert_eq!(fleet.finished().err(), number);
             assert_eq!(fleet.event(&opening(1), 0, 1).err(), number);
         }

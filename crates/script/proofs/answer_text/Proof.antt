@@ -8,7 +8,7 @@ use lib.Seq.{length-take-le}
 use Rattle.output.proofs.Printing.{printed-within}
 use mathlib.Core.Bool.{true}
 use Rattle.table_laws.proofs.Reading.{read-fine}
-use Rattle.script.proofs.Answered.{answered-within}
+use Rattle.script.proofs.Answered.{answers-within}
 
 slice-reshare-prefix-read-table-prefix : tie.Need-slice-reshare-prefix-read-table-prefix
 slice-reshare-prefix-read-table-prefix c = search needs
@@ -67,28 +67,11 @@ answer-script-requires c κs =
     let m = length-take-le 4096 (s .args .text .now) (s .pre .1) in
     (read-fine 256 2048 true _ _ _ _ (at-read-table-prefix .read-table-prefix .ensures) _ _ _ _ (at-read .read .given .1), omega arith, search needs)
 
-enum-known-ending : tie.Need-enum-known-ending
-enum-known-ending c = search needs
+slice-aggregate-write-ending : tie.Need-slice-aggregate-write-ending
+slice-aggregate-write-ending c = search needs
 
-array-share-prefix-out : tie.Need-array-share-prefix-out
-array-share-prefix-out c =
-    let at-ending = c .before in
-    let k = at-ending .before .before .before .before .before .answer-script in
-    let l = answered-within (rw (at-ending .ending .given .1) at (k .ensures)) in
-    omega (arith, k .kept .1 .1 .1 .1 .1 .1 .1 .1 .0)
-
-slice-aggregate-write : tie.Need-slice-aggregate-write
-slice-aggregate-write c =
-    let at-ending = c .before .before in
-    let k = at-ending .before .before .before .before .before .answer-script in
-    let l = answered-within (rw (at-ending .ending .given .1) at (k .ensures)) in
-    sym (length-take-le _ (k .last .1 .1 .1 .1 .1 .1 .1 .1 .0) l)
-
-write-requires : tie.Need-write-requires
-write-requires c κs = search needs
-
-enum-told : tie.Need-enum-told
-enum-told c = search needs
+write-ending-requires : tie.Need-write-ending-requires
+write-ending-requires c κs = answers-within _ _ _ (c .before .before .before .before .answer-script .ensures)
 
 enum-known-read-2 : tie.Need-enum-known-read-2
 enum-known-read-2 c = search needs
@@ -99,20 +82,20 @@ slice-aggregate-refuse c = search needs
 refuse-requires : tie.Need-refuse-requires
 refuse-requires c κs = search needs
 
-array-share-prefix-out-2 : tie.Need-array-share-prefix-out-2
-array-share-prefix-out-2 c =
+array-share-prefix-out : tie.Need-array-share-prefix-out
+array-share-prefix-out c =
     let k = c .before .refuse in
     let l = printed-within _ _ _ _ _ _ (k .ensures) refl (k .kept .1 .0) .1 in
     omega (arith, k .kept .1 .0)
 
-slice-aggregate-write-2 : tie.Need-slice-aggregate-write-2
-slice-aggregate-write-2 c =
+slice-aggregate-write : tie.Need-slice-aggregate-write
+slice-aggregate-write c =
     let k = c .before .before .refuse in
     let l = printed-within _ _ _ _ _ _ (k .ensures) refl (k .kept .1 .0) .1 in
     sym (length-take-le _ (k .last .1 .0) (omega (arith, k .kept .1 .0)))
 
-write-requires-2 : tie.Need-write-requires-2
-write-requires-2 c κs = search needs
+write-requires : tie.Need-write-requires
+write-requires c κs = search needs
 
 same-length : tie.Need-same-length
 same-length c = search needs
@@ -125,12 +108,6 @@ same-length-2 c = search needs
 
 returns-2 : tie.Need-returns-2
 returns-2 c = search needs
-
-same-length-3 : tie.Need-same-length-3
-same-length-3 c = search needs
-
-returns-3 : tie.Need-returns-3
-returns-3 c = search needs
 
 pub answer-text-spec : {M : Type 1} → statement M
 answer-text-spec =
@@ -152,20 +129,15 @@ answer-text-spec =
     slice-aggregate-answer-script-5
     slice-aggregate-answer-script-6
     answer-script-requires
-    enum-known-ending
-    array-share-prefix-out
-    slice-aggregate-write
-    write-requires
-    enum-told
+    slice-aggregate-write-ending
+    write-ending-requires
     enum-known-read-2
     slice-aggregate-refuse
     refuse-requires
-    array-share-prefix-out-2
-    slice-aggregate-write-2
-    write-requires-2
+    array-share-prefix-out
+    slice-aggregate-write
+    write-requires
     same-length
     returns
     same-length-2
-    returns-2
-    same-length-3
-    returns-3)
+    returns-2)

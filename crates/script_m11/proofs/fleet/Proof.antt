@@ -8,7 +8,7 @@ use Rattle.script_m11.proofs.fleet.Statement.{statement}
 use Rattle.script_m11.proofs.fleet.Tie as tie
 
 abbrev Inv-loop : tie.InvT-loop
-Inv-loop rec₀ entries₀ k₀ t5 t6 t7 t8 t9 rec entries k = (length rec ≡ 12) × (k ≤ 10)
+Inv-loop rec₀ entries₀ k₀ t5 t6 t7 t8 t9 rec entries k = (length rec ≡ 24) × (k ≤ 10)
 
 abbrev μ-loop : tie.MeasureT-loop
 μ-loop rec₀ entries₀ k₀ t5 t6 t7 t8 t9 rec entries k = 10 - k

@@ -4,7 +4,7 @@ use super::SMALL;
 use planner_tests::compare;
 use planner_tests::random::{each_seed, Random};
 use planner_tests::reference::{
-    plan_output, refusal_line, text_length, Behind, Caller, Slices, Table, DISPLAY, WITHDRAWN,
+    plan_output, refusal_line, text_length, Behind, Caller, Slices, Table, DISPLAY,
 };
 use planner_tests::sites::{damage_table, damage_text, legal_of_size, lengths, Numbers};
 
@@ -60,7 +60,7 @@ impl Tally {
     /// Each came more often than this, among the answers accepting and these refusals.
     #[track_caller]
     fn assert_often(&self, refusals: &[usize], times: usize) {
-        assert_eq!(self.answers[usize::from(WITHDRAWN)], 0);
+        assert_eq!(self.answers[7], 0);
         let own = [self.own, self.own_before_another, self.answers[0]];
         let refused = refusals.iter().map(|&refusal| self.answers[refusal]);
         let often = own.into_iter().chain(refused).all(|count| count > times);

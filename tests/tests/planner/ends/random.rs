@@ -71,8 +71,8 @@ fn records_reached_and_frames_that_may_arrive() {
         }
     });
     assert_eq!(tally.refused[..24], [0; 24]);
-    tally.assert_often(&[24, 25, 26]);
-    tally.assert_each_befell(300);
+    tally.assert_often(&[24, 26]);
+    tally.assert_each_befell_an_end(300);
     assert!(tally.answers() > 50_000);
 }
 
@@ -87,7 +87,7 @@ fn damaged_frames() {
             tally.count(call(&mut end, &line, table, random));
         }
     });
-    tally.assert_often(&[1, 2, 9, 23, 24, 25, 26]);
+    tally.assert_often(&[1, 2, 9, 23, 24, 26]);
     assert!(tally.answers() > 30_000);
 }
 
@@ -110,7 +110,7 @@ fn damaged_records() {
             end.record.clone_from(&record);
         }
     });
-    tally.assert_often(&[1, 2, 9, 20, 21, 22, 23, 24, 25, 26]);
+    tally.assert_often(&[1, 2, 9, 20, 21, 22, 23, 24, 26]);
     assert!(tally.answers() > 30_000);
 }
 

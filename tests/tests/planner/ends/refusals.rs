@@ -188,6 +188,7 @@ fn link_not_its_own() {
     }
 }
 
+/// It is learnt as any other.
 #[test]
 fn refusal_where_outbound_is_0() {
     for inbound in [0, 1, 2] {
@@ -196,7 +197,7 @@ fn refusal_where_outbound_is_0() {
             let befell = end.hear(&refusal(2, 1), 1);
             (befell, end.record[2])
         };
-        assert_eq!(hear(0), (Err(25), 0));
+        assert_eq!(hear(0), (Ok(What::Learnt(1)), 2));
         assert_eq!(hear(1), (Ok(What::Learnt(1)), 2));
         assert_eq!(hear(2), (Ok(What::NoChange(1)), 2));
     }
@@ -214,7 +215,7 @@ fn full_log() {
     assert_eq!(end.hear(&offer(2, 1), 0), Err(26));
     assert_eq!(end.hear(&refusal(2, 1), 0), Err(26));
     // A frame that is turned down anyway, and asking, take none.
-    assert_eq!(end.hear(&refusal(0, 1), 0), Err(25));
+    assert_eq!(end.hear(&refusal(3, 1), 0), Err(24));
     assert_eq!(end.ask(Kind::Offer, 1, LINE), Ok(Some(offer(1, 2))));
 }
 
@@ -260,9 +261,8 @@ const OF_RECORD: [Fault<Call>; 3] = [
     (|call| call.end.record[..4].fill(1), 22),
 ];
 
-const OF_FRAME: [Fault<Call>; 3] = [
+const OF_FRAME: [Fault<Call>; 2] = [
     (|call| call.line[13] = b'0', 24),
-    (|call| call.line[1] = b'2', 25),
     (|call| call.free = 0, 26),
 ];
 
@@ -277,12 +277,12 @@ fn order_of_refusals() {
     let faults = [&of_table(), &OF_RECORD[..], &of_line(), &OF_FRAME].concat();
     each_choice(&faults, fresh, |call, refusals| {
         let (mut end, line, free) = (call.end, call.line, call.free);
-        let of_state = first_but(refusals, &[1, 2, 9, 23, 24, 25, 26]);
+        let of_state = first_but(refusals, &[1, 2, 9, 23, 24, 26]);
         assert_eq!(end.rests(1).err(), of_state);
         assert_eq!(end.ask(Kind::Offer, 2, LINE).err(), of_state.or(Some(24)));
         assert_eq!(end.ask(Kind::Offer, 2, LINE - 1), Err(8));
         assert_eq!(end.hear(&line, free).err(), first_but(refusals, &[]));
-        let of_opening = first_but(refusals, &[1, 2, 9, 23, 24, 25]);
+        let of_opening = first_but(refusals, &[1, 2, 9, 23, 24]);
         assert_eq!(end.open(free).err(), of_opening);
     });
 }

@@ -159,8 +159,9 @@ fn answers_as_numbers() {
     assert_eq!(hear(b"01000100020001\n"), 0x8000_0103_0001_0000);
     assert_eq!(hear(b"02000100020001\n"), 0x8000_0105_0001_ffff);
     assert_eq!(hear(b"02000100020001\n"), 0x8000_0106_0001_ffff);
-    assert_eq!(hear(b"02000100000001\n"), 25);
-    assert_eq!(record, [0, 2, 2, 1, 0, 0]);
+    assert_eq!(hear(b"02000100000001\n"), 0x8000_0105_0000_ffff);
+    assert_eq!(hear(b"03000100010001\n"), 9);
+    assert_eq!(record, [2, 2, 2, 1, 0, 0]);
     let opened = ffi::probe_open(numbers.slices(), 0, &mut [2, 0, 0, 0, 0, 0], 1);
     assert_eq!(opened, 0x8000_0007_ffff_ffff);
     let mut out = [9; 17];

@@ -3,7 +3,7 @@
 use planner_tests::channel::{any_mix, Channel};
 use planner_tests::compare_ends::End;
 use planner_tests::compare_fleet::Fleet;
-use planner_tests::ends::{Entry, Frame, Kind, LINE};
+use planner_tests::ends::{Entry, Frame, Kind, What, LINE};
 use planner_tests::events::each_table;
 use planner_tests::fleet::own_record;
 use planner_tests::random::Random;
@@ -15,14 +15,20 @@ fn end_of(table: &Table, probe: u16, record: &[u8]) -> End {
     end
 }
 
-/// The end that opens or hears does the same alone.
+/// The end that opens or hears does the same alone. One that restarts is fresh; it knows no such
+/// frame.
 #[track_caller]
 fn same_alone(table: &Table, before: &[u8], line: &[u8], entry: Entry, after: &[u8]) {
     let mut end = end_of(table, entry.probe, before);
-    let opens = Frame::of_line(line).map(|frame| frame.kind) == Ok(0);
-    let alone = match opens {
-        true => end.open(1),
-        false => end.hear(line, 1),
+    let kind = Frame::of_line(line).map(|frame| frame.kind);
+    let alone = match kind {
+        Ok(0) => end.open(1),
+        Ok(3) => {
+            assert_eq!(end.hear(line, 1), Err(9));
+            end = End::fresh(table, entry.probe);
+            Ok(What::Restarted)
+        }
+        _ => end.hear(line, 1),
     };
     assert_eq!(alone, Ok(entry.what));
     assert_eq!(end.record, own_record(table, entry.probe, after));
@@ -47,7 +53,7 @@ fn asked(table: &Table, record: &[u8], random: &mut Random) -> usize {
 
 #[test]
 fn ends_beside_the_fleet() {
-    let (mut accepted, mut written) = (0, 0);
+    let (mut accepted, mut restarted, mut written) = (0, 0, 0);
     each_table(40, 600, |table, random| {
         let mut fleet = Fleet::fresh(table);
         let mut channel = Channel::over(table, any_mix(random));
@@ -57,6 +63,7 @@ fn ends_beside_the_fleet() {
                 if let Ok(entry) = fleet.event(&line, 0, 1) {
                     same_alone(table, &before, &line, entry, fleet.record());
                     accepted += 1;
+                    restarted += usize::from(entry.what == What::Restarted);
                 }
             }
             if !table.links.is_empty() {
@@ -64,5 +71,9 @@ fn ends_beside_the_fleet() {
             }
         }
     });
-    assert!(accepted > 10_000 && written > 3_000, "{accepted} {written}");
+    let reached = [accepted, restarted, written];
+    assert!(
+        accepted > 10_000 && restarted > 300 && written > 3_000,
+        "{reached:?}"
+    );
 }

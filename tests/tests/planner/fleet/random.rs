@@ -1,9 +1,9 @@
 //! Random tables, records and lines, legal and damaged.
 
-use planner_tests::channel::{any_bytes, any_frame, any_mix, any_opening, Channel};
+use planner_tests::channel::{any_bytes, any_frame, any_mix, any_opening, any_restart, Channel};
 use planner_tests::compare_fleet::Fleet;
 use planner_tests::events::{any_room, damaged_line, each_table, of_state};
-use planner_tests::fleet::BYTES;
+use planner_tests::fleet::{permits, BYTES, MARKS};
 use planner_tests::random::Random;
 use planner_tests::reference::Table;
 use planner_tests::sites::Numbers;
@@ -30,10 +30,11 @@ fn hear_next(fleet: &mut Fleet, channel: &mut Channel, random: &mut Random) -> V
     last
 }
 
-/// An opening or a frame; with damage in its numbers, its bytes or both, or of any bytes.
+/// An opening, a restart or a frame; with damage in its numbers, its bytes or both, or of any bytes.
 fn any_line(table: &Table, damaged: bool, random: &mut Random) -> Vec<u8> {
     let (opening, frame) = (any_opening(table, random), any_frame(table, random));
-    let frame = random.pick(&[opening, frame, frame]);
+    let restart = any_restart(table, random);
+    let frame = random.pick(&[opening, opening, restart, frame, frame, frame]);
     if !damaged {
         return frame.line();
     }
@@ -102,7 +103,10 @@ fn any_record(table: &Table, random: &mut Random) -> Vec<u8> {
                 1 if *left == 0 => random.pick(&[0, 2]),
                 _ => byte,
             };
-            *left -= usize::from(record[BYTES * place + at] == 1);
+            let byte = record[BYTES * place + at];
+            *left -= usize::from(byte == 1);
+            let mark = permits(at, byte) || random.one_in(2);
+            record[BYTES * place + MARKS + at] = u8::from(mark);
         }
     }
     record
@@ -128,14 +132,20 @@ fn records_from_outside() {
 /// Makes the record one that 20, 21 or 22 may refuse.
 fn damage_record(record: &mut Vec<u8>, random: &mut Random) {
     let any = random.byte();
-    let place = random.below(record.len().max(1));
-    match random.below(8) {
+    let links = record.len() / BYTES;
+    let at = random.below(MARKS);
+    let byte = BYTES * random.below(links.max(1)) + at;
+    match random.below(24) {
         0 => drop(record.pop()),
         1 => record.push(random.pick(&[0, 1, any])),
-        2 => record.resize(random.below(record.len() + 5), 0),
-        _ if record.is_empty() => record.push(1),
-        3 => record[place] = random.pick(&[3, 3, 255, any]),
-        _ => record[place] = 1,
+        2 => record.resize(MARKS * links, 0),
+        3 => record.resize(random.below(record.len() + 9), 0),
+        _ if links == 0 => record.push(1),
+        4 | 5 => record[byte] = random.pick(&[3, 3, 255, any]),
+        6 | 7 => record[byte + MARKS] = random.pick(&[2, 2, 255, any]),
+        // A byte that permits its frame, without its mark.
+        8 | 9 => (record[byte], record[byte + MARKS]) = ([1, 2][at % 2], 0),
+        _ => (record[byte], record[byte + MARKS]) = (1, 1),
     }
 }
 

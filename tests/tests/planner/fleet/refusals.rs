@@ -1,14 +1,17 @@
 //! Bad records and lines, each with its refusal, and the order of refusals.
 
-use super::{befell, m2, m2_with};
+use super::{befell, m2, m2_with, m2_with_bytes};
 use planner_tests::compare_fleet::Fleet;
 use planner_tests::ends::{Entry, Frame, What};
 use planner_tests::faults::{each_choice, first_but, of_line, of_table, Fault};
-use planner_tests::lines::{self, line, offer, opening, refusal};
+use planner_tests::fleet::{permits, with_marks, BYTES, MARKS};
+use planner_tests::lines::{self, line, offer, opening, refusal, restart};
 use planner_tests::sites::{marked, site, Numbers};
 
 /// Probe 1 offers 1-2, and nothing else has happened.
-const OFFERED: [u8; 12] = [0, 0, 0, 0, 1, 0, 0, 0, 0, 0, 0, 0];
+const OFFERED: [u8; 24] = [
+    0, 0, 0, 0, 0, 0, 0, 0, 1, 0, 0, 0, 1, 0, 0, 0, 0, 0, 0, 0, 0, 0, 0, 0,
+];
 
 /// What a fleet with that offer makes of a line.
 #[track_caller]
@@ -27,9 +30,13 @@ fn all_refused(lines: Vec<Vec<u8>>, number: u8) {
 /// The record is turned down by each call, whatever the line.
 #[track_caller]
 fn refused(mut fleet: Fleet, number: u8) {
-    for line in [opening(1), offer(1, 2), refusal(1, 2), b"x".to_vec()] {
-        assert_eq!(fleet.event(&line, 0, 1), Err(number));
-        assert_eq!(fleet.event(&line, 1, 1), Err(number));
+    let frames = [offer(1, 2), refusal(1, 2)];
+    for line in [opening(1), restart(1), b"x".to_vec()]
+        .iter()
+        .chain(&frames)
+    {
+        assert_eq!(fleet.event(line, 0, 1), Err(number));
+        assert_eq!(fleet.event(line, 1, 1), Err(number));
     }
     assert_eq!(fleet.finished(), Err(number));
 }
@@ -40,14 +47,15 @@ fn accepted(mut fleet: Fleet) {
     assert!(fleet.finished().is_ok());
     for probe in 0..4 {
         assert!(fleet.event(&opening(probe), 0, 1).is_ok());
+        assert!(fleet.event(&restart(probe), 0, 1).is_ok());
     }
 }
 
 #[test]
 fn record_of_the_wrong_length() {
-    for length in (0..26).chain([4096, 65_536]) {
+    for length in (0..50).chain([4096, 65_536]) {
         match length {
-            12 => accepted(m2_with(&vec![0; length])),
+            24 => accepted(m2_with(&vec![0; length])),
             _ => refused(m2_with(&vec![0; length]), 20),
         }
     }
@@ -56,24 +64,54 @@ fn record_of_the_wrong_length() {
     refused(Fleet::with(&marked(2), &[0]), 20);
 }
 
+/// The places of the links' bytes, each with its place among its link's.
+fn byte_places() -> impl Iterator<Item = (usize, usize)> {
+    (0..3).flat_map(|link| (0..MARKS).map(move |at| (BYTES * link + at, at)))
+}
+
 #[test]
-fn record_with_a_byte_over_2() {
-    for place in 0..12 {
-        for byte in 3..=255 {
-            let mut record = OFFERED;
-            record[place] = byte;
-            refused(m2_with(&record), 21);
+fn record_with_a_byte_over_2_or_a_mark_over_1() {
+    for (place, _) in byte_places() {
+        for (place, least) in [(place, 3), (place + MARKS, 2)] {
+            for byte in least..=255 {
+                let mut record = OFFERED;
+                record[place] = byte;
+                refused(m2_with(&record), 21);
+            }
         }
     }
 }
 
-/// Probe 1's outbound bytes are 2 and 4, its inbound ones 1 and 7; probe 2's are 6 and 8, 5 and 11.
+/// A mark may be 1 whatever its byte is, and 0 unless the byte permits its frame.
+#[test]
+fn record_with_a_mark_of_0_while_its_byte_permits() {
+    let mut times = 0;
+    for (place, at) in byte_places() {
+        for byte in 0..=2 {
+            let with_mark = |mark| {
+                let mut record = [0; 24];
+                (record[place], record[place + MARKS]) = (byte, mark);
+                m2_with(&record)
+            };
+            accepted(with_mark(1));
+            match permits(at, byte) {
+                true => refused(with_mark(0), 21),
+                false => accepted(with_mark(0)),
+            }
+            times += usize::from(permits(at, byte));
+        }
+    }
+    assert_eq!(times, 12);
+}
+
+/// Of four bytes a link, probe 1's outbound ones are 2 and 4, its inbound ones 1 and 7; probe 2's are
+/// 6 and 8, 5 and 11.
 #[test]
 fn more_standing_or_more_held_than_spare() {
     let record_with = |places: &[usize], byte: u8| {
         let mut record = [0; 12];
         places.iter().for_each(|&place| record[place] = byte);
-        m2_with(&record)
+        m2_with_bytes(&record)
     };
     for places in [[2, 4], [1, 7], [6, 8], [5, 11]] {
         refused(record_with(&places, 1), 22);
@@ -92,10 +130,11 @@ fn one_standing_or_held_at_spare_0() {
     for (place, number) in [(0, 22), (1, 0), (2, 0), (3, 22)] {
         let mut record = [0; 4];
         record[place] = 1;
-        let fleet = Fleet::with(&table, &record);
+        let fleet = Fleet::with(&table, &with_marks(&record));
         assert_eq!(fleet.finished().err().unwrap_or(0), number);
         record[place] = 2;
-        assert!(Fleet::with(&table, &record).finished().is_ok());
+        let fleet = Fleet::with(&table, &with_marks(&record));
+        assert!(fleet.finished().is_ok());
     }
 }
 
@@ -127,7 +166,7 @@ fn byte_that_is_no_digit() {
 
 #[test]
 fn kind_with_no_meaning_here() {
-    for kind in 3..=255 {
+    for kind in 4..=255 {
         assert_eq!(heard(&line(kind, 1, 2)), Err(9));
         assert_eq!(heard(&line(kind, 1, 1)), Err(9));
     }
@@ -136,7 +175,7 @@ fn kind_with_no_meaning_here() {
 #[test]
 fn line_of_another_table_number() {
     for number in (0..=0xffff).filter(|&number| number != 1) {
-        for (kind, from, to) in [(0, 1, 1), (1, 1, 2), (2, 7, 9)] {
+        for (kind, from, to) in [(0, 1, 1), (1, 1, 2), (2, 7, 9), (3, 1, 1)] {
             let frame = Frame {
                 kind,
                 number,
@@ -167,6 +206,21 @@ fn opening_of_no_such_probe_or_with_two_ends() {
 }
 
 #[test]
+fn restart_of_no_such_probe_or_with_two_ends() {
+    for probe in 0..=0xffff {
+        let restarted = heard(&restart(probe));
+        match probe {
+            0..4 => assert_eq!(restarted, befell(probe, What::Restarted)),
+            _ => assert_eq!(restarted, Err(24)),
+        }
+        if probe != 1 {
+            assert_eq!(heard(&line(3, probe, 1)), Err(24));
+            assert_eq!(heard(&line(3, 1, probe)), Err(24));
+        }
+    }
+}
+
+#[test]
 fn frame_between_two_probes_without_a_link() {
     for probe in 0..=0xffff {
         let (to, from) = match probe {
@@ -182,19 +236,29 @@ fn frame_between_two_probes_without_a_link() {
     assert_eq!(heard(&offer(0, 3)), Err(24));
 }
 
-/// By the bytes of the end that would have sent the frame, and by no others.
+/// By the mark of the byte that permits the frame, and by nothing else, in every record of link 1-2
+/// that 21 lets pass.
 #[test]
 fn frame_that_no_probe_can_have_sent() {
-    for bytes in 0..81 {
-        let link = [bytes % 3, bytes / 3 % 3, bytes / 9 % 3, bytes / 27];
-        let record = [&[0; 4], &link[..], &[0; 4]].concat();
-        let refused = |line: &[u8]| m2_with(&record).event(line, 0, 1).err();
-        let because = |sent: bool| if sent { None } else { Some(27) };
-        assert_eq!(refused(&offer(1, 2)), because(link[0] != 0));
-        assert_eq!(refused(&offer(2, 1)), because(link[2] != 0));
-        assert_eq!(refused(&refusal(2, 1)), because(link[1] == 2));
-        assert_eq!(refused(&refusal(1, 2)), because(link[3] == 2));
+    let mut records = 0;
+    for choice in 0..6_usize.pow(4) {
+        // For each byte its value and its mark.
+        let [one, two, three, four] = [1, 6, 36, 216].map(|unit| choice / unit % 6);
+        let both = [one, two, three, four].map(|both| (both as u8 % 3, both as u8 / 3));
+        let mut all = both.iter().enumerate();
+        if all.any(|(at, &(byte, mark))| permits(at, byte) && mark == 0) {
+            continue;
+        }
+        let [bytes, marks] = [both.map(|two| two.0), both.map(|two| two.1)];
+        let record = [&[0; BYTES], &bytes[..], &marks, &[0; BYTES]].concat();
+        let frames = [offer(1, 2), refusal(2, 1), offer(2, 1), refusal(1, 2)];
+        for (line, mark) in frames.iter().zip(marks) {
+            let refused = m2_with(&record).event(line, 0, 1).err();
+            assert_eq!(refused, (mark == 0).then_some(27));
+        }
+        records += 1;
     }
+    assert_eq!(records, 5 * 5 * 5 * 5);
 }
 
 #[test]
@@ -214,6 +278,9 @@ fn full_log() {
     assert_eq!(fleet.event(&offer(1, 2), 1, 1), Err(26));
     assert_eq!(fleet.event(&offer(1, 2), 1, 2), befell(2, What::Taken(1)));
     assert_eq!(fleet.event(&offer(1, 2), 2, 2), Err(26));
+    assert_eq!(fleet.event(&restart(1), 2, 2), Err(26));
+    assert_eq!(fleet.event(&restart(1), 2, 3), befell(1, What::Restarted));
+    assert_eq!(fleet.event(&restart(1), 3, 3), Err(26));
     // A line that is turned down anyway keeps its own number.
     assert_eq!(fleet.event(b"", 2, 2), Err(1));
     assert_eq!(fleet.event(&opening(4), 2, 2), Err(24));
@@ -242,8 +309,8 @@ impl AsMut<Vec<u8>> for Call {
 
 const OF_RECORD: [Fault<Call>; 3] = [
     (|call| call.record.push(0), 20),
-    (|call| call.record[11] = 3, 21),
-    (|call| call.record[2] = 1, 22),
+    (|call| call.record[23] = 2, 21),
+    (|call| (call.record[2], call.record[6]) = (1, 1), 22),
 ];
 
 const OF_FRAME: [Fault<Call>; 3] = [

@@ -1,6 +1,7 @@
-//! Runs to the finish in many orders, frames lost, repeated and late: each ends with the plan.
+//! Runs to the finish in many orders, frames lost, repeated and late, and probes restarting: each ends
+//! with the plan.
 
-use planner_tests::channel::{frame_after, opening};
+use planner_tests::channel::{any_restart, frame_after, opening};
 use planner_tests::compare_fleet::Fleet;
 use planner_tests::ends::{Frame, What};
 use planner_tests::events::any_table;
@@ -33,11 +34,15 @@ struct Order {
     openings: Openings,
     /// Frames are lost and sent again, repeated, and late.
     lossy: bool,
+    restarts: bool,
 }
 
-const ORDERS: usize = 12;
+const ORDERS: usize = 15;
 
-/// The first nine differ in the first two, the others in the third.
+/// With the first of them no probe restarts.
+const UNWIPED: usize = 12;
+
+/// The first nine differ in the first two, the next in the third, and the last in restarts.
 fn order(place: usize) -> Order {
     let nexts = [Next::Oldest, Next::Newest, Next::Any];
     let openings = [
@@ -49,6 +54,7 @@ fn order(place: usize) -> Order {
         next: nexts[place % 3],
         openings: openings[place / 3 % 3],
         lossy: place % 2 == 1 || place == 8,
+        restarts: place >= UNWIPED,
     }
 }
 
@@ -71,7 +77,11 @@ struct Run<'a> {
     openers: VecDeque<u16>,
     under_way: VecDeque<Frame>,
     sent: Vec<Frame>,
-    /// How often each link's bytes were altered.
+    /// The restarts still to come.
+    restarts: usize,
+    /// The probe that restarted last.
+    restarted: Option<u16>,
+    /// How often each link's bytes were altered since the last restart.
     changes: Vec<usize>,
 }
 
@@ -91,6 +101,9 @@ fn awake(table: &Table, kept: &[bool]) -> Vec<usize> {
 struct Reached {
     /// Up to the finish.
     events: usize,
+    restarts: usize,
+    /// Frames that altered a byte of a finished fleet.
+    late: usize,
     /// Openings at the finish by probes that had enough, and by those that had tried every link.
     enough: usize,
     all_tried: usize,
@@ -102,6 +115,12 @@ impl Reached {
     fn assert_over(&self, events: usize, openings: usize) {
         let fewer = self.enough.min(self.all_tried);
         assert!(self.events > events && fewer > openings, "{self:?}");
+    }
+
+    /// At least so many restarts, and so many frames that came too late.
+    #[track_caller]
+    fn assert_restarted(&self, restarts: usize, late: usize) {
+        assert!(self.restarts >= restarts && self.late >= late, "{self:?}");
     }
 }
 
@@ -116,26 +135,29 @@ impl Run<'_> {
             openers: (0..table.needs.len() as u16).collect(),
             under_way: VecDeque::new(),
             sent: Vec::new(),
+            restarts: if order.restarts { 5 } else { 0 },
+            restarted: None,
             changes: vec![0; table.links.len()],
         }
     }
 
-    /// A truly sent frame or an opening is accepted, with an entry free for it.
+    /// A truly sent frame, an opening or a restart is accepted, with an entry free for it.
     #[track_caller]
     fn hear(&mut self, frame: Frame) -> What {
         let before = self.fleet.record().to_vec();
         let line = frame.line();
         let befell = self.fleet.event_on(&self.site, &line, self.used);
-        let entry = befell.expect("an opening or a truly sent frame");
+        let entry = befell.expect("an opening, a restart or a truly sent frame");
         self.used += 1;
-        let links = before.chunks_exact(BYTES);
-        let links = links.zip(self.fleet.record().chunks_exact(BYTES));
-        for (place, (before, after)) in links.enumerate() {
-            if before != after {
-                self.changes[place] += changes(before, after);
-            }
+        match entry.what {
+            What::Restarted => self.changes.fill(0),
+            _ => self.count_changes(&before),
         }
-        if matches!(entry.what, What::Opened(_) | What::Learnt(_)) {
+        let may_open = matches!(
+            entry.what,
+            What::Opened(_) | What::Learnt(_) | What::Restarted
+        );
+        if may_open {
             self.openers.push_back(entry.probe);
         }
         if let Some(frame) = frame_after(entry, self.table) {
@@ -143,6 +165,31 @@ impl Run<'_> {
             self.sent.push(frame);
         }
         entry.what
+    }
+
+    /// No link has more than four since the last restart.
+    #[track_caller]
+    fn count_changes(&mut self, before: &[u8]) {
+        let links = before.chunks_exact(BYTES);
+        let links = links.zip(self.fleet.record().chunks_exact(BYTES));
+        for (place, (before, after)) in links.enumerate() {
+            if before != after {
+                self.changes[place] += changes(before, after);
+                assert!(self.changes[place] <= 4);
+            }
+        }
+    }
+
+    /// A probe restarts; what may still be sent to it is sent again.
+    #[track_caller]
+    fn restart(&mut self, random: &mut Random) {
+        self.restarts -= 1;
+        let frame = any_restart(self.table, random);
+        self.restarted = Some(frame.to);
+        assert_eq!(self.hear(frame), What::Restarted);
+        let record = self.fleet.record();
+        let again = |sent: &&Frame| sent.to == frame.to && self.site.may_be_sent(**sent, record);
+        self.under_way.extend(self.sent.iter().filter(again));
     }
 
     /// A frame may be lost, and is then sent again; an old one may come before it.
@@ -177,7 +224,8 @@ impl Run<'_> {
         }
     }
 
-    /// Runs to the finish; asks now and then whether it has come.
+    /// Runs to the finish; asks now and then whether it has come. Where probes restart, all but the
+    /// last may do so on the way; each one left does so behind a finish, and the run goes on.
     #[track_caller]
     fn finish(&mut self, random: &mut Random) {
         while let Some(frame) = self.next(random) {
@@ -185,17 +233,37 @@ impl Run<'_> {
                 assert!(self.fleet.finished().is_ok());
             }
             self.hear(frame);
+            if self.restarts > 1 && random.one_in(1 + self.table.links.len()) {
+                self.restart(random);
+            }
         }
         assert_eq!(self.fleet.finished(), Ok(true));
+        if self.restarts > 0 {
+            self.restart(random);
+            self.finish(random);
+        }
     }
 
-    /// Old frames and openings change nothing any more. A probe has enough where the plan keeps no
-    /// more of its links than its counted need.
+    /// Some of the frames sent, and some of those to the probe that restarted last.
+    fn old_frames(&self, random: &mut Random) -> Vec<Frame> {
+        let to_it = |frame: &&Frame| Some(frame.to) == self.restarted;
+        let to_it: Vec<Frame> = self.sent.iter().filter(to_it).copied().collect();
+        let mut old = Vec::new();
+        for sent in [&self.sent, &to_it] {
+            old.extend((0..sent.len().min(20)).map(|_| random.pick(sent)));
+        }
+        old
+    }
+
+    /// Old frames and openings leave the fleet finished, and where no probe restarted they change
+    /// nothing. A probe has enough where the plan keeps no more of its links than its counted need.
     #[track_caller]
     fn late(&mut self, kept: &[bool], reached: &mut Reached, random: &mut Random) {
-        for _ in 0..self.sent.len().min(20) {
-            let frame = random.pick(&self.sent);
-            assert!(matches!(self.hear(frame), What::NoChange(_)));
+        for frame in self.old_frames(random) {
+            let altered = !matches!(self.hear(frame), What::NoChange(_));
+            assert!(self.order.restarts || !altered);
+            assert_eq!(self.fleet.finished(), Ok(true));
+            reached.late += usize::from(altered);
         }
         let awake = awake(self.table, kept).into_iter();
         for (probe, (awake, need)) in awake.zip(self.table.counted_needs()).enumerate() {
@@ -219,28 +287,35 @@ impl Run<'_> {
         let met = |(awake, need): (&usize, usize)| *awake >= need;
         let awake = awake(self.table, kept);
         assert!(awake.iter().zip(self.table.counted_needs()).all(met));
-        assert!(self.changes.iter().all(|&changes| changes <= 4));
     }
 }
 
-/// In each of the first orders.
+/// In each of these orders. Where no probe restarts, the same record comes out.
 #[track_caller]
-fn run_all(table: &Table, orders: usize, reached: &mut Reached, random: &mut Random) {
+fn run_all(table: &Table, orders: &[usize], reached: &mut Reached, random: &mut Random) {
     let kept = plan(table).kept;
     assert_eq!(slse(table).kept, kept);
     let mut records = Vec::new();
-    for place in 0..orders {
+    for &place in orders {
         let mut run = Run::fresh(table, order(place));
         if random.one_in(2) {
             run.openers.make_contiguous().reverse();
         }
+        let restarts = run.restarts;
         run.finish(random);
         reached.events += run.used;
+        reached.restarts += restarts - run.restarts;
         run.late(&kept, reached, random);
         run.assert_planned(&kept);
-        records.push(run.fleet.record().to_vec());
+        if !run.order.restarts {
+            records.push(run.fleet.record().to_vec());
+        }
     }
     assert!(records.iter().all(|record| *record == records[0]));
+}
+
+fn all_orders() -> Vec<usize> {
+    (0..ORDERS).collect()
 }
 
 /// For M1 to M8: at the finish so many probes have enough, and so many have tried every link.
@@ -260,7 +335,7 @@ fn marked_sites() {
     let random = &mut Random::new(46);
     for (place, probes) in AT_THE_FINISH.into_iter().enumerate() {
         let mut reached = Reached::default();
-        run_all(&marked(place), ORDERS, &mut reached, random);
+        run_all(&marked(place), &all_orders(), &mut reached, random);
         assert!(reached.events >= ORDERS);
         let said = [reached.enough, reached.all_tried];
         assert_eq!(said, probes.map(|count| ORDERS * count));
@@ -274,10 +349,11 @@ fn small_sites() {
         let probes = 1 + random.below(9);
         let links = random.below(probes * (probes - 1) / 2 + 1);
         let table = legal_of_size(probes, links, random);
-        run_all(&table, ORDERS, &mut reached, random);
+        run_all(&table, &all_orders(), &mut reached, random);
         with_short += usize::from(table.has_short());
     });
     reached.assert_over(100_000, 5_000);
+    reached.assert_restarted(5_000, 500);
     assert!(with_short > 100, "{with_short}");
 }
 
@@ -291,18 +367,21 @@ fn sites_of_many_kinds() {
             _ => any_table(random),
         };
         if table.links.len() <= 600 {
-            run_all(&table, ORDERS, &mut reached, random);
+            run_all(&table, &all_orders(), &mut reached, random);
         }
     }
     reached.assert_over(100_000, 1_000);
+    reached.assert_restarted(300, 100);
 }
 
 #[track_caller]
 fn run_largest(table: Table, random: &mut Random) {
     assert_eq!([table.needs.len(), table.links.len()], [256, 2048]);
     let mut reached = Reached::default();
-    run_all(&table, 10, &mut reached, random);
+    let orders = [0, 1, 2, 3, 4, 5, 6, 7, 8, 9, ORDERS - 1];
+    run_all(&table, &orders, &mut reached, random);
     reached.assert_over(10 * 4096, 10);
+    reached.assert_restarted(5, 1);
 }
 
 #[test]

@@ -1,122 +1,89 @@
-//! Every record that any list of lines leads to, on small tables: each line from each record.
+//! Every record that any list of lines leads to, on small sites: each line from each record, by the
+//! library too, and demand 3's claims of them.
 
-use planner_tests::channel::opening;
 use planner_tests::compare_fleet::Fleet;
-use planner_tests::ends::Frame;
-use planner_tests::fleet::{changes, rested, BYTES};
-use planner_tests::reference::{plan, Table};
-use planner_tests::sites::{every_table, marked, site};
-use std::collections::HashMap;
+use planner_tests::reach::{Reach, Reached};
+use planner_tests::reference::{falling, Table};
+use planner_tests::sites::{every_order_of_three, marked, site};
+use std::collections::BTreeSet;
 
-/// Every opening, and every offer and refusal on a link.
-fn every_line(table: &Table) -> Vec<Vec<u8>> {
-    let probes = 0..table.needs.len() as u16;
-    let mut frames: Vec<Frame> = probes.map(|probe| opening(table, probe)).collect();
-    for link in &table.links {
-        for (from, to) in [(link.low, link.high), (link.high, link.low)] {
-            for kind in [1, 2] {
-                let number = table.number;
-                frames.push(Frame {
-                    kind,
-                    number,
-                    from,
-                    to,
-                });
-            }
-        }
-    }
-    frames.into_iter().map(Frame::line).collect()
-}
-
-/// Both ends of each link rest it exactly when the plan does not keep it.
-fn is_planned(table: &Table, record: &[u8]) -> bool {
-    let kept = plan(table).kept.into_iter();
-    let mut links = record.chunks_exact(BYTES).zip(kept);
-    links.all(|(bytes, kept)| rested(bytes) == [!kept; 2])
-}
-
-/// The records whose bytes have the same sum, each with the most changes that a list leading to it
-/// makes on each link.
-type Level = HashMap<Vec<u8>, Vec<usize>>;
-
-/// Each line from the record; a change raises the sum. Answers whether a line changes anything.
 #[track_caller]
-fn follow(fleet: &mut Fleet, lines: &[Vec<u8>], most: &[usize], levels: &mut [Level]) -> bool {
-    let mut leads_on = false;
-    let before = fleet.record().to_vec();
-    for line in lines {
-        fleet.set_record(&before);
-        fleet.event(line, 0, 1).ok();
-        let after = fleet.record();
-        if *after == before {
-            continue;
-        }
-        leads_on = true;
-        let level = &mut levels[sum(after)];
-        let known = level.entry(after.to_vec()).or_insert(vec![0; most.len()]);
-        let links = before.chunks_exact(BYTES).zip(after.chunks_exact(BYTES));
-        for (place, (before, after)) in links.enumerate() {
-            known[place] = known[place].max(most[place] + changes(before, after));
-        }
-    }
-    fleet.set_record(&before);
-    leads_on
+fn explore(table: &Table, restarts: bool) -> Reached {
+    Reach::of(table, restarts, &mut Fleet::fresh(table)).check()
 }
 
-fn sum(record: &[u8]) -> usize {
-    record.iter().map(|&byte| usize::from(byte)).sum()
-}
-
-/// Goes through all records; answers their number. Exactly one is finished, and a line leads on
-/// from each other one; no link has had more than four changes.
+/// Without restarts exactly one record is finished, and no frame alters it.
 #[track_caller]
-fn explore(table: &Table) -> usize {
-    let (lines, links) = (every_line(table), table.links.len());
-    let mut fleet = Fleet::fresh(table);
-    let mut levels = vec![Level::new(); 2 * BYTES * links + 1];
-    levels[0].insert(vec![0; BYTES * links], vec![0; links]);
-    let (mut records, mut finished) = (0, 0);
-    for level in 0..levels.len() {
-        for (record, most) in std::mem::take(&mut levels[level]) {
-            assert!(most.iter().all(|&changes| changes <= 4));
-            fleet.set_record(&record);
-            let leads_on = follow(&mut fleet, &lines, &most, &mut levels);
-            assert_eq!(fleet.finished(), Ok(!leads_on));
-            if !leads_on {
-                assert!(is_planned(table, &record));
-                finished += 1;
-            }
-            records += 1;
-        }
-    }
-    assert_eq!(finished, 1);
-    records
+fn explore_unwiped(table: &Table) -> usize {
+    let reached = explore(table, false);
+    assert_eq!([reached.finished, reached.late], [1, 0]);
+    reached.records
+}
+
+/// Every set of links in every order from dearest to cheapest: 1, 3, 3 and 1 sets of 0 to 3 links, in
+/// 1, 1, 2 and 6 orders. One order of three links takes three costs.
+#[test]
+fn every_order_of_three_probes() {
+    let (mut tables, mut none_short, mut records) = (0, 0, 0);
+    let mut orders = BTreeSet::new();
+    every_order_of_three(|table| {
+        let ends = |place: usize| table.links[place].ends();
+        let order: Vec<_> = falling(&table.links).into_iter().map(ends).collect();
+        orders.insert(order);
+        tables += 1;
+        none_short += usize::from(!table.has_short());
+        records += explore_unwiped(table);
+    });
+    assert_eq!(orders.len(), 1 + 3 + 3 * 2 + 6);
+    assert_eq!([tables, none_short, records], [2_400, 412, 39_924]);
 }
 
 #[test]
-fn every_table_of_three_probes() {
-    let (mut tables, mut none_short, mut records) = (0, 0, 0);
-    every_table(3, 2, |table| {
-        tables += 1;
-        none_short += usize::from(!table.has_short());
-        records += explore(table);
-    });
-    assert_eq!([tables, none_short], [2_275, 385]);
-    assert!(records > 30_000, "{records}");
+fn every_order_of_three_probes_with_restarts() {
+    let mut reached = Reached::default();
+    every_order_of_three(|table| reached.add(explore(table, true)));
+    let expected = Reached {
+        records: 426_633,
+        finished: 5_823,
+        late: 4_368,
+        changes: 4,
+    };
+    assert_eq!(reached, expected);
 }
 
 #[test]
 fn marked_sites() {
-    let records: Vec<usize> = (0..8).map(|place| explore(&marked(place))).collect();
-    assert_eq!(records[2], 1);
-    assert!(records[1] > 50, "{records:?}");
+    let records = [0, 1, 2, 3, 4, 5, 6, 7].map(|place| explore_unwiped(&marked(place)));
+    assert_eq!(records, [108, 100, 1, 9, 4, 37, 37, 108]);
+    let with_restarts = [0, 1, 2, 3, 4, 5, 6, 7].map(|place| {
+        let reached = explore(&marked(place), true);
+        [reached.records, reached.finished]
+    });
+    let expected = [
+        [2_725, 2],
+        [2_025, 4],
+        [1, 1],
+        [25, 1],
+        [9, 2],
+        [929, 4],
+        [929, 4],
+        [2_725, 2],
+    ];
+    assert_eq!(with_restarts, expected);
 }
 
 /// A ring of four probes, and four probes with five links, where displaced offers go far.
 #[test]
 fn four_probes() {
     let ring = [[0, 1, 5], [0, 3, 6], [1, 2, 7], [2, 3, 8]];
-    assert!(explore(&site(&ring, &[1, 1, 1, 1])) > 100);
     let more = [[0, 1, 5], [0, 2, 5], [0, 3, 5], [1, 2, 5], [2, 3, 5]];
-    assert!(explore(&site(&more, &[2, 1, 2, 1])) > 100);
+    for (table, records) in [
+        (site(&ring, &[1, 1, 1, 1]), [144, 11_881]),
+        (site(&more, &[2, 1, 2, 1]), [168, 49_129]),
+    ] {
+        assert_eq!(explore_unwiped(&table), records[0]);
+        let reached = explore(&table, true);
+        assert_eq!(reached.records, records[1]);
+        assert!(reached.finished > 1 && reached.late > 1);
+    }
 }

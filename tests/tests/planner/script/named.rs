@@ -6,6 +6,8 @@ use planner_tests::compare_script::{text, text_in};
 use planner_tests::random::Random;
 use planner_tests::reference::CLOSING;
 use planner_tests::samples::{self, input, M11, M11_PRINTED, M4, M4_PRINTED};
+use planner_tests::samples::{LATE, LATE_BEFORE, LATE_PRINTED, LATE_SCRIPT};
+use planner_tests::samples::{RESTARTED, RESTARTED_PRINTED};
 use planner_tests::script::{output, room_for};
 use planner_tests::sites::{legal_of_size, marked, M2, MARKED};
 
@@ -17,6 +19,41 @@ fn m4() {
 #[test]
 fn m11() {
     assert_eq!(printed(&input(1, &M11)), M11_PRINTED);
+}
+
+/// A late frame alters a finished fleet, which stays finished.
+#[test]
+fn late_frame() {
+    for (events, last) in [(4, LATE_BEFORE), (5, LATE_PRINTED[5])] {
+        let input = [LATE.as_slice(), &LATE_SCRIPT[..events]].map(samples::text);
+        let expected = [&LATE_PRINTED[..events], &[last]].concat();
+        assert_eq!(printed(&input.concat()), expected);
+    }
+}
+
+#[test]
+fn m11_with_a_restart_of_every_probe() {
+    assert_eq!(printed(&input(1, &RESTARTED)), RESTARTED_PRINTED);
+}
+
+/// Wipes, and the marks that stay, count no change: M11's sum is as before wherever restarts of fresh
+/// probes stand, and after one of each probe behind its end.
+#[test]
+fn restarts_count_no_change() {
+    let wipe = |probe: usize| format!("0300010{probe:03x}0{probe:03x}");
+    let wipes: Vec<String> = (0..4).map(wipe).collect();
+    let wipes: Vec<&str> = wipes.iter().map(String::as_str).collect();
+    let before = printed(&input(1, &[&wipes, &M11[..]].concat()));
+    let wiped = [
+        "000008ffffffff",
+        "000108ffffffff",
+        "000208ffffffff",
+        "000308ffffffff",
+    ];
+    assert_eq!(before, [&wiped, &M11_PRINTED[..]].concat());
+    let behind = printed(&input(1, &[&M11[..], &wipes].concat()));
+    assert_eq!(behind[10..14], wiped);
+    assert_eq!(behind[14], "000000000b");
 }
 
 #[test]
@@ -36,10 +73,13 @@ fn refused_lines() {
         ("00000100000000\r", "e001"),
         ("0000010000000A", "e002"),
         ("0000010000 000", "e002"),
-        ("03000100000000", "e009"),
+        ("04000100000000", "e009"),
         ("00000200000000", "e023"),
         ("00000100040004", "e024"),
         ("00000100000001", "e024"),
+        ("03000200000000", "e023"),
+        ("03000100040004", "e024"),
+        ("03000100000001", "e024"),
         ("01000100000000", "e024"),
         ("01000100000002", "e024"),
         ("02000100030002", "e027"),
@@ -146,26 +186,32 @@ fn full_log() {
         assert!(!before.iter().any(|line| line.starts_with('e')));
         assert_eq!(before.len(), 1025);
         let behind = [
-            "00000100000000\n\n0X000100000000\n04000100000000\n",
+            "00000100000000\n03000100000000\n\n0X000100000000\n04000100000000\n",
             "00000000000000\n00000100000001\n00000100000000",
         ];
         let behind = behind.concat();
         let output = printed(&[&start, behind.as_bytes()].concat());
         assert_eq!(output[..1024], before[..1024]);
-        let refused = ["e026", "e001", "e002", "e009", "e023", "e024", "e001"];
-        assert_eq!(output[1024..1031], refused);
-        assert_eq!(output[1031..], before[1024..]);
+        let refused = [
+            "e026", "e026", "e001", "e002", "e009", "e023", "e024", "e001",
+        ];
+        assert_eq!(output[1024..1032], refused);
+        assert_eq!(output[1032..], before[1024..]);
     }
 }
 
-/// Openings of a probe that has enough take entries too.
+/// Openings of a probe that has enough take entries too, and so do restarts.
 #[test]
-fn log_full_of_enough() {
-    let lines = vec!["00000100000000"; 1100];
-    let output = printed(&input(2, &lines));
-    assert_eq!(output[..1024], vec!["000001ffffffff"; 1024]);
-    assert_eq!(output[1024..1100], vec!["e026"; 76]);
-    assert_eq!(output[1100..], ["0100000000"]);
+fn log_full_of_enough_or_of_restarts() {
+    for (line, entry) in [
+        ("00000100000000", "000001ffffffff"),
+        ("03000100000000", "000008ffffffff"),
+    ] {
+        let output = printed(&input(2, &vec![line; 1100]));
+        assert_eq!(output[..1024], vec![entry; 1024]);
+        assert_eq!(output[1024..1100], vec!["e026"; 76]);
+        assert_eq!(output[1100..], ["0100000000"]);
+    }
 }
 
 #[test]

@@ -7,7 +7,7 @@ use planner_tests::events::each_table;
 use planner_tests::faults::{each_choice, of_table, Fault};
 use planner_tests::random::Random;
 use planner_tests::reference::Table;
-use planner_tests::samples::{self, M11, M4};
+use planner_tests::samples::{self, M4, RESTARTED};
 use planner_tests::script::{output, Script};
 use planner_tests::sites::{damage_table, marked, Numbers, MARKED};
 
@@ -18,10 +18,10 @@ fn compare(table: &Table, script: &[u8], size: usize, random: &mut Random) {
     assert!(in_pieces(table, script.chunks(size), random) == whole);
 }
 
-/// M11 with bad lines, a long one among them, and a last line that is not closed.
+/// M11 with restarts and bad lines, a long one among them, and a last line that is not closed.
 fn small_script() -> Vec<u8> {
     let long = "0".repeat(50);
-    let mut lines = Vec::from(M11);
+    let mut lines = Vec::from(RESTARTED);
     lines.insert(3, "");
     lines.insert(5, "000001000000000");
     lines.insert(7, "0000010000000000");
@@ -144,9 +144,9 @@ fn set_record(pieces: &mut Pieces, record: &[u8]) {
 }
 
 const OF_RECORD: [Fault<Pieces>; 3] = [
-    (|pieces| set_record(pieces, &[0; 13]), 20),
-    (|pieces| set_record(pieces, &[3; 12]), 21),
-    (|pieces| set_record(pieces, &[1; 12]), 22),
+    (|pieces| set_record(pieces, &[0; 12]), 20),
+    (|pieces| set_record(pieces, &[2; 24]), 21),
+    (|pieces| set_record(pieces, &[1; 24]), 22),
 ];
 
 /// Of any faults together the first decides; too few bytes for an unfinished line, too few

@@ -31,7 +31,7 @@ returns-2 c =
     let a = at-start .args in
     let t : Table = ofSlices (a .number) (a .probes) (a .links) [] (a .lows .now) (a .highs .now) [] in
     let k = at-kind .if2 .taken in
-    rw (c .refused2 .ensures) (λ l reads. line-checked t l (a .frame) reads (at-fault .if1 .left) 9 (rw (le-ltb (a .frame .kind) 3 (omega arith))), λ y m. absurd (omega arith))
+    rw (c .refused2 .ensures) (λ l reads. line-checked t l (a .frame) reads (at-fault .if1 .left) 9 (rw (le-ltb (a .frame .kind) 4 (omega arith))), λ y m. absurd (omega arith))
 
 wide-requires : tie.Need-wide-requires
 wide-requires c κs = search needs
@@ -49,7 +49,7 @@ returns-3 c =
     let a = at-start .args in
     let t : Table = ofSlices (a .number) (a .probes) (a .links) [] (a .lows .now) (a .highs .now) [] in
     let k = at-kind .if2 .left in
-    rw (c .refused3 .ensures) (λ l reads. line-checked t l (a .frame) reads (at-fault .if1 .left) 23 (rw (lt-ltb (a .frame .kind) 3 (omega arith), ne-eqb _ _ (λ q. at-number .if3 .taken (q ∙ sym (at-wide .wide .ensures))))), λ y m. absurd (omega arith))
+    rw (c .refused3 .ensures) (λ l reads. line-checked t l (a .frame) reads (at-fault .if1 .left) 23 (rw (lt-ltb (a .frame .kind) 4 (omega arith), ne-eqb _ _ (λ q. at-number .if3 .taken (q ∙ sym (at-wide .wide .ensures))))), λ y m. absurd (omega arith))
 
 find-ends-requires : tie.Need-find-ends-requires
 find-ends-requires c κs = search needs
@@ -64,7 +64,7 @@ returns-4 c =
     let a = at-start .args in
     let t : Table = ofSlices (a .number) (a .probes) (a .links) [] (a .lows .now) (a .highs .now) [] in
     let k = at-kind .if2 .left in
-    (λ l reads. line-checked t l (a .frame) reads (at-fault .if1 .left) _ (rw (lt-ltb (a .frame .kind) 3 (omega arith), eq-eqb _ _ (at-number .if3 .left ∙ at-wide .wide .ensures)) (c .find-ends .ensures .0)), c .find-ends .ensures .1)
+    (λ l reads. line-checked t l (a .frame) reads (at-fault .if1 .left) _ (rw (lt-ltb (a .frame .kind) 4 (omega arith), eq-eqb _ _ (at-number .if3 .left ∙ at-wide .wide .ensures)) (c .find-ends .ensures .0)), c .find-ends .ensures .1)
 
 pub check-line-spec : {M : Type 1} → statement M
 check-line-spec =

@@ -8,7 +8,7 @@ use mathlib.Core.List.{List, []}
 use native.Mathlib.Omega.{arith}
 use borrow.Author.Tests.{eq-eqb, ne-eqb}
 use Rattle.table.specs.Table.{Table, ofSlices}
-use Rattle.fleet_theory.proofs.Own.{out-is, in-is}
+use Rattle.fleet_theory.proofs.Own.{out-mark-is, in-mark-is}
 
 abbrev table : ℕ → List ℕ → List ℕ → Table
 table links lows highs = ofSlices 0 0 links [] lows highs []
@@ -19,8 +19,8 @@ enum-told c = search needs
 enum-known-event : tie.Need-enum-known-event
 enum-known-event c = search needs
 
-out-byte-requires : tie.Need-out-byte-requires
-out-byte-requires c κs =
+out-mark-requires : tie.Need-out-mark-requires
+out-mark-requires c κs =
     let p = c .before .before .before .before .before .before .pre in
     let is = c .before .event .given .1 in
     let w = rw is at (p .3) in
@@ -28,17 +28,16 @@ out-byte-requires c κs =
 
 returns : tie.Need-returns
 returns c links v =
-    let at-event = c .before .before .before in
     let a = c .before .before .before .before .before .before .before .before .args in
-    let w = rw (at-event .event .given .1) at v in
-    let b = out-is (table links (a .lows .now) (a .highs .now)) (a .from) (a .rec .now) _ w in
-    rw (at-event .event .given .1, b ∙ sym (c .before .out-byte .ensures), eq-eqb _ _ (c .if1 .taken))
+    let is = c .before .before .before .event .given .1 in
+    let b = out-mark-is (table links (a .lows .now) (a .highs .now)) (a .from) (a .rec .now) _ (rw is at v) in
+    rw (is, b ∙ sym (c .before .out-mark .ensures), eq-eqb _ _ (c .if1 .taken))
 
 enum-known-event-2 : tie.Need-enum-known-event-2
 enum-known-event-2 c = search needs
 
-in-byte-requires : tie.Need-in-byte-requires
-in-byte-requires c κs =
+in-mark-requires : tie.Need-in-mark-requires
+in-mark-requires c κs =
     let p = c .before .before .before .before .before .before .pre in
     let is = c .before .event2 .given .1 in
     let w = rw is at (p .3) in
@@ -46,30 +45,27 @@ in-byte-requires c κs =
 
 returns-2 : tie.Need-returns-2
 returns-2 c links v =
-    let at-event2 = c .before .before .before in
     let a = c .before .before .before .before .before .before .before .before .args in
-    let w = rw (at-event2 .event2 .given .1) at v in
-    let b = in-is (table links (a .lows .now) (a .highs .now)) (a .from) (a .rec .now) _ w in
-    rw (at-event2 .event2 .given .1, b ∙ sym (c .before .in-byte .ensures), eq-eqb _ _ (c .if2 .taken))
+    let is = c .before .before .before .event2 .given .1 in
+    let b = in-mark-is (table links (a .lows .now) (a .highs .now)) (a .from) (a .rec .now) _ (rw is at v) in
+    rw (is, b ∙ sym (c .before .in-mark .ensures), eq-eqb _ _ (c .if2 .taken))
 
 returns-3 : tie.Need-returns-3
 returns-3 c links v = rw (c .enum-told .given .1)
 
 returns-4 : tie.Need-returns-4
 returns-4 c links v =
-    let at-event = c .before .before .before in
     let a = c .before .before .before .before .before .before .before .before .args in
-    let w = rw (at-event .event .given .1) at v in
-    let b = out-is (table links (a .lows .now) (a .highs .now)) (a .from) (a .rec .now) _ w in
-    rw (at-event .event .given .1, b ∙ sym (c .before .out-byte .ensures), ne-eqb _ _ (c .if1 .left))
+    let is = c .before .before .before .event .given .1 in
+    let b = out-mark-is (table links (a .lows .now) (a .highs .now)) (a .from) (a .rec .now) _ (rw is at v) in
+    rw (is, b ∙ sym (c .before .out-mark .ensures), ne-eqb _ _ (c .if1 .left))
 
 returns-5 : tie.Need-returns-5
 returns-5 c links v =
-    let at-event2 = c .before .before .before in
     let a = c .before .before .before .before .before .before .before .before .args in
-    let w = rw (at-event2 .event2 .given .1) at v in
-    let b = in-is (table links (a .lows .now) (a .highs .now)) (a .from) (a .rec .now) _ w in
-    rw (at-event2 .event2 .given .1, b ∙ sym (c .before .in-byte .ensures), ne-eqb _ _ (c .if2 .left))
+    let is = c .before .before .before .event2 .given .1 in
+    let b = in-mark-is (table links (a .lows .now) (a .highs .now)) (a .from) (a .rec .now) _ (rw is at v) in
+    rw (is, b ∙ sym (c .before .in-mark .ensures), ne-eqb _ _ (c .if2 .left))
 
 pub unsent-fault-spec : {M : Type 1} → statement M
 unsent-fault-spec =
@@ -77,10 +73,10 @@ unsent-fault-spec =
     (tie.spec
     enum-told
     enum-known-event
-    out-byte-requires
+    out-mark-requires
     returns
     enum-known-event-2
-    in-byte-requires
+    in-mark-requires
     returns-2
     returns-3
     returns-4

@@ -80,7 +80,7 @@ returns-2 c =
     let a = at-start .args in
     let r = a .rec .now in
     let i = l .i in
-    some-counted (a .links) (altersOf r) i (at-loop-test .loop-test .taken) (or-intro-right (mayAlter (item r (4 * i)) (item r (4 * i + 1))) (mayAlter (item r (4 * i + 2)) (item r (4 * i + 3))) (sym (c .before .may-alter2 .ensures) ∙ c .if2 .taken))
+    some-counted (a .links) (altersOf r) i (at-loop-test .loop-test .taken) (or-intro-right (mayAlter (item r (8 * i)) (item r (8 * i + 1))) (mayAlter (item r (8 * i + 2)) (item r (8 * i + 3))) (sym (c .before .may-alter2 .ensures) ∙ c .if2 .taken))
 
 add-i : tie.Need-add-i Inv-loop μ-loop
 add-i c = search needs

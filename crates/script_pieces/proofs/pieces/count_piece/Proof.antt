@@ -58,7 +58,7 @@ take-closed-requires c κs =
     let x = slicesOf (a .number) (a .probes) (a .links) (a .needs .now) (a .lows .now) (a .highs .now) (a .costs .now) in
     let m = links-within x (s .pre .0) in
     let f = fleet-good (tableOf x) (a .rec .now) (s .pre .1) in
-    let zeros : List ℕ = replicate 8192 0 in
+    let zeros : List ℕ = replicate 16384 0 in
     let whole = copied-part zeros _ (a .rec .now) (length (a .rec .now)) (c .before .before .before .copy .ensures) (omega (arith, f .0)) (omega arith) ∙ take-all (length (a .rec .now)) (a .rec .now) (omega arith) in
     (s .pre .0, rw whole (s .pre .1), s .pre .2, s .pre .3, s .pre .4, s .pre .5)
 
@@ -69,7 +69,7 @@ returns c =
     let x = slicesOf (a .number) (a .probes) (a .links) (a .needs .now) (a .lows .now) (a .highs .now) (a .costs .now) in
     let m = links-within x (s .pre .0) in
     let f = fleet-good (tableOf x) (a .rec .now) (s .pre .1) in
-    let zeros : List ℕ = replicate 8192 0 in
+    let zeros : List ℕ = replicate 16384 0 in
     let whole = copied-part zeros _ (a .rec .now) (length (a .rec .now)) (c .before .before .before .before .before .before .before .copy .ensures) (omega (arith, f .0)) (omega arith) ∙ take-all (length (a .rec .now)) (a .rec .now) (omega arith) in
     let n = length-take-le (a .progress .held) (a .line .now) (s .pre .5) in
     piece-counted x (underWay (a .progress) (a .rec .now) (a .line .now)) (a .piece .now) _ _ _ _ _ (omega (arith, s .pre .4)) (rw whole at (c .before .before .before .take-closed .ensures))

@@ -22,7 +22,7 @@ returns c =
     let a = s .args in
     let x = slicesOf (a .number) (a .probes) (a .links) (a .needs .now) (a .lows .now) (a .highs .now) (a .costs .now) in
     let m = links-within x (s .pre .0) in
-    let w : 4 * a .links ≤ 8192 = omega arith in
+    let w : 8 * a .links ≤ 16384 = omega arith in
     let n = script-short x (s .pre .0) w (a .text .now) in
     sym (le-leb (length (scriptText x 1024 (a .text .now))) (a .room) (omega (arith, c .if1 .taken)))
 
