@@ -5,9 +5,13 @@
  * state of its own. The README has the stack that each call needs.
  *
  * A table in slices is: number, probes, links, needs (an entry a probe), lows, highs and costs (an entry a link).
- * The record of a probe has two bytes a link, that of a fleet eight: outbound from low, inbound at high, outbound from
- * high, inbound at low, then a mark of each: 1 once the frame that the byte permits could have been sent, else 0. An
- * outbound byte permits an offer while it is 1, an inbound byte a refusal while it is 2. A fresh record is all zero.
+ * The record of a probe is four maps, each a slice of 64-bit words: the links whose offer stands, those where it is
+ * refused, those whose offer the probe holds, those where it refused one. A map has a word for every 64 links begun;
+ * link i is bit i % 64 of word i / 64, the lowest bit first. Its other form, which planner_probe_maps_of and
+ * planner_probe_bytes_of turn, is two bytes a link, outbound (1 standing, 2 refused) and inbound (1 held, 2 refused).
+ * The record of a fleet has eight bytes a link: outbound from low, inbound at high, outbound from high, inbound at low,
+ * then a mark of each: 1 once the frame that the byte permits could have been sent, else 0. An outbound byte permits an
+ * offer while it is 1, an inbound byte a refusal while it is 2. A fresh record is all zero.
  * A wake log has a number for each entry, of any value before it is used; the count of its used ones goes beside it.
  *
  * The functions with display_ in their names are for the well-head display: parameters and answers as without it, at
@@ -15,14 +19,16 @@
  * too short for them.
  *
  * A refusal is its number, and leaves every slice as it was:
- *    1 a line is missing or not of its length          20 a record of the wrong length
- *    2 a byte in it is no digit                        21 a byte over 2, not 0 on another's link, or a wrong mark
+ *    1 a line is missing or not of its length          20 a record of the wrong length: a map not of its words
+ *    2 a byte in it is no digit                        21 a wrong bit, byte or mark in a record
  *    3 probes 0 or over 256, or links over 2,048       22 a probe with more standing or held than its spare
  *    4 low not below high, or high not below probes    23 a frame of another table number
  *    5 a link not after the one before it              24 no such probe or link, or a frame for another probe
  *    6 the closing line absent, different or followed  26 the log is full
  *    8 slices of unequal length, or one too short      27 a frame that could never yet have been sent
  *    9 a frame kind with no meaning here
+ * A wrong bit of a map is on another probe's link, past the last link, or on a link that is set in both maps of a
+ * direction; a wrong byte is over 2, or not 0 on another probe's link.
  */
 #ifndef PLANNER_H
 #define PLANNER_H
@@ -35,6 +41,10 @@
 /* The bytes of the longest table text, and of a frame's line with its line feed. */
 #define PLANNER_MOST_TEXT 27922
 #define PLANNER_FRAME 15
+/* The words of a map over so many links, and where a link's bit stands in it. */
+#define PLANNER_MAP_WORDS(links) (((size_t)(links) + 63) / 64)
+#define PLANNER_MAP_WORD(link) ((size_t)(link) / 64)
+#define PLANNER_MAP_BIT(link) (UINT64_C(1) << ((link) % 64))
 
 #define PLANNER_DISPLAY_MOST_PROBES 16
 #define PLANNER_DISPLAY_MOST_LINKS 40
@@ -42,7 +52,7 @@
 #define PLANNER_DISPLAY_MOST_TEXT 618
 #define PLANNER_DISPLAY_MOST_PLAN_TEXT 686
 
-/* Packed answers start here; refusals are below. */
+/* Packed answers start here; refusals are below. planner_probe_maps_of and _probe_bytes_of answer just this. */
 #define PLANNER_ANSWER_BASE (UINT64_C(1) << 48)
 
 /* Whether an answer of 64 bits is a refusal; planner_check_table answers one, or 0, in 8 bits. */
@@ -198,7 +208,10 @@ uint64_t planner_probe_open(
     const uint16_t *highs, size_t highs_length,
     const uint16_t *costs, size_t costs_length,
     uint16_t probe,
-    uint8_t *rec, size_t rec_length,
+    uint64_t *standing, size_t standing_length,
+    uint64_t *refused_out, size_t refused_out_length,
+    uint64_t *held, size_t held_length,
+    uint64_t *refused_in, size_t refused_in_length,
     size_t free);
 
 /* The probe hears a frame of any bytes. */
@@ -209,7 +222,10 @@ uint64_t planner_probe_hear(
     const uint16_t *highs, size_t highs_length,
     const uint16_t *costs, size_t costs_length,
     uint16_t probe,
-    uint8_t *rec, size_t rec_length,
+    uint64_t *standing, size_t standing_length,
+    uint64_t *refused_out, size_t refused_out_length,
+    uint64_t *held, size_t held_length,
+    uint64_t *refused_in, size_t refused_in_length,
     const uint8_t *frame, size_t frame_length,
     size_t free);
 
@@ -221,7 +237,10 @@ uint64_t planner_probe_open_logged(
     const uint16_t *highs, size_t highs_length,
     const uint16_t *costs, size_t costs_length,
     uint16_t probe,
-    uint8_t *rec, size_t rec_length,
+    uint64_t *standing, size_t standing_length,
+    uint64_t *refused_out, size_t refused_out_length,
+    uint64_t *held, size_t held_length,
+    uint64_t *refused_in, size_t refused_in_length,
     uint64_t *log, size_t log_length,
     size_t used);
 
@@ -233,7 +252,10 @@ uint64_t planner_probe_hear_logged(
     const uint16_t *highs, size_t highs_length,
     const uint16_t *costs, size_t costs_length,
     uint16_t probe,
-    uint8_t *rec, size_t rec_length,
+    uint64_t *standing, size_t standing_length,
+    uint64_t *refused_out, size_t refused_out_length,
+    uint64_t *held, size_t held_length,
+    uint64_t *refused_in, size_t refused_in_length,
     const uint8_t *frame, size_t frame_length,
     uint64_t *log, size_t log_length,
     size_t used);
@@ -246,7 +268,10 @@ uint64_t planner_probe_ask_offer(
     const uint16_t *highs, size_t highs_length,
     const uint16_t *costs, size_t costs_length,
     uint16_t probe,
-    const uint8_t *rec, size_t rec_length,
+    const uint64_t *standing, size_t standing_length,
+    const uint64_t *refused_out, size_t refused_out_length,
+    const uint64_t *held, size_t held_length,
+    const uint64_t *refused_in, size_t refused_in_length,
     uint16_t link,
     uint8_t *out, size_t out_length);
 
@@ -258,7 +283,10 @@ uint64_t planner_probe_ask_refusal(
     const uint16_t *highs, size_t highs_length,
     const uint16_t *costs, size_t costs_length,
     uint16_t probe,
-    const uint8_t *rec, size_t rec_length,
+    const uint64_t *standing, size_t standing_length,
+    const uint64_t *refused_out, size_t refused_out_length,
+    const uint64_t *held, size_t held_length,
+    const uint64_t *refused_in, size_t refused_in_length,
     uint16_t link,
     uint8_t *out, size_t out_length);
 
@@ -270,8 +298,39 @@ uint64_t planner_probe_rests(
     const uint16_t *highs, size_t highs_length,
     const uint16_t *costs, size_t costs_length,
     uint16_t probe,
-    const uint8_t *rec, size_t rec_length,
+    const uint64_t *standing, size_t standing_length,
+    const uint64_t *refused_out, size_t refused_out_length,
+    const uint64_t *held, size_t held_length,
+    const uint64_t *refused_in, size_t refused_in_length,
     uint16_t link);
+
+/* Turns a record of two bytes a link into maps, each at the start of its slice; words beyond them stay. */
+uint64_t planner_probe_maps_of(
+    uint16_t number, uint16_t probes, uint16_t links,
+    const uint16_t *needs, size_t needs_length,
+    const uint16_t *lows, size_t lows_length,
+    const uint16_t *highs, size_t highs_length,
+    const uint16_t *costs, size_t costs_length,
+    uint16_t probe,
+    const uint8_t *rec, size_t rec_length,
+    uint64_t *standing, size_t standing_length,
+    uint64_t *refused_out, size_t refused_out_length,
+    uint64_t *held, size_t held_length,
+    uint64_t *refused_in, size_t refused_in_length);
+
+/* Turns maps into a record of two bytes a link, at the start of rec; bytes beyond them stay. */
+uint64_t planner_probe_bytes_of(
+    uint16_t number, uint16_t probes, uint16_t links,
+    const uint16_t *needs, size_t needs_length,
+    const uint16_t *lows, size_t lows_length,
+    const uint16_t *highs, size_t highs_length,
+    const uint16_t *costs, size_t costs_length,
+    uint16_t probe,
+    const uint64_t *standing, size_t standing_length,
+    const uint64_t *refused_out, size_t refused_out_length,
+    const uint64_t *held, size_t held_length,
+    const uint64_t *refused_in, size_t refused_in_length,
+    uint8_t *rec, size_t rec_length);
 
 /* libfleet_exports.a: all ends of a site together. */
 

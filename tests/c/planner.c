@@ -1,6 +1,7 @@
 /* Document 01's site M2 through planner.h: read, planned by both methods, and its script M11 run by a fleet, by ends
- * alone and as a text. Prints the plan and the log as the programs do. Then openings that open nothing, a restart, M2
- * with a need above the links, and the display's calls. The status is 0 if all is as 01 and 02 have it. */
+ * alone and as a text. Prints the plan and the log as the programs do. Then an end's record in bytes and as maps,
+ * openings that open nothing, a restart, M2 with a need above the links, and the display's calls. The status is 0 if all
+ * is as 01 and 02 have it. */
 #include "planner.h"
 
 #include <stdio.h>
@@ -11,6 +12,8 @@
 #define EVENTS 10
 /* The bytes of the fleet's record. */
 #define FLEET (8 * LINKS)
+/* The words of a map over M2's links. */
+#define WORDS PLANNER_MAP_WORDS(LINKS)
 
 static const char M2[] = "000100040003\n0000\n0001\n0001\n0000\n"
                          "000000010005\n000100020006\n000200030005\nffff\n";
@@ -40,6 +43,20 @@ static uint16_t needs[PROBES], lows[LINKS], highs[LINKS], costs[LINKS];
 
 static const uint8_t *bytes(const char *text) {
     return (const uint8_t *)text;
+}
+
+/* The record of an end. MAPS passes it on. */
+struct maps {
+    uint64_t standing[WORDS], refused_out[WORDS], held[WORDS], refused_in[WORDS];
+};
+#define MAPS(maps) \
+    (maps).standing, WORDS, (maps).refused_out, WORDS, (maps).held, WORDS, (maps).refused_in, WORDS
+
+static const struct maps fresh = {{0}, {0}, {0}, {0}};
+
+/* Whether the link is set in the map. */
+static int is_set(const uint64_t *map, unsigned link) {
+    return (map[PLANNER_MAP_WORD(link)] & PLANNER_MAP_BIT(link)) != 0;
 }
 
 static void read_and_write(void) {
@@ -156,39 +173,83 @@ static void fleet_logged(void) {
 
 /* Probe 1 of M11: it takes probe 0's offer, opens, and takes probe 2's, displacing probe 0. */
 static void one_end(void) {
-    uint8_t rec[2 * LINKS] = {0}, out[PLANNER_FRAME];
-    uint64_t answer = planner_probe_hear(TABLE, 1, rec, sizeof rec, bytes(M11[1]), PLANNER_FRAME, 3);
+    struct maps own = fresh;
+    uint8_t out[PLANNER_FRAME];
+    uint64_t answer = planner_probe_hear(TABLE, 1, MAPS(own), bytes(M11[1]), PLANNER_FRAME, 3);
     expect(PLANNER_EVENT_WHAT(answer) == 2 && PLANNER_EVENT_DISPLACED(answer) == PLANNER_ABSENT, "offer taken", 0);
-    answer = planner_probe_ask_refusal(TABLE, 1, rec, sizeof rec, 0, out, sizeof out);
+    expect(is_set(own.held, 0) && !is_set(own.refused_in, 0), "held", 0);
+    answer = planner_probe_ask_refusal(TABLE, 1, MAPS(own), 0, out, sizeof out);
     expect(!PLANNER_YES(answer), "no refusal yet", 0);
-    answer = planner_probe_open(TABLE, 1, rec, sizeof rec, 2);
+    answer = planner_probe_open(TABLE, 1, MAPS(own), 2);
     expect(PLANNER_EVENT_WHAT(answer) == 0 && PLANNER_EVENT_LINK(answer) == 1, "opened", 0);
-    answer = planner_probe_ask_offer(TABLE, 1, rec, sizeof rec, 1, out, sizeof out);
+    answer = planner_probe_ask_offer(TABLE, 1, MAPS(own), 1, out, sizeof out);
     expect(PLANNER_YES(answer) && memcmp(out, M11[3], sizeof out) == 0, "offer's line", 0);
-    expect(!PLANNER_YES(planner_probe_rests(TABLE, 1, rec, sizeof rec, 1)), "link 1 not rested yet", 0);
-    answer = planner_probe_hear(TABLE, 1, rec, sizeof rec, bytes(M11[5]), PLANNER_FRAME, 1);
+    expect(!PLANNER_YES(planner_probe_rests(TABLE, 1, MAPS(own), 1)), "link 1 not rested yet", 0);
+    answer = planner_probe_hear(TABLE, 1, MAPS(own), bytes(M11[5]), PLANNER_FRAME, 1);
     expect(PLANNER_EVENT_WHAT(answer) == 3 && PLANNER_EVENT_DISPLACED(answer) == 0, "displaced", 0);
-    answer = planner_probe_ask_refusal(TABLE, 1, rec, sizeof rec, 0, out, sizeof out);
+    answer = planner_probe_ask_refusal(TABLE, 1, MAPS(own), 0, out, sizeof out);
     expect(PLANNER_YES(answer) && memcmp(out, M11[6], sizeof out) == 0, "refusal's line", 0);
-    expect(PLANNER_YES(planner_probe_rests(TABLE, 1, rec, sizeof rec, 1)), "link 1 rested", 0);
+    expect(PLANNER_YES(planner_probe_rests(TABLE, 1, MAPS(own), 1)), "link 1 rested", 0);
+    expect(own.standing[0] == 2 && own.refused_out[0] == 0 && own.held[0] == 2 && own.refused_in[0] == 1, "maps", 0);
 }
 
 /* The same with a lent log. */
 static void one_end_logged(void) {
     uint64_t log[3] = {7, 8, 9}, answer;
-    uint8_t rec[2 * LINKS] = {0};
+    struct maps own = fresh;
 
-    planner_probe_hear_logged(TABLE, 1, rec, sizeof rec, bytes(M11[1]), PLANNER_FRAME, log, 3, 0);
-    planner_probe_open_logged(TABLE, 1, rec, sizeof rec, log, 3, 1);
-    planner_probe_hear_logged(TABLE, 1, rec, sizeof rec, bytes(M11[5]), PLANNER_FRAME, log, 3, 2);
+    planner_probe_hear_logged(TABLE, 1, MAPS(own), bytes(M11[1]), PLANNER_FRAME, log, 3, 0);
+    planner_probe_open_logged(TABLE, 1, MAPS(own), log, 3, 1);
+    planner_probe_hear_logged(TABLE, 1, MAPS(own), bytes(M11[5]), PLANNER_FRAME, log, 3, 2);
     answer = planner_log_entry(log, 3, 3, 0);
     expect(PLANNER_EVENT_WHAT(answer) == 2 && PLANNER_EVENT_LINK(answer) == 0, "first entry of an end", 0);
     answer = planner_log_entry(log, 3, 3, 1);
     expect(PLANNER_EVENT_WHAT(answer) == 0 && PLANNER_EVENT_LINK(answer) == 1, "second entry of an end", 0);
     answer = planner_log_entry(log, 3, 3, 2);
     expect(PLANNER_EVENT_WHAT(answer) == 3 && PLANNER_EVENT_DISPLACED(answer) == 0, "third entry of an end", 0);
-    answer = planner_probe_open_logged(TABLE, 1, rec, sizeof rec, log, 3, 3);
+    answer = planner_probe_open_logged(TABLE, 1, MAPS(own), log, 3, 3);
     expect(answer == 26, "full log of an end", 0);
+}
+
+/* That end's record turned into bytes and back, and what 8, 20, 21 and 22 refuse of either form. */
+static void turned(void) {
+    static const uint8_t record[2 * LINKS] = {0, 2, 1, 1, 0, 0};
+    static const struct maps same = {{2}, {0}, {2}, {1}};
+    struct maps own = {{7}, {7}, {7}, {7}}, other;
+    uint64_t longer[WORDS + 1] = {0, 7};
+    uint8_t rec[2 * LINKS + 1];
+    uint64_t answer;
+
+    answer = planner_probe_maps_of(TABLE, 1, record, sizeof record, MAPS(own));
+    expect(answer == PLANNER_ANSWER_BASE && memcmp(&own, &same, sizeof own) == 0, "maps of bytes", 0);
+    memset(rec, 9, sizeof rec);
+    answer = planner_probe_bytes_of(TABLE, 1, MAPS(own), rec, sizeof rec);
+    expect(answer == PLANNER_ANSWER_BASE && memcmp(rec, record, sizeof record) == 0, "bytes of maps", 0);
+    expect(rec[2 * LINKS] == 9, "byte behind the record", 0);
+
+    expect(planner_probe_bytes_of(TABLE, 1, MAPS(own), rec, 2 * LINKS - 1) == 8, "too few bytes", 0);
+    expect(planner_probe_maps_of(TABLE, 1, rec, sizeof rec, MAPS(own)) == 20, "a byte too many", 0);
+    answer = planner_probe_rests(TABLE, 1, own.standing, WORDS, own.refused_out, WORDS, own.held, WORDS,
+                                 longer, WORDS + 1, 1);
+    expect(answer == 20, "a word too many", 0);
+    answer = planner_probe_maps_of(TABLE, 1, record, sizeof record, own.standing, WORDS, own.refused_out, WORDS,
+                                   own.held, WORDS, longer, WORDS + 1);
+    expect(answer == PLANNER_ANSWER_BASE && longer[0] == 1 && longer[1] == 7, "word behind a map", 0);
+    answer = planner_probe_maps_of(TABLE, 1, record, sizeof record, own.standing, WORDS - 1, own.refused_out, WORDS,
+                                   own.held, WORDS, own.refused_in, WORDS);
+    expect(answer == 8, "too few words", 0);
+    other = own;
+    other.refused_out[PLANNER_MAP_WORD(1)] |= PLANNER_MAP_BIT(1);
+    expect(planner_probe_rests(TABLE, 1, MAPS(other), 1) == 21, "link in both maps", 0);
+    other = own;
+    other.refused_in[PLANNER_MAP_WORD(63)] |= PLANNER_MAP_BIT(63);
+    expect(planner_probe_bytes_of(TABLE, 1, MAPS(other), rec, sizeof rec) == 21, "bit past the last", 0);
+    rec[4] = 2;
+    expect(planner_probe_maps_of(TABLE, 1, rec, 2 * LINKS, MAPS(other)) == 21, "byte on a foreign link", 0);
+    other = own;
+    other.standing[0] = 3;
+    expect(planner_probe_open(TABLE, 1, MAPS(other), 1) == 22, "two stand at spare 1", 0);
+    expect(memcmp(&own, &same, sizeof own) == 0, "maps stay", 0);
 }
 
 /* M11 as one text, and behind the table in two pieces. */
@@ -237,20 +298,21 @@ static int without_link(uint64_t answer, unsigned probe, unsigned what) {
 /* After M11 probe 0 has tried its one link, and probe 1 has one offer standing, its spare. */
 static void open_nothing(void) {
     static const uint8_t after[FLEET] = {2, 2, 0, 0, 1, 1, 0, 0, 1, 1, 1, 1, 1, 0, 1, 0, 0, 0, 2, 2, 0, 0, 1, 1};
-    static const uint8_t alone[2][2 * LINKS] = {{2, 0, 0, 0, 0, 0}, {0, 2, 1, 1, 0, 0}};
-    uint8_t rec[FLEET], own[2][2 * LINKS];
+    static const struct maps alone[2] = {{{0}, {1}, {0}, {0}}, {{2}, {0}, {2}, {1}}};
+    struct maps own[2];
+    uint8_t rec[FLEET];
     uint64_t log[3] = {0, 0, 0};
 
     memcpy(rec, after, sizeof rec);
     memcpy(own, alone, sizeof own);
     planner_fleet_event_logged(TABLE, rec, sizeof rec, bytes(M11[0]), PLANNER_FRAME, log, 3, 0);
     planner_fleet_event_logged(TABLE, rec, sizeof rec, bytes(M11[2]), PLANNER_FRAME, log, 3, 1);
-    planner_probe_open_logged(TABLE, 0, own[0], sizeof own[0], log, 3, 2);
+    planner_probe_open_logged(TABLE, 0, MAPS(own[0]), log, 3, 2);
     expect(without_link(planner_log_entry(log, 3, 3, 0), 0, 7), "all tried", 0);
     expect(without_link(planner_log_entry(log, 3, 3, 1), 1, 1), "enough", 1);
     expect(without_link(planner_log_entry(log, 3, 3, 2), 0, 7), "all tried by an end", 0);
-    expect(planner_probe_open(TABLE, 0, own[0], sizeof own[0], 1) == log[2], "the same without a log", 0);
-    expect(without_link(planner_probe_open(TABLE, 1, own[1], sizeof own[1], 1), 1, 1), "enough by an end", 1);
+    expect(planner_probe_open(TABLE, 0, MAPS(own[0]), 1) == log[2], "the same without a log", 0);
+    expect(without_link(planner_probe_open(TABLE, 1, MAPS(own[1]), 1), 1, 1), "enough by an end", 1);
     expect(memcmp(rec, after, sizeof rec) == 0 && memcmp(own, alone, sizeof own) == 0, "records stay", 0);
 }
 
@@ -259,7 +321,8 @@ static void open_nothing(void) {
 static void restarted(void) {
     static const char restart[] = "03000100010001\n";
     static const uint8_t wiped[FLEET] = {2, 0, 0, 0, 1, 1, 0, 0, 0, 1, 1, 0, 1, 0, 1, 0, 0, 0, 2, 2, 0, 0, 1, 1};
-    uint8_t rec[FLEET] = {0}, own[2 * LINKS] = {0};
+    uint8_t rec[FLEET] = {0};
+    struct maps own = fresh;
     unsigned event;
     uint64_t answer;
 
@@ -271,10 +334,10 @@ static void restarted(void) {
     expect(memcmp(rec, wiped, sizeof rec) == 0, "record of a restarted probe", 1);
     answer = planner_fleet_event(TABLE, rec, sizeof rec, bytes(M11[6]), PLANNER_FRAME, 0, 1);
     expect(PLANNER_EVENT_WHAT(answer) == 6 && PLANNER_EVENT_PROBE(answer) == 0, "refusal from before", 0);
-    answer = planner_probe_hear(TABLE, 1, own, sizeof own, bytes(restart), PLANNER_FRAME, 1);
+    answer = planner_probe_hear(TABLE, 1, MAPS(own), bytes(restart), PLANNER_FRAME, 1);
     expect(answer == 9, "restart heard by an end", 1);
-    answer = planner_probe_hear(TABLE, 0, own, sizeof own, bytes(M11[6]), PLANNER_FRAME, 1);
-    expect(PLANNER_EVENT_WHAT(answer) == 5 && own[0] == 2, "refusal of an untried link", 0);
+    answer = planner_probe_hear(TABLE, 0, MAPS(own), bytes(M11[6]), PLANNER_FRAME, 1);
+    expect(PLANNER_EVENT_WHAT(answer) == 5 && is_set(own.refused_out, 0), "refusal of an untried link", 0);
 
     expect(planner_fleet_finished(TABLE, rec, sizeof rec / 2) == 20, "four bytes a link", 0);
     rec[12] = 0;
@@ -366,6 +429,7 @@ int main(void) {
     fleet_logged();
     one_end();
     one_end_logged();
+    turned();
     script();
     open_nothing();
     restarted();

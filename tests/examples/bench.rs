@@ -4,7 +4,9 @@ use planner_tests::channel::full_script;
 use planner_tests::depths;
 use planner_tests::ffi;
 use planner_tests::fleet::{self, BYTES};
+use planner_tests::maps::OwnMaps;
 use planner_tests::methods;
+use planner_tests::plain_ends::{self, timed, Timed};
 use planner_tests::random::Random;
 use planner_tests::reference::{fill_plan, fill_plan_and_work, Caller, Slices, Table, FULL};
 use planner_tests::script;
@@ -15,6 +17,7 @@ use std::time::Instant;
 const RUNS: usize = 401;
 const CALLS_A_RUN: u32 = 4;
 const EVENT_RUNS: usize = 31;
+const END_CALLS: u32 = 32;
 
 #[derive(Clone, Copy)]
 enum Method {
@@ -193,6 +196,113 @@ fn print_growth(random: &mut Random) {
     }
 }
 
+/// What befalls an end.
+#[derive(Clone, Copy)]
+enum Event {
+    Opening,
+    Offer,
+}
+
+/// The yardstick is plain Rust on a record in bytes, without the table's checks. An opening by the byte
+/// calls of the landing before took so many times this, without those checks, at random costs.
+const OPENING_BY_BYTES: f64 = 1.68;
+/// An opening by the byte calls of the landing before took so many times this at hubs.
+const OPENING_BY_BYTES_AT_HUBS: f64 = 1.52;
+/// A heard offer by the byte calls of the landing before took so many times this at random costs.
+const OFFER_BY_BYTES: f64 = 1.49;
+/// A heard offer by the byte calls of the landing before took so many times this at hubs.
+const OFFER_BY_BYTES_AT_HUBS: f64 = 1.99;
+
+/// The events, each with these figures for the sites of `timed`.
+const EVENTS: [(Event, &str, [f64; 2]); 2] = [
+    (
+        Event::Opening,
+        "opening",
+        [OPENING_BY_BYTES, OPENING_BY_BYTES_AT_HUBS],
+    ),
+    (
+        Event::Offer,
+        "offer",
+        [OFFER_BY_BYTES, OFFER_BY_BYTES_AT_HUBS],
+    ),
+];
+
+/// An end's call by the library, by plain Rust on the same maps, the table's checks alone, and the
+/// yardstick on the bytes: microseconds of each in each run.
+fn measure_end(end: &Timed, event: Event) -> Vec<[f64; 4]> {
+    let (mut maps, mut record) = (OwnMaps::turned(&end.record), end.record.clone());
+    let mut call = |which: usize| {
+        let (given, probe) = (black_box(end.numbers.slices()), end.probe);
+        let (line, lent) = (black_box(&end.line[..]), maps.lend());
+        let answer = match (which, event) {
+            (0, Event::Opening) => ffi::probe_open(given, probe, lent, 1),
+            (0, Event::Offer) => ffi::probe_hear(given, probe, lent, line, 1),
+            (1, Event::Opening) => ffi::entry_answer(&plain_ends::open(given, probe, lent, 1)),
+            (1, Event::Offer) => ffi::entry_answer(&plain_ends::hear(given, probe, lent, line, 1)),
+            (2, _) => return ffi::check(Caller::Full, given).into(),
+            (_, Event::Opening) => {
+                ffi::entry_answer(&plain_ends::open_bytes(given, probe, &mut record, 1))
+            }
+            (_, Event::Offer) => {
+                ffi::entry_answer(&plain_ends::hear_bytes(given, probe, &mut record, line, 1))
+            }
+        };
+        // The call's one change is taken back.
+        let link = usize::from((answer >> 16) as u16);
+        let (word, bit) = (link / 64, 1 << (link % 64));
+        match event {
+            Event::Opening => {
+                maps.standing[word] &= !bit;
+                record[2 * link] = 0;
+            }
+            Event::Offer => {
+                maps.held[word] &= !bit;
+                record[2 * link + 1] = 0;
+            }
+        }
+        answer
+    };
+    let answers = [0, 1, 3].map(&mut call);
+    assert_eq!(answers, [answers[0]; 3], "the answers differ");
+    assert_eq!(call(2), 0);
+    let mut runs = vec![[0.0; 4]; RUNS];
+    for (run, times) in runs.iter_mut().enumerate() {
+        for which in (0..4).map(|place| (run + place) % 4) {
+            let start = Instant::now();
+            for _ in 0..END_CALLS {
+                black_box(call(which));
+            }
+            times[which] = start.elapsed().as_secs_f64() * 1e6 / END_CALLS as f64;
+        }
+    }
+    runs
+}
+
+fn print_ends() {
+    println!(
+        "site          links  call      library us   rust us  ratio   own us  bytes us  ratio"
+    );
+    for (site, end) in timed().iter().enumerate() {
+        for (event, name, byte_calls) in EVENTS {
+            let runs = measure_end(end, event);
+            let median = |of: &dyn Fn(&[f64; 4]) -> f64| Sorted::of(runs.iter().map(of)).quarter(2);
+            let own = |times: &[f64; 4]| times[0] - times[2];
+            let bytes = |times: &[f64; 4]| times[3] * byte_calls[site];
+            println!(
+                "{:<12}  {:>5}  {name:<8}  {:>10.2}  {:>8.2}  {:>5.2}  {:>7.2}  {:>8.2}  {:>5.2}",
+                end.site,
+                end.numbers.links,
+                median(&|times| times[0]),
+                median(&|times| times[1]),
+                median(&|times| times[0] / times[1]),
+                median(&own),
+                median(&bytes),
+                median(&|times| own(times) / bytes(times)),
+            );
+        }
+    }
+}
+
 fn print_depths() {
     println!("call                          bytes");
     for (name, depth) in depths::of_planning() {
@@ -210,6 +320,11 @@ fn main() {
     println!("1,024 events on the largest site, as one script and as calls with all checks;");
     println!("least of {EVENT_RUNS} runs:");
     print_events(&mut random);
+    println!(
+        "An end's calls on 2,048 links, maps with all checks; then without the table's checks,"
+    );
+    println!("against the byte calls of the landing before; medians of {RUNS} runs:");
+    print_ends();
     println!("Deepest stack of each planning call, the display's on its own largest sites:");
     print_depths();
 }

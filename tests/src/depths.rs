@@ -5,6 +5,7 @@ use crate::events::each_table;
 use crate::ffi::{self, ANSWER_BASE};
 use crate::fleet::{own_record, BYTES};
 use crate::lines::{offer, opening, refusal, restart};
+use crate::maps::OwnMaps;
 use crate::random::Random;
 use crate::reference::{Behind, Caller, Lent, Limits, Table, DISPLAY, FULL};
 use crate::script::room_for;
@@ -59,9 +60,10 @@ pub struct Site {
     input: Vec<u8>,
     /// The fleet's record after it.
     reached: Vec<u8>,
-    /// A probe with the most links, and its own part of that record.
+    /// A probe with the most links, and its own part of that record, in bytes and as maps.
     probe: u16,
     own: Vec<u8>,
+    maps: OwnMaps,
 }
 
 impl Site {
@@ -75,13 +77,15 @@ impl Site {
             ffi::fleet_event(numbers.slices(), &mut reached, line, 0, 1);
         }
         let piece = lines.concat();
+        let own = own_record(table, probe, &reached);
         Site {
             numbers,
             input: [&text[..], &piece].concat(),
             text,
             lines,
             piece,
-            own: own_record(table, probe, &reached),
+            maps: OwnMaps::turned(&own),
+            own,
             reached,
             probe,
         }
@@ -98,6 +102,7 @@ struct Lending {
     plan: Vec<u8>,
     work: Vec<u8>,
     own: Vec<u8>,
+    maps: OwnMaps,
     record: Vec<u8>,
     line: [u8; 16],
     log: [u64; 2],
@@ -116,7 +121,8 @@ impl Lending {
             costs,
             plan: vec![9; links],
             work: vec![9; 4 * links],
-            own: vec![0; site.own.len()],
+            own: vec![9; site.own.len()],
+            maps: OwnMaps::fresh(site.own.len() / 2),
             record: vec![0; site.reached.len()],
             line: [9; 16],
             log: [ANSWER_BASE; 2],
@@ -147,7 +153,7 @@ fn just_holding(answer: u64, out: &mut [u8]) -> &mut [u8] {
 /// Asks the probe for a frame on each link.
 fn ask(site: &Site, kind: Kind, out: &mut [u8]) -> u64 {
     let given = site.numbers.slices();
-    let ask = |link| ffi::probe_ask(given, site.probe, &site.own, kind, link, out);
+    let ask = |link| ffi::probe_ask(given, site.probe, site.maps.slices(), kind, link, out);
     largest((0..given.links).map(ask))
 }
 
@@ -197,7 +203,7 @@ const fn display(name: &'static str, make: fn(&Site, &mut Lending) -> u64) -> Ca
     Call { name, caller, make }
 }
 
-pub const CALLS: [Call; 27] = [
+pub const CALLS: [Call; 29] = [
     full("planner_check_table", check_table),
     display("planner_display_check_table", check_table),
     display("planner_display_plan_slse", plan_slse),
@@ -231,29 +237,38 @@ pub const CALLS: [Call; 27] = [
     full("planner_probe_ask_refusal", |site, lent| {
         ask(site, Kind::Refusal, &mut lent.out)
     }),
+    full("planner_probe_bytes_of", |site, lent| {
+        let (given, maps) = (site.numbers.slices(), site.maps.slices());
+        ffi::probe_bytes_of(given, site.probe, maps, &mut lent.own)
+    }),
     full("planner_probe_hear", |site, lent| {
-        let (given, record) = (site.numbers.slices(), &mut lent.own);
-        ffi::probe_open(given, site.probe, record, 1);
-        let hear = |line: &Vec<u8>| ffi::probe_hear(given, site.probe, record, line, 1);
+        let (given, maps) = (site.numbers.slices(), &mut lent.maps);
+        ffi::probe_open(given, site.probe, maps.lend(), 1);
+        let hear = |line: &Vec<u8>| ffi::probe_hear(given, site.probe, maps.lend(), line, 1);
         largest(site.lines.iter().map(hear))
     }),
     full("planner_probe_hear_logged", |site, lent| {
-        let (given, record, log) = (site.numbers.slices(), &mut lent.own, &mut lent.log);
-        ffi::probe_open(given, site.probe, record, 1);
-        let hear = |line: &Vec<u8>| ffi::probe_hear_logged(given, site.probe, record, line, log, 1);
+        let (given, maps, log) = (site.numbers.slices(), &mut lent.maps, &mut lent.log);
+        ffi::probe_open(given, site.probe, maps.lend(), 1);
+        let hear =
+            |line: &Vec<u8>| ffi::probe_hear_logged(given, site.probe, maps.lend(), line, log, 1);
         largest(site.lines.iter().map(hear))
     }),
+    full("planner_probe_maps_of", |site, lent| {
+        let (given, maps) = (site.numbers.slices(), lent.maps.lend());
+        ffi::probe_maps_of(given, site.probe, &site.own, maps)
+    }),
     full("planner_probe_open", |site, lent| {
-        let (given, record) = (site.numbers.slices(), &mut lent.own);
-        largest((0..20).map(|_| ffi::probe_open(given, site.probe, record, 1)))
+        let (given, maps) = (site.numbers.slices(), &mut lent.maps);
+        largest((0..20).map(|_| ffi::probe_open(given, site.probe, maps.lend(), 1)))
     }),
     full("planner_probe_open_logged", |site, lent| {
-        let (given, record, log) = (site.numbers.slices(), &mut lent.own, &mut lent.log);
-        largest((0..20).map(|_| ffi::probe_open_logged(given, site.probe, record, log, 1)))
+        let (given, maps, log) = (site.numbers.slices(), &mut lent.maps, &mut lent.log);
+        largest((0..20).map(|_| ffi::probe_open_logged(given, site.probe, maps.lend(), log, 1)))
     }),
     full("planner_probe_rests", |site, _| {
-        let given = site.numbers.slices();
-        let rests = |link| ffi::probe_rests(given, site.probe, &site.own, link);
+        let (given, maps) = (site.numbers.slices(), site.maps.slices());
+        let rests = |link| ffi::probe_rests(given, site.probe, maps, link);
         largest((0..given.links).map(rests))
     }),
     full("planner_read_table", read_table),

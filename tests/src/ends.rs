@@ -1,5 +1,5 @@
-//! The second implementation of one end, from documents 01 and 02 alone; a refusal is its number
-//! there.
+//! The second implementation of one end on a record in bytes, from documents 01 and 02 alone; a refusal
+//! is its number there. `maps` has the same on maps.
 
 use crate::reference::{counted_need, dearer, table_of_slices, Caller, Link, Slices};
 
@@ -259,6 +259,11 @@ fn check_log(free: usize) -> Result<(), u8> {
         0 => Err(26),
         _ => Ok(()),
     }
+}
+
+/// The table's checks, then 20, 21, 22 of the bytes.
+pub fn check_record(given: Slices, probe: u16, record: &[u8]) -> Result<(), u8> {
+    End::of(given, probe, record).map(|_| ())
 }
 
 /// The probe opens; `free` entries of its log are free.

@@ -2,6 +2,7 @@
 
 use crate::compare_ends::End;
 use crate::ends::{other_end, Frame, What};
+use crate::maps::{bit, flip, MAPS};
 use crate::random::{each_seed, Random};
 use crate::reference::Table;
 use crate::sites::{all_or_more, crowded, hubs, legal, legal_of_size, set_costs, set_needs};
@@ -159,37 +160,89 @@ pub fn damaged_line(
 
 /// Makes the record one that 20, 21 or 22 may refuse.
 pub fn damage_record(end: &mut End, table: &Table, random: &mut Random) {
-    let (record, any) = (&mut end.record, random.byte());
+    let (own, any) = (own_links(table, end.probe), random.word());
+    let map = end.maps.at(random.below(MAPS));
     match random.below(16) {
-        0 => drop(record.pop()),
-        1 => record.push(random.pick(&[0, 1, any])),
-        2 => record.resize(random.below(record.len() + 3), 0),
-        3 | 4 => set_any(record, random.pick(&[3, 3, 255, any]), random),
-        5 | 6 => set_any(record, random.pick(&[1, 2]), random),
+        0 => drop(map.pop()),
+        1 => map.push(random.pick(&[0, 1, any])),
+        2 => map.resize(random.below(map.len() + 3), 0),
+        3 | 4 => flip_any(map, random),
+        5 => {
+            let (links, bits) = (table.links.len(), 64 * map.len());
+            if links < bits {
+                flip(map, links + random.below(bits - links));
+            }
+        }
+        6 | 7 if !own.is_empty() => set_twice(end, random.pick(&own), random),
         _ => {
             let spare = table.spares().get(usize::from(end.probe)).copied();
             let ones = spare.unwrap_or(0) + random.below(2);
-            set_ones(record, own_links(table, end.probe), ones, random);
+            set_ones(end, own, ones, random);
         }
     }
 }
 
-fn set_any(record: &mut [u8], byte: u8, random: &mut Random) {
-    if !record.is_empty() {
-        record[random.below(record.len())] = byte;
+fn flip_any(map: &mut [u64], random: &mut Random) {
+    if !map.is_empty() {
+        flip(map, random.below(64 * map.len()));
     }
+}
+
+/// The two maps of a direction, the first of them that of the ones.
+fn direction(end: &mut End, outbound: bool) -> [&mut Vec<u64>; 2] {
+    let maps = end.maps.each_mut();
+    match outbound {
+        true => [maps.standing, maps.refused_out],
+        false => [maps.held, maps.refused_in],
+    }
+}
+
+/// Sets the link's bit, or takes it away, if the map reaches so far.
+fn put(map: &mut [u64], link: usize, value: bool) {
+    if link < 64 * map.len() && bit(map, link) != value {
+        flip(map, link);
+    }
+}
+
+/// Sets the link in both maps of a direction.
+fn set_twice(end: &mut End, link: usize, random: &mut Random) {
+    for map in direction(end, random.one_in(2)) {
+        put(map, link, true);
+    }
+}
+
+fn shuffled(mut places: Vec<usize>, random: &mut Random) -> Vec<usize> {
+    for place in (1..places.len()).rev() {
+        places.swap(place, random.below(place + 1));
+    }
+    places
 }
 
 /// Gives so many of the own links a 1, all outbound or all inbound, and the others none there.
-fn set_ones(record: &mut [u8], mut own: Vec<usize>, ones: usize, random: &mut Random) {
-    for place in (1..own.len()).rev() {
-        own.swap(place, random.below(place + 1));
+fn set_ones(end: &mut End, own: Vec<usize>, ones: usize, random: &mut Random) {
+    let [one, two] = direction(end, random.one_in(2));
+    for (done, place) in shuffled(own, random).into_iter().enumerate() {
+        put(one, place, done < ones);
+        put(two, place, done >= ones && random.one_in(2));
     }
-    let side = random.below(2);
-    for (done, place) in own.into_iter().enumerate() {
-        let no_one = random.pick(&[0, 2]);
-        if let Some(byte) = record.get_mut(2 * place + side) {
-            *byte = if done < ones { 1 } else { no_one };
+}
+
+/// The bytes of a record of the probe that 20 to 22 let pass: up to its spare stand, and up to its
+/// spare are held.
+pub fn any_record(table: &Table, probe: u16, random: &mut Random) -> Vec<u8> {
+    let mut record = vec![0; 2 * table.links.len()];
+    let own = own_links(table, probe);
+    let spare = table.spares().get(usize::from(probe)).copied().unwrap_or(0);
+    for side in 0..2 {
+        let any = random.below(spare + 1);
+        let mut ones = random.pick(&[spare, any]);
+        for place in shuffled(own.clone(), random) {
+            record[2 * place + side] = match ones {
+                0 => random.pick(&[0, 0, 2]),
+                _ => 1,
+            };
+            ones = ones.saturating_sub(1);
         }
     }
+    record
 }

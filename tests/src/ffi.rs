@@ -1,6 +1,7 @@
 //! The functions of the static libraries: each lent slice passes as a pointer and a length in entries.
 
 use crate::ends::{Entry, Kind};
+use crate::maps::{LentMaps, Maps};
 use crate::reference::{Behind, Caller, Lent, Plan, Slices, Table};
 
 /// Declares a function of the library and calls it: in brackets the parameters that are taken apart
@@ -14,23 +15,39 @@ macro_rules! call {
         // Sound: each pointer and length are those of a borrowed slice.
         unsafe { function($($value),*) }
     }};
-    ($function:tt [$($done:tt)*] $table:ident: Slices, $($more:tt)*) => {
+    ($function:tt [$($done:tt)*] $parts:ident: Slices, $($more:tt)*) => {
         call!($function [$($done)*]
-            ($table.number): u16,
-            ($table.probes): u16,
-            ($table.links): u16,
-            ($table.needs): &[u16],
-            ($table.lows): &[u16],
-            ($table.highs): &[u16],
-            ($table.costs): &[u16],
+            ($parts.number): u16,
+            ($parts.probes): u16,
+            ($parts.links): u16,
+            ($parts.needs): &[u16],
+            ($parts.lows): &[u16],
+            ($parts.highs): &[u16],
+            ($parts.costs): &[u16],
             $($more)*)
     };
-    ($function:tt [$($done:tt)*] $table:ident: Lent, $($more:tt)*) => {
+    ($function:tt [$($done:tt)*] $parts:ident: Lent, $($more:tt)*) => {
         call!($function [$($done)*]
-            ($table.needs): &mut [u16],
-            ($table.lows): &mut [u16],
-            ($table.highs): &mut [u16],
-            ($table.costs): &mut [u16],
+            ($parts.needs): &mut [u16],
+            ($parts.lows): &mut [u16],
+            ($parts.highs): &mut [u16],
+            ($parts.costs): &mut [u16],
+            $($more)*)
+    };
+    ($function:tt [$($done:tt)*] $parts:ident: Maps, $($more:tt)*) => {
+        call!($function [$($done)*]
+            ($parts.standing): &[u64],
+            ($parts.refused_out): &[u64],
+            ($parts.held): &[u64],
+            ($parts.refused_in): &[u64],
+            $($more)*)
+    };
+    ($function:tt [$($done:tt)*] $parts:ident: LentMaps, $($more:tt)*) => {
+        call!($function [$($done)*]
+            ($parts.standing): &mut [u64],
+            ($parts.refused_out): &mut [u64],
+            ($parts.held): &mut [u64],
+            ($parts.refused_in): &mut [u64],
             $($more)*)
     };
     ($function:tt [$($done:tt)*] $slice:tt: &[$entry:ty], $($more:tt)*) => {
@@ -75,26 +92,34 @@ library! {
     fn display_plan_turns(given: Slices, plan: &mut [u8], work: &mut [u8]) -> u64;
     fn display_plan_text(text: &[u8], out: &mut [u8]) -> u64;
 
-    pub fn probe_open(given: Slices, probe: u16, rec: &mut [u8], free: usize) -> u64;
-    pub fn probe_hear(given: Slices, probe: u16, rec: &mut [u8], frame: &[u8], free: usize) -> u64;
+    pub fn probe_open(given: Slices, probe: u16, maps: LentMaps, free: usize) -> u64;
+    pub fn probe_hear(
+        given: Slices,
+        probe: u16,
+        maps: LentMaps,
+        frame: &[u8],
+        free: usize
+    ) -> u64;
     pub fn probe_open_logged(
         given: Slices,
         probe: u16,
-        rec: &mut [u8],
+        maps: LentMaps,
         log: &mut [u64],
         used: usize
     ) -> u64;
     pub fn probe_hear_logged(
         given: Slices,
         probe: u16,
-        rec: &mut [u8],
+        maps: LentMaps,
         frame: &[u8],
         log: &mut [u64],
         used: usize
     ) -> u64;
-    fn probe_ask_offer(given: Slices, probe: u16, rec: &[u8], link: u16, out: &mut [u8]) -> u64;
-    fn probe_ask_refusal(given: Slices, probe: u16, rec: &[u8], link: u16, out: &mut [u8]) -> u64;
-    pub fn probe_rests(given: Slices, probe: u16, rec: &[u8], link: u16) -> u64;
+    fn probe_ask_offer(given: Slices, probe: u16, maps: Maps, link: u16, out: &mut [u8]) -> u64;
+    fn probe_ask_refusal(given: Slices, probe: u16, maps: Maps, link: u16, out: &mut [u8]) -> u64;
+    pub fn probe_rests(given: Slices, probe: u16, maps: Maps, link: u16) -> u64;
+    pub fn probe_maps_of(given: Slices, probe: u16, rec: &[u8], maps: LentMaps) -> u64;
+    pub fn probe_bytes_of(given: Slices, probe: u16, maps: Maps, rec: &mut [u8]) -> u64;
 
     pub fn fleet_event(given: Slices, rec: &mut [u8], line: &[u8], used: usize, room: usize) -> u64;
     pub fn fleet_event_logged(
@@ -167,7 +192,7 @@ pub fn print_plan(caller: Caller, text: &[u8], out: &mut [u8]) -> u64 {
 pub fn probe_ask(
     given: Slices,
     probe: u16,
-    record: &[u8],
+    maps: Maps,
     kind: Kind,
     link: u16,
     out: &mut [u8],
@@ -176,7 +201,7 @@ pub fn probe_ask(
         Kind::Offer => probe_ask_offer,
         Kind::Refusal => probe_ask_refusal,
     };
-    ask(given, probe, record, link, out)
+    ask(given, probe, maps, link, out)
 }
 
 /// Packed answers start here; refusals are below.
@@ -229,6 +254,14 @@ pub fn entry_answer(result: &Result<Entry, u8>) -> u64 {
 pub fn yes_answer(result: &Result<bool, u8>) -> u64 {
     match result {
         Ok(yes) => ANSWER_BASE + *yes as u64,
+        Err(refusal) => *refusal as u64,
+    }
+}
+
+/// The number that stands for a record's turning.
+pub fn turned_answer(result: &Result<(), u8>) -> u64 {
+    match result {
+        Ok(()) => ANSWER_BASE,
         Err(refusal) => *refusal as u64,
     }
 }

@@ -78,12 +78,12 @@ pub fn of_crates() -> Vec<Signature> {
     found
 }
 
-/// The parameters that a `Slices` or a `Lent` passes, as the macro `call!` of `ffi` takes it apart.
+/// The parameters that a `Slices`, a `Lent` or maps pass, as the macro `call!` of `ffi` takes them apart.
 fn taken_apart(ffi: &str, of: &str) -> Vec<(String, String)> {
-    let rule = format!("$table:ident: {of},");
+    let rule = format!("$parts:ident: {of},");
     let (_, rule) = ffi.split_once(&rule).expect("a rule of `call!`");
     let parameter = |line: &str| {
-        let line = line.trim().strip_prefix("($table.")?;
+        let line = line.trim().strip_prefix("($parts.")?;
         let (name, of) = line.strip_suffix(',')?.split_once("): ")?;
         Some((name.to_owned(), of.to_owned()))
     };
@@ -104,7 +104,7 @@ pub fn of_ffi(ffi: &str) -> Vec<Signature> {
         function.name.insert_str(0, "planner_");
         let parameters = std::mem::take(&mut function.parameters).into_iter();
         let parts = |(name, of): (String, String)| match of.as_str() {
-            "Slices" | "Lent" => taken_apart(ffi, &of),
+            "Slices" | "Lent" | "Maps" | "LentMaps" => taken_apart(ffi, &of),
             _ => vec![(name, of)],
         };
         function.parameters = parameters.flat_map(parts).collect();

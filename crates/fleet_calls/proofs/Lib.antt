@@ -1,4 +1,3 @@
-pub mod Choice
 pub mod Same
 pub mod Promises
 pub mod Calls

@@ -27,7 +27,7 @@ use Rattle.probe_rules.specs.Frames.{numberFault, heardOf}
 use Rattle.probe_rules.specs.Within.{EventWithin, Within}
 use Rattle.fleet_theory.specs.Fleet.{outAt, inAt, pairAt, own, marks, linkBytesFault, fleetFault, ofOneProbe, eventKindFault, eventEndsFault, eventLineFault, eventOf, unsentFault, alterFleet, wipedTo, wiped, wouldOpen, alters, finished}
 use Rattle.fleet_theory.proofs.Wipe.{wiped-by-ends}
-use Rattle.fleet_calls.proofs.Choice.{lowest-of-same, best-of-same}
+use Rattle.range.proofs.Choice.{lowest-of-same, best-of-same}
 
 -- a test that counts only where another passes
 pub and-under : (a b c : Bool) → (a ≡ true → b ≡ c) → (a && b) ≡ (a && c)
@@ -54,7 +54,7 @@ module _ (t u : Table) (e : Same t u) where
   same-marks p r =
       same-pairs p r (λ i. outAt t p i + 4) (λ i. outAt u p i + 4) (λ i. inAt t p i + 4) (λ i. inAt u p i + 4) (λ i l. rw (e .low i l)) (λ i l. rw (e .low i l))
 
-  same-spare : (v : ℕ) → v < t .probes → spare t v ≡ spare u v
+  pub same-spare : (v : ℕ) → v < t .probes → spare t v ≡ spare u v
   same-spare v l = rw (same-degree t u e v, e .need v l)
 
   -- the own links with a byte's value: their number, and the best of them
@@ -86,7 +86,7 @@ module _ (t u : Table) (e : Same t u) where
     same-cheapest = same-best p (inbound a) 1 (cheaper t) (cheaper u) (λ i j l m. dearer-same t u e j i m l)
 
   -- 22 of an end
-  pub same-spare-fault : (p : ℕ) → p < t .probes → (a : List ℕ) → spareFault t p a ≡ spareFault u p a
+  same-spare-fault : (p : ℕ) → p < t .probes → (a : List ℕ) → spareFault t p a ≡ spareFault u p a
   same-spare-fault p l a = rw (same-spare p l, same-standing p a, same-held p a)
 
   -- 20, 21 and 22 of a fleet

@@ -13,9 +13,9 @@ use Rattle.range.proofs.Choice.{Found, found-start, found-skip, found-new, foun
 use Rattle.range.proofs.Sums.{count-hit, count-miss}
 use Rattle.table.specs.Table.{Table, ofSlices, touches, dearer}
 use Rattle.table_links.proofs.Own.{Next}
-use Rattle.probe_record.specs.Record.{ownWith, sideByte, sideBetter}
+use Rattle.probe_record.specs.Record.{ownWith}
 use Rattle.fleet_theory.specs.Fleet.{own}
-use Rattle.fleet_rules.specs.Survey.{Surveyed}
+use Rattle.fleet_rules.specs.Survey.{sideByte, sideBetter, Surveyed}
 use Rattle.fleet_rules.specs.declared.Survey.{Survey}
 
 pub one-most : (c : Bool) → cond c 1 0 ≤ 1

@@ -10,11 +10,10 @@ ghost use lib.Dec.{leb, eqb};
 ghost use lib.ListN.{length};
 ghost use Rattle.table.specs.Table.{item, ofSlices, dearerByPlace, Degrees};
 ghost use Rattle.table_links.specs.OrderedLinks.{OrderedLinks};
-ghost use Rattle.probe_record.specs.Record.{sideByte, sideBetter};
 ghost use Rattle.probe_rules.specs.Rules.{opening, offer, befalls};
 ghost use Rattle.probe_rules.specs.Within.{EventWithin};
 ghost use Rattle.fleet_theory.specs.Fleet.{own};
-ghost use Rattle.fleet_rules.specs.Survey.{Surveyed};
+ghost use Rattle.fleet_rules.specs.Survey.{sideByte, sideBetter, Surveyed};
 
 fn one_if(byte: u8) -> usize
     ensures { λ r. ⌜ r ≡ cond (eqb byte 1) 1 0 ⌝ }

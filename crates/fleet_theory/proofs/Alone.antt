@@ -1,40 +1,24 @@
 -- An outcome alters an end's own bytes as the end alters them alone, and no other end's. A restart makes them fresh, and leaves the others and all marks.
-use Prim.Native.Nat.{ℕ, _+_, _*_, _/_, _%_, _<_}
+use Prim.Native.Nat.{ℕ, _+_, _*_}
 use mathlib.Core.Path.{_≡_, refl, sym, _∙_, ap}
 use mathlib.Core.List.{List}
-use native.Mathlib.Nat.{div-add-mod}
 use native.Mathlib.Omega.{arith}
-use native.Mathlib.Decide.{ℕ-discrete}
 use lib.ListN.{length, set, length-set, length-replicate}
-use lib.Seq.{getD-set-same, getD-set-other, ext-getD}
+use lib.Seq.{getD-set-same, getD-set-other}
 use Rattle.range.proofs.Lists.{zeros-at}
-use Rattle.table.specs.Table.{Table, item}
+use Rattle.table.specs.Table.{Table}
 use Rattle.probe_record.specs.Record.{outbound, inbound, fresh}
 use Rattle.probe_rules.specs.declared.Outcome.{Outcome}
 use Rattle.probe_rules.specs.declared.Outcome.the-variants.{Opened, Enough, Taken, TakenDisplacing, Refused, RefusalLearnt, NoChange, AllTried}
 use Rattle.probe_rules.specs.Rules.{alter}
 use Rattle.probe_rules.specs.Within.{OwnLink, OwnOutcome}
+use Rattle.probe_maps.proofs.Rounds.{pairs-equal}
 use Rattle.fleet_theory.proofs.EndState.{store}
 use Rattle.fleet_theory.proofs.EndBytes.{Cell, here, there, cell}
 use Rattle.fleet_theory.specs.Fleet.{outAt, inAt, own, marks, alterFleet, wiped}
 use Rattle.fleet_theory.proofs.Own.{outOf, inOf, length-own, length-marks, out-reads, in-reads}
 use Rattle.fleet_theory.proofs.Bytes.{storedOut, storedIn, stored, marked-same, out-set, out-in-set, in-set, in-out-set, altered-out, altered-in}
 use Rattle.fleet_theory.proofs.Wipe.{wiped-out, wiped-in, wiped-out-else, wiped-in-else, wiped-out-mark, wiped-in-mark}
-
--- records of ends that are equal byte by byte
-pub pairs-equal : (n : ℕ) (e f : List ℕ) → length e ≡ 2 * n → length f ≡ 2 * n → ((i : ℕ) → i < n → outbound e i ≡ outbound f i)
-    → ((i : ℕ) → i < n → inbound e i ≡ inbound f i) → e ≡ f
-pairs-equal n e f le lf outs ins = ext-getD 0 e f (le ∙ sym lf) (λ j l. go j l (ℕ-discrete (j % 2) 0))
-  where
-    go : (j : ℕ) → j < length e → Dec (j % 2 ≡ 0) → item e j ≡ item f j
-    go j l (yes z) =
-        let a = div-add-mod j 2 in
-        let s : j ≡ 2 * (j / 2) = omega arith in
-        ap (item e) s ∙ outs (j / 2) (omega arith) ∙ ap (item f) (sym s)
-    go j l (no d) =
-        let a = div-add-mod j 2 in
-        let s : j ≡ 2 * (j / 2) + 1 = omega arith in
-        ap (item e) s ∙ ins (j / 2) (omega arith) ∙ ap (item f) (sym s)
 
 -- the bytes of other probes
 module _ (p : ℕ) where

@@ -18,11 +18,14 @@ use Rattle.table.specs.Legal.{Legal, lentFault}
 use Rattle.plan_theory.specs.Criterion.{Across}
 use Rattle.probe_frame.specs.Frame.{Frame, frameOf, frameFault}
 use Rattle.probe_record.specs.Record.{fresh, recordFault}
+use Rattle.range.specs.Reply.{values}
 use Rattle.wake_log.specs.declared.Answer.the-variants.{Logged}
+use Rattle.wake_log.specs.Entry.{entryValues}
 use Rattle.probe_record.proofs.Bytes.{record-passes}
 use Rattle.probe_rules.specs.declared.Event.{Event}
 use Rattle.probe_rules.specs.declared.Event.the-variants.{Opening}
-use Rattle.probe_rules.specs.Rules.{sendable}
+use Rattle.probe_rules.specs.declared.Outcome.{Outcome}
+use Rattle.probe_rules.specs.Rules.{befalls, alter, entryOf, sendable}
 use Rattle.probe_rules.specs.Frames.{numberFault, heardOf}
 use Rattle.probe_rules.specs.Within.{OwnLink, OwnOutcome}
 use Rattle.probe_rules.proofs.Frames.{between-is}
@@ -30,9 +33,13 @@ use Rattle.probe.specs.declared.Kind.{Kind}
 use Rattle.probe.specs.declared.Kind.the-variants as kind
 use Rattle.probe.specs.declared.Asked.{Asked}
 use Rattle.probe.specs.declared.Asked.the-variants as asked
+use Rattle.probe_maps.specs.Maps.{Maps, bytesOf, mapsOf, mapsFault, stateFault}
+use Rattle.probe_maps.specs.MapRules.{befallsMaps}
+use Rattle.probe_maps.specs.SameRecords.{SameRecord}
+use Rattle.probe_maps.proofs.Faults.{turns-back}
 use Rattle.probe_checks.specs.Checks as end
 use Rattle.probe_checks.specs.Checks.{toFault, probeFault, ownLinkFault, fullFault, heardFault, hearFault, openFault, linkCallFault}
-use Rattle.probe.specs.Answers.{Asks, askedEvent, askedFrame, askedLine}
+use Rattle.probe.specs.Answers.{opensFault, hearsFault, askFault, AsksFor, askedEvent, askedFrame, askedLine}
 use Rattle.probe.proofs.Calls.{asked-event}
 use Rattle.probe.proofs.Answers.{asks-answer}
 use Rattle.fleet_theory.specs.Fleet.{own, marks, restarts, eventKindFault, eventEndsFault, eventOf, outcomeOf, alterFleet, wiped, State, start, next, run}
@@ -42,7 +49,8 @@ use Rattle.fleet_theory.specs.Ends.{SameAlone, MadeFresh, EndsAlone}
 use Rattle.fleet_theory.proofs.Own.{outOf, inOf, length-own}
 use Rattle.fleet_theory.proofs.Events.{Says, an-opening, a-restart, an-offer, a-refusal, says, line-step, altered-restart, entry-restart, altered-event, entry-event}
 use Rattle.fleet_theory.proofs.Run.{slices-legal, HoldsAfter, Passed, passed, passed-fault, next-accepted, start-out, start-in, start-holds, run-holds}
-use Rattle.fleet_theory.proofs.Alone.{pairs-equal, own-altered, own-else, own-wiped, own-wiped-else, marks-wiped}
+use Rattle.probe_maps.proofs.Rounds.{pairs-equal}
+use Rattle.fleet_theory.proofs.Alone.{own-altered, own-else, own-wiped, own-wiped-else, marks-wiped}
 
 -- whether the line was written
 abbrev isWritten : Asked → Bool
@@ -79,6 +87,19 @@ module _ (x : Slices) (fine : slicesFault x ≡ 0) (s : State) (h : HoldsAfter (
       none byte i is-own m (yes z) = z
       none byte i is-own m (no d) = absurd (true≢false (sym (is-own d .1) ∙ m))
 
+  -- so they let its maps pass, and nothing is lost in them
+  abbrev maps : ℕ → Maps
+  maps p = mapsOf (x .links) (own t p r)
+
+  state-passes : (p : ℕ) → stateFault x p (maps p) ≡ 0
+  state-passes p = or-none (slicesFault x) (mapsFault t p (maps p)) fine ∙ turns-back t p .bytes-there (own t p r) (own-passes p)
+
+  maps-same : (p : ℕ) → SameRecord (x .links) (maps p) (own t p r)
+  maps-same p = turns-back t p .bytes-back (own t p r) (own-passes p)
+
+  back : (p : ℕ) → own t p r ≡ bytesOf (x .links) (maps p)
+  back p = maps-same p .bytes-are
+
   not-full : (free : ℕ) → 0 < free → fullFault free ≡ 0
   not-full free k = rw (ne-eqb free 0 (λ z. omega arith))
 
@@ -110,14 +131,20 @@ module _ (x : Slices) (fine : slicesFault x ≡ 0) (s : State) (h : HoldsAfter (
         record {
           no-fault = none;
           promised = record {
-            answer = rw (passed-fault x fine s h room l a, entry-event t r f some, none, is);
-            record-after = ap (own t p) after ∙ rw (none, ← is) (own-altered t p r (h .long) (outcomeOf t r f) own-links);
+            answer = rw (passed-fault x fine s h room l a, entry-event t r f some, none) (ap (λ (o : Outcome). values (entryValues (entryOf t p o))) outcome);
+            maps-after = rw none (ap (mapsOf (x .links)) (ap (own t p) after ∙ own-altered t p r (h .long) (outcomeOf t r f) own-links ∙ altered));
           };
           others-same = λ q d. ap (own t q) after ∙ own-else t p r (h .long) (outcomeOf t r f) own-links q d;
         }
       where
         after : next x room s l .bytes ≡ alterFleet t p (outcomeOf t r f) r
         after = ap (λ y. y .bytes) (next-accepted x fine s h room l a) ∙ altered-event t r f some
+
+        outcome : outcomeOf t r f ≡ befallsMaps t p event (maps p)
+        outcome = ap (λ (v : Event). befalls t p v e) is ∙ ap (befalls t p event) (back p)
+
+        altered : alter (outcomeOf t r f) e ≡ alter (befallsMaps t p event (maps p)) (bytesOf (x .links) (maps p))
+        altered = ap (λ (o : Outcome). alter o e) outcome ∙ ap (alter (befallsMaps t p event (maps p))) (back p)
 
     restart-same : IsRestart t l → MadeFresh x room s l
     restart-same k =
@@ -131,19 +158,18 @@ module _ (x : Slices) (fine : slicesFault x ≡ 0) (s : State) (h : HoldsAfter (
         after : next x room s l .bytes ≡ wiped t p r
         after = ap (λ y. y .bytes) (next-accepted x fine s h room l a) ∙ altered-restart t r f (rw (k .1))
 
-    open-passes : p < t .probes → (free : ℕ) → 0 < free → openFault (slicesFault x) t p e free ≡ 0
+    open-passes : p < t .probes → (free : ℕ) → 0 < free → opensFault x p (maps p) free ≡ 0
     unfolding openFault
     open-passes b free k =
-        or-none (slicesFault x) (orElse (recordFault t p e) (orElse (probeFault t p) (fullFault free))) fine
-        ∙ or-none (recordFault t p e) (orElse (probeFault t p) (fullFault free)) (own-passes p)
+        or-none (stateFault x p (maps p)) (orElse (probeFault t p) (fullFault free)) (state-passes p)
         ∙ or-none (probeFault t p) (fullFault free) (rw (lt-ltb p (t .probes) b))
         ∙ not-full free k
 
-    opens-same : f .kind ≡ 0 → (free : ℕ) → 0 < free → SameAlone x room s l Opening (openFault (slicesFault x) t p e free)
+    opens-same : f .kind ≡ 0 → (free : ℕ) → 0 < free → SameAlone x room s l Opening (opensFault x p (maps p) free)
     opens-same z free k = go (says t l (a .line))
       where
-        go : Says t f → SameAlone x room s l Opening (openFault (slicesFault x) t p e free)
-        go (an-opening y b v) = same-alone Opening (openFault (slicesFault x) t p e free) (rw y) v (open-passes b free k)
+        go : Says t f → SameAlone x room s l Opening (opensFault x p (maps p) free)
+        go (an-opening y b v) = same-alone Opening (opensFault x p (maps p) free) (rw y) v (open-passes b free k)
         go (a-restart y b v) = absurd (omega arith)
         go (an-offer i y b c v is) = absurd (omega arith)
         go (a-refusal i y b c v is) = absurd (omega arith)
@@ -163,23 +189,22 @@ module _ (x : Slices) (fine : slicesFault x ≡ 0) (s : State) (h : HoldsAfter (
         kinds (inl k) = rw k
         kinds (inr k) = rw k
 
-    hear-passes : IsFrame f → between t (f .from) p < t .links → (free : ℕ) → 0 < free → hearFault (slicesFault x) t p e l free ≡ 0
+    hear-passes : IsFrame f → between t (f .from) p < t .links → (free : ℕ) → 0 < free → hearsFault x p (maps p) l free ≡ 0
     unfolding hearFault
     hear-passes frame b free k =
-        or-none (slicesFault x) (orElse (recordFault t p e) (orElse (heardFault t p l) (fullFault free))) fine
-        ∙ or-none (recordFault t p e) (orElse (heardFault t p l) (fullFault free)) (own-passes p)
+        or-none (stateFault x p (maps p)) (orElse (heardFault t p l) (fullFault free)) (state-passes p)
         ∙ or-none (heardFault t p l) (fullFault free) (heard-passes frame b)
         ∙ not-full free k
 
-    hears-same : IsFrame f → (free : ℕ) → 0 < free → SameAlone x room s l (heardOf t f) (hearFault (slicesFault x) t p e l free)
+    hears-same : IsFrame f → (free : ℕ) → 0 < free → SameAlone x room s l (heardOf t f) (hearsFault x p (maps p) l free)
     hears-same frame free k = go frame (says t l (a .line))
       where
         heard : (i : ℕ) → i < t .links → Across t i (f .from) p → eventOf t f ≡ heardOf t f → restarts f ≡ false
-            → SameAlone x room s l (heardOf t f) (hearFault (slicesFault x) t p e l free)
+            → SameAlone x room s l (heardOf t f) (hearsFault x p (maps p) l free)
         heard i b c is some =
-            same-alone (heardOf t f) (hearFault (slicesFault x) t p e l free) some is (hear-passes frame (rw (between-is t legal i (f .from) p b c) b) free k)
+            same-alone (heardOf t f) (hearsFault x p (maps p) l free) some is (hear-passes frame (rw (between-is t legal i (f .from) p b c) b) free k)
 
-        go : IsFrame f → Says t f → SameAlone x room s l (heardOf t f) (hearFault (slicesFault x) t p e l free)
+        go : IsFrame f → Says t f → SameAlone x room s l (heardOf t f) (hearsFault x p (maps p) l free)
         go (inl y) (an-opening z b v) = absurd (omega arith)
         go (inr y) (an-opening z b v) = absurd (omega arith)
         go (inl y) (a-restart z b v) = absurd (omega arith)
@@ -189,12 +214,9 @@ module _ (x : Slices) (fine : slicesFault x ≡ 0) (s : State) (h : HoldsAfter (
 
   -- an end that is asked for a frame on an own link
   module _ (p i : ℕ) (a : OwnLink t p i) where
-    ask-passes : linkCallFault (slicesFault x) t p (own t p r) i ≡ 0
+    ask-passes : linkCallFault (stateFault x p (maps p)) t p i ≡ 0
     unfolding linkCallFault
-    ask-passes =
-        or-none (slicesFault x) (orElse (recordFault t p (own t p r)) (ownLinkFault t p i)) fine
-        ∙ or-none (recordFault t p (own t p r)) (ownLinkFault t p i) (own-passes p)
-        ∙ rw (lt-ltb i (t .links) (a .0), a .1)
+    ask-passes = or-none (stateFault x p (maps p)) (ownLinkFault t p i) (state-passes p) ∙ rw (lt-ltb i (t .links) (a .0), a .1)
 
     module _ (k : Kind) where
       abbrev may : Bool
@@ -208,22 +230,22 @@ module _ (x : Slices) (fine : slicesFault x ≡ 0) (s : State) (h : HoldsAfter (
           framed kind.Refusal = inr refl
 
       module _ (out : List ℕ) (long : 15 ≤ length out) (answer : Asked) (out′ : List ℕ) where
-        abbrev fault : ℕ
-        fault = orElse (lentFault (length out) 15) (linkCallFault (slicesFault x) t p (own t p r) i)
+        none : askFault x p i (maps p) out ≡ 0
+        none = or-none (lentFault (length out) 15) (linkCallFault (stateFault x p (maps p)) t p i) (rw (le-ltb (length out) 15 long)) ∙ ask-passes
 
-        none : fault ≡ 0
-        none = or-none (lentFault (length out) 15) (linkCallFault (slicesFault x) t p (own t p r) i) (rw (le-ltb (length out) 15 long)) ∙ ask-passes
-
-        ask-writes : Asks fault t p k i (own t p r) answer out out′
+        ask-writes : AsksFor x p k i (maps p) answer out out′
             → ((answer ≡ asked.Written) × (out′ ≡ sets out 0 (askedLine t p k i))) ↔ MaySend t r (askedFrame t p k i)
         ask-writes q = (λ w. ask-may-send .0 (go (decided may) (w .0)), λ m. written (ask-may-send .1 m))
           where
+            by : (m : Bool) → may ≡ m → sendable (askedEvent k i) (bytesOf (x .links) (maps p)) ≡ m
+            by m is = ap (sendable (askedEvent k i)) (sym (back p)) ∙ is
+
             go : (may ≡ true) ⊎ (may ≡ false) → answer ≡ asked.Written → may ≡ true
             go (inl m) w = m
-            go (inr m) w = absurd (true≢false (sym (ap isWritten w) ∙ ap isWritten (rw (none, m) at (asks-answer q))))
+            go (inr m) w = absurd (true≢false (sym (ap isWritten w) ∙ ap isWritten (rw (none, by false m) at (asks-answer q))))
 
             written : may ≡ true → (answer ≡ asked.Written) × (out′ ≡ sets out 0 (askedLine t p k i))
-            written m = (rw (none, m) at (asks-answer q), rw (none, m) at (q .line))
+            written m = (rw (none, by true m) at (asks-answer q), rw (none, by true m) at (q .line))
 
 own-start : (x : Slices) (p : ℕ) → own (tableOf x) p (start x .bytes) ≡ fresh (tableOf x)
 own-start x p =
@@ -234,6 +256,7 @@ pub ends-alone : (x : Slices) → slicesFault x ≡ 0 → (room : ℕ) (ls : Lis
 ends-alone x fine room ls =
     record {
       own-start = own-start x;
+      own-same = λ xs ys e. maps-same x fine (after xs) (holds xs);
       opens-hears-or-restarts = λ xs ys l e n. opening-frame-or-restart x fine (after xs) (holds xs) room l (passed x fine (after xs) (holds xs) room l n);
       opens-alone = λ xs ys l e n. opens-same x fine (after xs) (holds xs) room l (passed x fine (after xs) (holds xs) room l n);
       hears-alone = λ xs ys l e n. hears-same x fine (after xs) (holds xs) room l (passed x fine (after xs) (holds xs) room l n);

@@ -13,7 +13,7 @@ use Rattle.lines.specs.declared.Line.the-variants.{Here, Missing}
 use Rattle.lines.specs.Line.{lineAt}
 use Rattle.lines.specs.Digits.{lengthFault, digitFault, lineFault}
 use Rattle.table.specs.Table.{Table, item, touches, spare, between}
-use Rattle.table.specs.Legal.{tableFault}
+use Rattle.table.specs.Legal.{lentFault, tableFault}
 use Rattle.table.specs.Slices.{Slices, tableOf, slicesRoomFault, slicesFault}
 use Rattle.table.proofs.Largest.{table-most}
 use Rattle.probe_frame.specs.Frame.{Frame, frameOf, frameFault}
@@ -21,7 +21,11 @@ use Rattle.probe_record.specs.Record.{outbound, inbound, standing, held, record
 use Rattle.probe_rules.specs.declared.Event.{Event}
 use Rattle.probe_rules.specs.declared.Event.the-variants.{Opening, Offer, Refusal}
 use Rattle.probe_rules.specs.Frames.{numberFault}
+use Rattle.bit_maps.specs.BitMap.{wordsFor, bit, onesOf}
+use Rattle.probe_maps.specs.Maps.{Maps, hasWords, mapsLengthFault, wrongBits, isOwn, bitFault, onesFault, mapsFault, stateFault}
 use Rattle.probe_checks.specs.Checks.{frameKindFault, toFault, probeFault, ownLinkFault, fullFault, heardFault, hearFault, openFault, linkCallFault}
+use Rattle.probe_turning.specs.Turned.{rowsLentFault, toMapsFault, toBytesFault}
+use Rattle.probe.specs.Answers.{hearsFault, opensFault}
 use Rattle.fleet_theory.specs.Fleet.{own, marks, permitting, wrongByte, linkBytesFault, ofOneProbe, fleetFault, eventKindFault, eventEndsFault, eventLineFault, eventOf, unsentFault, eventFault}
 use Rattle.fleet_theory.specs.Withdrawn.{TwentyFiveWithdrawn}
 
@@ -81,6 +85,28 @@ record-other t p e =
     (λ i. when-other (ltb 2 (outbound e i) || (ltb 2 (inbound e i) || (not (touches t p i) && not (eqb (outbound e i) 0 && eqb (inbound e i) 0)))) 21 (λ z. omega arith)))
     (spare-other t p e))
 
+maps-other : (t : Table) (p : ℕ) (m : Maps) → Other (mapsFault t p m)
+maps-other t p m =
+    or-other (mapsLengthFault t m) (orElse (first (bitFault t p m) (64 * wordsFor (t .links))) (onesFault t p m))
+    (unless-other (hasWords (t .links) (m .standing) && (hasWords (t .links) (m .refusedOut) && (hasWords (t .links) (m .held) && hasWords (t .links) (m .refusedIn)))) 20 (λ z. omega arith))
+    (or-other (first (bitFault t p m) (64 * wordsFor (t .links))) (onesFault t p m) (first-other (bitFault t p m) (64 * wordsFor (t .links))
+    (λ i. when-other (wrongBits (bit (m .standing) i) (bit (m .refusedOut) i) (bit (m .held) i) (bit (m .refusedIn) i) (isOwn t p i)) 21 (λ z. omega arith)))
+    (when-other (ltb (spare t p) (onesOf (m .standing)) || ltb (spare t p) (onesOf (m .held))) 22 (λ z. omega arith)))
+
+lent-other : (given wanted : ℕ) → Other (lentFault given wanted)
+lent-other given wanted = when-other (ltb given wanted) 8 (λ z. omega arith)
+
+rows-lent-other : (links : ℕ) (out : Maps) → Other (rowsLentFault links out)
+rows-lent-other links out =
+    let words = wordsFor links in
+    let a = lentFault (length (out .standing)) words in
+    let b = lentFault (length (out .refusedOut)) words in
+    let c = lentFault (length (out .held)) words in
+    let d = lentFault (length (out .refusedIn)) words in
+    or-other a (orElse b (orElse c d)) (lent-other (length (out .standing)) words)
+    (or-other b (orElse c d) (lent-other (length (out .refusedOut)) words)
+    (or-other c d (lent-other (length (out .held)) words) (lent-other (length (out .refusedIn)) words)))
+
 heard-other : (t : Table) (p : ℕ) (l : List ℕ) → Other (heardFault t p l)
 unfolding heardFault
 heard-other t p l =
@@ -117,25 +143,34 @@ module _ (x : Slices) where
   abbrev t : Table
   t = tableOf x
 
-  hearing : (p : ℕ) (e l : List ℕ) (free : ℕ) → Other (hearFault (slicesFault x) t p e l free)
+  state : (p : ℕ) (m : Maps) → Other (stateFault x p m)
+  state p m = or-other (slicesFault x) (mapsFault t p m) (slices-other x) (maps-other t p m)
+
+  hearing : (p : ℕ) (m : Maps) (l : List ℕ) (free : ℕ) → Other (hearsFault x p m l free)
   unfolding hearFault
-  hearing p e l free =
-      or-other (slicesFault x) (orElse (recordFault t p e) (orElse (heardFault t p l) (fullFault free))) (slices-other x)
-      (or-other (recordFault t p e) (orElse (heardFault t p l) (fullFault free)) (record-other t p e)
-      (or-other (heardFault t p l) (fullFault free) (heard-other t p l) (full-other free)))
+  hearing p m l free =
+      or-other (stateFault x p m) (orElse (heardFault t p l) (fullFault free)) (state p m)
+      (or-other (heardFault t p l) (fullFault free) (heard-other t p l) (full-other free))
 
-  opening : (p : ℕ) (e : List ℕ) (free : ℕ) → Other (openFault (slicesFault x) t p e free)
+  opening : (p : ℕ) (m : Maps) (free : ℕ) → Other (opensFault x p m free)
   unfolding openFault
-  opening p e free =
-      or-other (slicesFault x) (orElse (recordFault t p e) (orElse (probeFault t p) (fullFault free))) (slices-other x)
-      (or-other (recordFault t p e) (orElse (probeFault t p) (fullFault free)) (record-other t p e)
-      (or-other (probeFault t p) (fullFault free) (unless-other (ltb p (t .probes)) 24 (λ z. omega arith)) (full-other free)))
+  opening p m free =
+      or-other (stateFault x p m) (orElse (probeFault t p) (fullFault free)) (state p m)
+      (or-other (probeFault t p) (fullFault free) (unless-other (ltb p (t .probes)) 24 (λ z. omega arith)) (full-other free))
 
-  link-call : (p : ℕ) (e : List ℕ) (i : ℕ) → Other (linkCallFault (slicesFault x) t p e i)
+  link-call : (p : ℕ) (m : Maps) (i : ℕ) → Other (linkCallFault (stateFault x p m) t p i)
   unfolding linkCallFault
-  link-call p e i =
-      or-other (slicesFault x) (orElse (recordFault t p e) (ownLinkFault t p i)) (slices-other x)
-      (or-other (recordFault t p e) (ownLinkFault t p i) (record-other t p e) (unless-other (ltb i (t .links) && touches t p i) 24 (λ z. omega arith)))
+  link-call p m i =
+      or-other (stateFault x p m) (ownLinkFault t p i) (state p m) (unless-other (isOwn t p i) 24 (λ z. omega arith))
+
+  to-maps : (p : ℕ) (e : List ℕ) (out : Maps) → Other (toMapsFault x p e out)
+  to-maps p e out =
+      or-other (rowsLentFault (x .links) out) (orElse (slicesFault x) (recordFault t p e)) (rows-lent-other (x .links) out)
+      (or-other (slicesFault x) (recordFault t p e) (slices-other x) (record-other t p e))
+
+  to-bytes : (p : ℕ) (m : Maps) (out : List ℕ) → Other (toBytesFault x p m out)
+  to-bytes p m out =
+      or-other (lentFault (length out) (2 * x .links)) (stateFault x p m) (lent-other (length out) (2 * x .links)) (state p m)
 
   line : (r : List ℕ) (used room : ℕ) (l : List ℕ) → Other (eventFault x r used room l)
   line r used room l =
@@ -147,4 +182,4 @@ module _ (x : Slices) where
       (or-other unsent full (unsent-other (eventOf t (frameOf l)) (marks t (frameOf l .from) r)) (unless-other (ltb used room) 26 (λ z. omega arith)))))
 
   pub twenty-five-withdrawn : TwentyFiveWithdrawn x
-  twenty-five-withdrawn = record { of-hearing = hearing; of-opening = opening; of-link-call = link-call; of-line = line }
+  twenty-five-withdrawn = record { of-hearing = hearing; of-opening = opening; of-link-call = link-call; of-turning-to-maps = to-maps; of-turning-to-bytes = to-bytes; of-line = line }

@@ -2,12 +2,18 @@
 use Prim.Native.Nat.{ℕ}
 use mathlib.Core.Path.{_≡_}
 use mathlib.Core.List.{List}
-use Rattle.table.specs.Slices.{Slices, tableOf, slicesFault}
-use Rattle.probe_checks.specs.Checks.{hearFault, openFault, linkCallFault}
+use Rattle.table.specs.Slices.{Slices, tableOf}
+use Rattle.probe_maps.specs.Maps.{Maps, stateFault}
+use Rattle.probe_checks.specs.Checks.{linkCallFault}
+use Rattle.probe_turning.specs.Turned.{toMapsFault, toBytesFault}
+use Rattle.probe.specs.Answers.{hearsFault, opensFault}
 use Rattle.fleet_theory.specs.Fleet.{eventFault}
 
 pub record TwentyFiveWithdrawn (x : Slices) : Type 0 where
-  pub of-hearing : (p : ℕ) (e l : List ℕ) (free : ℕ) → hearFault (slicesFault x) (tableOf x) p e l free ≡ 25 → ⊥
-  pub of-opening : (p : ℕ) (e : List ℕ) (free : ℕ) → openFault (slicesFault x) (tableOf x) p e free ≡ 25 → ⊥
-  pub of-link-call : (p : ℕ) (e : List ℕ) (i : ℕ) → linkCallFault (slicesFault x) (tableOf x) p e i ≡ 25 → ⊥
+  pub of-hearing : (p : ℕ) (m : Maps) (l : List ℕ) (free : ℕ) → hearsFault x p m l free ≡ 25 → ⊥
+  pub of-opening : (p : ℕ) (m : Maps) (free : ℕ) → opensFault x p m free ≡ 25 → ⊥
+  pub of-link-call : (p : ℕ) (m : Maps) (i : ℕ) → linkCallFault (stateFault x p m) (tableOf x) p i ≡ 25 → ⊥
+  -- nor by a call of turning
+  pub of-turning-to-maps : (p : ℕ) (e : List ℕ) (out : Maps) → toMapsFault x p e out ≡ 25 → ⊥
+  pub of-turning-to-bytes : (p : ℕ) (m : Maps) (out : List ℕ) → toBytesFault x p m out ≡ 25 → ⊥
   pub of-line : (r : List ℕ) (used room : ℕ) (l : List ℕ) → eventFault x r used room l ≡ 25 → ⊥

@@ -11,7 +11,9 @@ use Rattle.wake_log.specs.declared.Answer.{Answer}
 use Rattle.wake_log.specs.Entry.{answerOf}
 use Rattle.wake_log.proofs.Answers.{answer-is}
 use Rattle.probe_rules.specs.declared.Event.{Event}
-use Rattle.probe_rules.specs.Rules.{befalls, entryOf, sendable}
+use Rattle.probe_rules.specs.Rules.{entryOf, sendable}
+use Rattle.probe_maps.specs.Maps.{Maps}
+use Rattle.probe_maps.specs.MapRules.{befallsMaps}
 use Rattle.probe.specs.declared.Kind.{Kind}
 use Rattle.probe.specs.declared.Asked.{Asked}
 use Rattle.probe.specs.declared.Asked.the-variants as asked
@@ -19,9 +21,9 @@ use Rattle.probe.specs.declared.Resting.{Resting}
 use Rattle.probe.specs.declared.Resting.the-variants as resting
 use Rattle.probe.specs.Answers.{Befallen, askedEvent, askedReply, Asks, restingReply}
 
-pub befallen-answer : {fault : ℕ} {t : Table} {p : ℕ} {event : Event} {r : Answer} {before after : List ℕ} → Befallen fault t p event r before after
-    → r ≡ answerOf fault (entryOf t p (befalls t p event before))
-befallen-answer {fault} {t} {p} {event} {r} {before} b = answer-is r fault (entryOf t p (befalls t p event before)) (b .answer)
+pub befallen-answer : {fault : ℕ} {t : Table} {p : ℕ} {event : Event} {r : Answer} {before after : Maps} → Befallen fault t p event r before after
+    → r ≡ answerOf fault (entryOf t p (befallsMaps t p event before))
+befallen-answer {fault} {t} {p} {event} {r} {before} b = answer-is r fault (entryOf t p (befallsMaps t p event before)) (b .answer)
 
 pub asks-answer : {fault : ℕ} {t : Table} {p : ℕ} {k : Kind} {i : ℕ} {e : List ℕ} {r : Asked} {before after : List ℕ} → Asks fault t p k i e r before after
     → r ≡ cond (eqb fault 0) (cond (sendable (askedEvent k i) e) asked.Written asked.NotNow) (asked.Refused fault)

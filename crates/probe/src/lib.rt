@@ -1,6 +1,7 @@
 // One end of the bargaining, alone: it opens, hears frames, is asked for frames, and rests links. Links go by their place in the table.
 ghost use mathlib.Core.Path.{_≡_};
 ghost use Rattle.table.specs.Slices.{slicesOf};
+ghost use Rattle.probe_maps.specs.Maps.{rows};
 ghost use Rattle.probe.specs.Answers.{Opens, Hears, AsksFor, restingReply, whetherRests};
 
 pub mod steps;
@@ -34,35 +35,49 @@ pub fn open(
     highs: &[u16],
     costs: &[u16],
     probe: u16,
-    rec: &mut [u8],
+    standing: &mut [u64],
+    refused_out: &mut [u64],
+    held: &mut [u64],
+    refused_in: &mut [u64],
     free: usize,
 ) -> wake_log::Answer
     ensures { λ r. let x = slicesOf number probes links (now (needs .entry)) (now (lows .entry)) (now (highs .entry)) (now (costs .entry)) in
-        ⌜ Opens x probe free r (now (rec .entry)) (now (rec .exit)) ⌝ }
+        let before = rows (now (standing .entry)) (now («refused_out» .entry)) (now (held .entry)) (now («refused_in» .entry)) in
+        let after = rows (now (standing .exit)) (now («refused_out» .exit)) (now (held .exit)) (now («refused_in» .exit)) in
+        ⌜ Opens x probe free r before after ⌝ }
 {
-    let fault = probe_checks::faults::open_fault(
+    let mut own = [0u64; 32];
+    let state = probe_state::states::check_state(
         probes as usize,
         links as usize,
         needs,
         lows,
         highs,
         costs,
-        probe as usize,
-        rec,
-        free,
+        probe,
+        standing,
+        refused_out,
+        held,
+        refused_in,
+        &mut own,
     );
+    let fault = probe_checks::faults::open_fault(state, probes as usize, probe as usize, free);
     if fault != 0 {
         return wake_log::Answer::Refused(fault);
     }
-    let e = steps::apply(
+    let e = probe_decisions::steps::apply(
         probe_rules::Event::Opening,
+        &mut own,
         links as usize,
         needs,
         lows,
         highs,
         costs,
         probe,
-        rec,
+        standing,
+        refused_out,
+        held,
+        refused_in,
     );
     wake_log::Answer::Logged(e)
 }
@@ -77,23 +92,40 @@ pub fn hear(
     highs: &[u16],
     costs: &[u16],
     probe: u16,
-    rec: &mut [u8],
+    standing: &mut [u64],
+    refused_out: &mut [u64],
+    held: &mut [u64],
+    refused_in: &mut [u64],
     frame: &[u8],
     free: usize,
 ) -> wake_log::Answer
     ensures { λ r. let x = slicesOf number probes links (now (needs .entry)) (now (lows .entry)) (now (highs .entry)) (now (costs .entry)) in
-        ⌜ Hears x probe (now (frame .entry)) free r (now (rec .entry)) (now (rec .exit)) ⌝ }
+        let before = rows (now (standing .entry)) (now («refused_out» .entry)) (now (held .entry)) (now («refused_in» .entry)) in
+        let after = rows (now (standing .exit)) (now («refused_out» .exit)) (now (held .exit)) (now («refused_in» .exit)) in
+        ⌜ Hears x probe (now (frame .entry)) free r before after ⌝ }
 {
-    let heard = probe_checks::faults::check_hearing(
-        number,
+    let mut own = [0u64; 32];
+    let state = probe_state::states::check_state(
         probes as usize,
         links as usize,
         needs,
         lows,
         highs,
         costs,
+        probe,
+        standing,
+        refused_out,
+        held,
+        refused_in,
+        &mut own,
+    );
+    let heard = probe_checks::faults::check_hearing(
+        state,
+        number,
+        links as usize,
+        lows,
+        highs,
         probe as usize,
-        rec,
         frame,
         free,
     );
@@ -101,7 +133,20 @@ pub fn hear(
         return wake_log::Answer::Refused(heard.fault);
     }
     let event = heard.event;
-    let e = steps::apply(event, links as usize, needs, lows, highs, costs, probe, rec);
+    let e = probe_decisions::steps::apply(
+        event,
+        &mut own,
+        links as usize,
+        needs,
+        lows,
+        highs,
+        costs,
+        probe,
+        standing,
+        refused_out,
+        held,
+        refused_in,
+    );
     wake_log::Answer::Logged(e)
 }
 
@@ -115,32 +160,48 @@ pub fn ask(
     highs: &[u16],
     costs: &[u16],
     probe: u16,
-    rec: &[u8],
+    standing: &[u64],
+    refused_out: &[u64],
+    held: &[u64],
+    refused_in: &[u64],
     kind: Kind,
     link: u16,
     out: &mut [u8],
 ) -> Asked
     ensures { λ r. let x = slicesOf number probes links (now (needs .entry)) (now (lows .entry)) (now (highs .entry)) (now (costs .entry)) in
-        ⌜ AsksFor x probe kind link (now (rec .entry)) r (now (out .entry)) (now (out .exit)) ⌝ }
+        let m = rows (now (standing .entry)) (now («refused_out» .entry)) (now (held .entry)) (now («refused_in» .entry)) in
+        ⌜ AsksFor x probe kind link m r (now (out .entry)) (now (out .exit)) ⌝ }
 {
     if out.len() < 15 {
         return Asked::Refused(8);
     }
-    let fault = probe_checks::faults::link_call_fault(
+    let mut own = [0u64; 32];
+    let state = probe_state::states::check_state(
         probes as usize,
         links as usize,
         needs,
         lows,
         highs,
         costs,
+        probe,
+        standing,
+        refused_out,
+        held,
+        refused_in,
+        &mut own,
+    );
+    let fault = probe_checks::faults::link_call_fault(
+        state,
+        links as usize,
+        lows,
+        highs,
         probe as usize,
-        rec,
         link as usize,
     );
     if fault != 0 {
         return Asked::Refused(fault);
     }
-    if !steps::is_sendable(kind, rec, link as usize) {
+    if !steps::is_sendable(kind, standing, refused_in, link as usize) {
         return Asked::NotNow;
     }
     let to = table_links::ends::other(lows, highs, probe, link as usize);
@@ -158,25 +219,41 @@ pub fn rests(
     highs: &[u16],
     costs: &[u16],
     probe: u16,
-    rec: &[u8],
+    standing: &[u64],
+    refused_out: &[u64],
+    held: &[u64],
+    refused_in: &[u64],
     link: u16,
 ) -> Resting
     ensures { λ r. let x = slicesOf number probes links (now (needs .entry)) (now (lows .entry)) (now (highs .entry)) (now (costs .entry)) in
-        ⌜ restingReply r ≡ whetherRests x probe (now (rec .entry)) link ⌝ }
+        let m = rows (now (standing .entry)) (now («refused_out» .entry)) (now (held .entry)) (now («refused_in» .entry)) in
+        ⌜ restingReply r ≡ whetherRests x probe m link ⌝ }
 {
-    let fault = probe_checks::faults::link_call_fault(
+    let mut own = [0u64; 32];
+    let state = probe_state::states::check_state(
         probes as usize,
         links as usize,
         needs,
         lows,
         highs,
         costs,
+        probe,
+        standing,
+        refused_out,
+        held,
+        refused_in,
+        &mut own,
+    );
+    let fault = probe_checks::faults::link_call_fault(
+        state,
+        links as usize,
+        lows,
+        highs,
         probe as usize,
-        rec,
         link as usize,
     );
     if fault != 0 {
         return Resting::Refused(fault);
     }
-    Resting::Rests(steps::both_one(rec, link as usize))
+    Resting::Rests(steps::in_both(standing, held, link as usize))
 }

@@ -10,15 +10,16 @@ use native.Mathlib.Decide.{ℕ-discrete}
 use borrow.Author.Tests.{ltb-true, eqb-true, eq-eqb, ne-eqb}
 use Rattle.range.specs.First.{orElse}
 use Rattle.range.proofs.Bools.{and-left, and-right, unless-none, decided}
-use Rattle.range.proofs.Faults.{or-here, or-none, or-same, or-left, or-right, or-through, or-past}
+use Rattle.range.proofs.Faults.{or-here, or-none, or-same, or-left, or-right}
 use Rattle.table.specs.Table.{Table, touches, between}
+use Rattle.table.specs.Slices.{Slices, tableOf, slicesFault}
 use Rattle.probe_frame.specs.Frame.{Frame, frameOf, frameFault, frameRead, ReadsFrame}
 use Rattle.probe_frame.specs.declared.FrameLine.{FrameLine}
-use Rattle.probe_record.specs.Record.{recordFault}
 use Rattle.probe_rules.specs.declared.Event.{Event}
 use Rattle.probe_rules.specs.declared.Event.the-variants.{Opening}
 use Rattle.probe_rules.specs.Frames.{numberFault, heardOf}
 use Rattle.probe_rules.specs.Within.{EventWithin}
+use Rattle.probe_maps.specs.Maps.{Maps, mapsFault, stateFault}
 use Rattle.probe_checks.specs.Checks.{frameKindFault, toFault, probeFault, ownLinkFault, fullFault, heardFault, HearsFrame, hearFault, openFault, linkCallFault}
 
 -- 9, 23, 24 of a frame
@@ -53,55 +54,56 @@ module _ (t : Table) (p : ℕ) (l : List ℕ) (e : heardFault t p l ≡ 0) where
       go (inl k) = rw k heard-link
       go (inr k) = rw k heard-link
 
+-- table and record
+pub state-parts : (x : Slices) (p : ℕ) (m : Maps) → stateFault x p m ≡ 0 → (slicesFault x ≡ 0) × (mapsFault (tableOf x) p m ≡ 0)
+state-parts x p m f = (or-left (slicesFault x) (mapsFault (tableOf x) p m) f, or-right (slicesFault x) (mapsFault (tableOf x) p m) f)
+
 -- each stage of a call
-module _ (slices : ℕ) (t : Table) (p : ℕ) (e : List ℕ) where
-  pub hear-parts : (l : List ℕ) (free : ℕ) → hearFault slices t p e l free ≡ 0 → (slices ≡ 0) × (recordFault t p e ≡ 0) × (heardFault t p l ≡ 0)
+module _ (state : ℕ) (t : Table) (p : ℕ) where
+  pub hear-parts : (l : List ℕ) (free : ℕ) → hearFault state t p l free ≡ 0 → (state ≡ 0) × (heardFault t p l ≡ 0)
   unfolding hearFault
   hear-parts l free f =
       let last = orElse (heardFault t p l) (fullFault free) in
-      let a = or-right slices (orElse (recordFault t p e) last) f in
-      let b = or-right (recordFault t p e) last a in
-      (or-left slices (orElse (recordFault t p e) last) f, or-left (recordFault t p e) last a, or-left (heardFault t p l) (fullFault free) b)
+      (or-left state last f, or-left (heardFault t p l) (fullFault free) (or-right state last f))
 
-  pub open-parts : (free : ℕ) → openFault slices t p e free ≡ 0 → (slices ≡ 0) × (recordFault t p e ≡ 0)
+  pub open-parts : (free : ℕ) → openFault state t p free ≡ 0 → (state ≡ 0) × (probeFault t p ≡ 0)
   unfolding openFault
   open-parts free f =
-      let a = or-right slices (orElse (recordFault t p e) (orElse (probeFault t p) (fullFault free))) f in
-      (or-left slices (orElse (recordFault t p e) (orElse (probeFault t p) (fullFault free))) f, or-left (recordFault t p e) (orElse (probeFault t p) (fullFault free)) a)
+      let last = orElse (probeFault t p) (fullFault free) in
+      (or-left state last f, or-left (probeFault t p) (fullFault free) (or-right state last f))
 
-  pub link-parts : (i : ℕ) → linkCallFault slices t p e i ≡ 0 → (slices ≡ 0) × (recordFault t p e ≡ 0) × (i < t .links)
+  pub link-parts : (i : ℕ) → linkCallFault state t p i ≡ 0 → (state ≡ 0) × (i < t .links)
   unfolding linkCallFault
   link-parts i f =
-      let a = or-right slices (orElse (recordFault t p e) (ownLinkFault t p i)) f in
-      let b = or-right (recordFault t p e) (ownLinkFault t p i) a in
-      (or-left slices (orElse (recordFault t p e) (ownLinkFault t p i)) f, or-left (recordFault t p e) (ownLinkFault t p i) a, ltb-true i (t .links) (and-left (ltb i (t .links)) (touches t p i) (unless-none (ltb i (t .links) && touches t p i) 23 b)))
+      let own = unless-none (ltb i (t .links) && touches t p i) 23 (or-right state (ownLinkFault t p i) f) in
+      (or-left state (ownLinkFault t p i) f, ltb-true i (t .links) (and-left (ltb i (t .links)) (touches t p i) own))
 
-  -- table and record are checked as one stage: its fault is the call's, or the rest's is
+  -- the fault of table and record is the call's, or the rest's is
   module _ (r : ℕ) where
-    pub hear-early : (l : List ℕ) (free : ℕ) → r ≡ orElse slices (recordFault t p e) → (r ≡ 0 → ⊥) → r ≡ hearFault slices t p e l free
+    pub hear-early : (l : List ℕ) (free : ℕ) → r ≡ state → (r ≡ 0 → ⊥) → r ≡ hearFault state t p l free
     unfolding hearFault
-    hear-early l free = or-through r slices (recordFault t p e) (orElse (heardFault t p l) (fullFault free))
+    hear-early l free = or-here r state (orElse (heardFault t p l) (fullFault free))
 
     -- n is the frame's fault
-    pub hear-late : (l : List ℕ) (free n : ℕ) → orElse slices (recordFault t p e) ≡ 0 → n ≡ heardFault t p l → r ≡ orElse n (fullFault free) → r ≡ hearFault slices t p e l free
+    pub hear-late : (l : List ℕ) (free n : ℕ) → state ≡ 0 → n ≡ heardFault t p l → r ≡ orElse n (fullFault free) → r ≡ hearFault state t p l free
     unfolding hearFault
-    hear-late l free n z is f = or-past r slices (recordFault t p e) (orElse (heardFault t p l) (fullFault free)) z (f ∙ or-same is refl)
+    hear-late l free n z is f = f ∙ or-same is refl ∙ sym (or-none state (orElse (heardFault t p l) (fullFault free)) z)
 
-    pub open-early : (free : ℕ) → r ≡ orElse slices (recordFault t p e) → (r ≡ 0 → ⊥) → r ≡ openFault slices t p e free
+    pub open-early : (free : ℕ) → r ≡ state → (r ≡ 0 → ⊥) → r ≡ openFault state t p free
     unfolding openFault
-    open-early free = or-through r slices (recordFault t p e) (orElse (probeFault t p) (fullFault free))
+    open-early free = or-here r state (orElse (probeFault t p) (fullFault free))
 
-    pub open-late : (free : ℕ) → orElse slices (recordFault t p e) ≡ 0 → r ≡ orElse (probeFault t p) (fullFault free) → r ≡ openFault slices t p e free
+    pub open-late : (free : ℕ) → state ≡ 0 → r ≡ orElse (probeFault t p) (fullFault free) → r ≡ openFault state t p free
     unfolding openFault
-    open-late free = or-past r slices (recordFault t p e) (orElse (probeFault t p) (fullFault free))
+    open-late free z f = f ∙ sym (or-none state (orElse (probeFault t p) (fullFault free)) z)
 
-    pub link-early : (i : ℕ) → r ≡ orElse slices (recordFault t p e) → (r ≡ 0 → ⊥) → r ≡ linkCallFault slices t p e i
+    pub link-early : (i : ℕ) → r ≡ state → (r ≡ 0 → ⊥) → r ≡ linkCallFault state t p i
     unfolding linkCallFault
-    link-early i = or-through r slices (recordFault t p e) (ownLinkFault t p i)
+    link-early i = or-here r state (ownLinkFault t p i)
 
-    pub link-late : (i : ℕ) → orElse slices (recordFault t p e) ≡ 0 → r ≡ ownLinkFault t p i → r ≡ linkCallFault slices t p e i
+    pub link-late : (i : ℕ) → state ≡ 0 → r ≡ ownLinkFault t p i → r ≡ linkCallFault state t p i
     unfolding linkCallFault
-    link-late i = or-past r slices (recordFault t p e) (ownLinkFault t p i)
+    link-late i z f = f ∙ sym (or-none state (ownLinkFault t p i) z)
 
 -- A frame as the code reads it.
 

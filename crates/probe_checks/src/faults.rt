@@ -1,14 +1,13 @@
-// The faults of an end's calls, in their order, and what a frame says.
+// The faults of an end's calls, in their order, and what a frame says. `state` is the fault of the table and of the record.
 use super::Heard;
 ghost use mathlib.Core.Path.{_≡_};
 ghost use mathlib.Core.Bool.{cond};
 ghost use mathlib.Core.List.{[]};
+ghost use Prim.Native.Nat.{_≤_};
 ghost use lib.Dec.{eqb};
-ghost use Rattle.range.specs.First.{orElse};
+ghost use lib.ListN.{length};
 ghost use Rattle.table.specs.Table.{ofSlices};
-ghost use Rattle.table.specs.Slices.{slicesOf, tableOf, slicesFault};
 ghost use Rattle.probe_frame.specs.Frame.{frameOf};
-ghost use Rattle.probe_record.specs.Record.{recordFault};
 ghost use Rattle.probe_rules.specs.declared.Event.the-variants.{Opening, Offer, Refusal};
 ghost use Rattle.probe_rules.specs.Frames.{heardOf};
 ghost use Rattle.table_links.specs.RisingSlices.{RisingSlices};
@@ -71,45 +70,12 @@ fn check_frame(
     }
 }
 
-// The table's own, then 20, 21, 22.
-fn state_fault(
-    probes: usize,
-    links: usize,
-    needs: &[u16],
-    lows: &[u16],
-    highs: &[u16],
-    costs: &[u16],
-    probe: usize,
-    rec: &[u8],
-) -> u8
-    ensures { λ r. let x = slicesOf 0 probes links (now (needs .entry)) (now (lows .entry)) (now (highs .entry)) (now (costs .entry)) in
-        ⌜ r ≡ orElse (slicesFault x) (recordFault (tableOf x) probe (now (rec .entry))) ⌝ }
-{
-    let fault = table::checks::slice_fault(256, 2048, probes, links, needs, lows, highs, costs);
-    if fault != 0 {
-        return fault;
-    }
-    probe_record::checks::record_fault(rec, links, needs, lows, highs, probe)
-}
-
 // The faults of an opening.
-pub fn open_fault(
-    probes: usize,
-    links: usize,
-    needs: &[u16],
-    lows: &[u16],
-    highs: &[u16],
-    costs: &[u16],
-    probe: usize,
-    rec: &[u8],
-    free: usize,
-) -> u8
-    ensures { λ r. let x = slicesOf 0 probes links (now (needs .entry)) (now (lows .entry)) (now (highs .entry)) (now (costs .entry)) in
-        ⌜ r ≡ openFault (slicesFault x) (tableOf x) probe (now (rec .entry)) free ⌝ }
+pub fn open_fault(state: u8, probes: usize, probe: usize, free: usize) -> u8
+    ensures { λ r. ⌜ r ≡ openFault state (ofSlices 0 probes 0 [] [] [] []) probe free ⌝ }
 {
-    let fault = state_fault(probes, links, needs, lows, highs, costs, probe, rec);
-    if fault != 0 {
-        return fault;
+    if state != 0 {
+        return state;
     }
     if probes <= probe {
         return 24;
@@ -122,25 +88,21 @@ pub fn open_fault(
 
 // The faults of a frame heard, or what it says.
 pub fn check_hearing(
+    state: u8,
     number: u16,
-    probes: usize,
     links: usize,
-    needs: &[u16],
     lows: &[u16],
     highs: &[u16],
-    costs: &[u16],
     probe: usize,
-    rec: &[u8],
     frame: &[u8],
     free: usize,
 ) -> Heard
-    ensures { λ r. let x = slicesOf number probes links (now (needs .entry)) (now (lows .entry)) (now (highs .entry)) (now (costs .entry)) in
-        ⌜ (r .fault ≡ hearFault (slicesFault x) (tableOf x) probe (now (rec .entry)) (now (frame .entry)) free)
-        × (r .fault ≡ 0 → r .event ≡ heardOf (tableOf x) (frameOf (now (frame .entry)))) ⌝ }
+    requires { ⌜ (state ≡ 0 → RisingSlices links (now lows) (now highs)) ⌝ }
+    ensures { λ r. let t = ofSlices number 0 links [] (now (lows .entry)) (now (highs .entry)) [] in
+        ⌜ (r .fault ≡ hearFault state t probe (now (frame .entry)) free) × (r .fault ≡ 0 → r .event ≡ heardOf t (frameOf (now (frame .entry)))) ⌝ }
 {
-    let fault = state_fault(probes, links, needs, lows, highs, costs, probe, rec);
-    if fault != 0 {
-        return refused(fault);
+    if state != 0 {
+        return refused(state);
     }
     let heard = check_frame(number, links, lows, highs, probe, frame);
     if heard.fault != 0 {
@@ -154,22 +116,18 @@ pub fn check_hearing(
 
 // The faults of a call about one link.
 pub fn link_call_fault(
-    probes: usize,
+    state: u8,
     links: usize,
-    needs: &[u16],
     lows: &[u16],
     highs: &[u16],
-    costs: &[u16],
     probe: usize,
-    rec: &[u8],
     link: usize,
 ) -> u8
-    ensures { λ r. let x = slicesOf 0 probes links (now (needs .entry)) (now (lows .entry)) (now (highs .entry)) (now (costs .entry)) in
-        ⌜ r ≡ linkCallFault (slicesFault x) (tableOf x) probe (now (rec .entry)) link ⌝ }
+    requires { ⌜ (state ≡ 0 → (links ≤ length (now lows)) × (links ≤ length (now highs))) ⌝ }
+    ensures { λ r. ⌜ r ≡ linkCallFault state (ofSlices 0 0 links [] (now (lows .entry)) (now (highs .entry)) []) probe link ⌝ }
 {
-    let fault = state_fault(probes, links, needs, lows, highs, costs, probe, rec);
-    if fault != 0 {
-        return fault;
+    if state != 0 {
+        return state;
     }
     if links <= link {
         return 24;

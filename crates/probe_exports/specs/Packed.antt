@@ -12,41 +12,54 @@ use Rattle.probe_frame.specs.Frame.{frameOf}
 use Rattle.wake_log.specs.Entry.{answerOf}
 use Rattle.probe_rules.specs.declared.Event.{Event}
 use Rattle.probe_rules.specs.declared.Event.the-variants.{Opening}
-use Rattle.probe_rules.specs.Rules.{befalls, entryOf, sendable}
+use Rattle.probe_rules.specs.Rules.{entryOf, sendable}
 use Rattle.probe_rules.specs.Frames.{heardOf}
+use Rattle.probe_maps.specs.Maps.{Maps, bytesOf}
+use Rattle.probe_maps.specs.MapRules.{befallsMaps}
 use Rattle.probe.specs.Answers.{Befallen, askedEvent, askedOut, opensFault, hearsFault, askFault}
 use Rattle.probe.specs.declared.Kind.{Kind}
+use Rattle.probe_turning.specs.Turned.{toMapsFault, toBytesFault, turnedMaps, turnedBytes}
 use Rattle.packed_answers.specs.Packed.{packedValue, packedAnswer, packedAfter}
 
-pub record BefallenPacked (fault : ℕ) (t : Table) (p : ℕ) (event : Event) (r : ℕ) (before after : List ℕ) : Type 0 where
-  pub answer : r ≡ packedAnswer (answerOf fault (entryOf t p (befalls t p event before)))
-  pub lent : Befallen fault t p event (answerOf fault (entryOf t p (befalls t p event before))) before after
+pub record BefallenPacked (fault : ℕ) (t : Table) (p : ℕ) (event : Event) (r : ℕ) (before after : Maps) : Type 0 where
+  pub answer : r ≡ packedAnswer (answerOf fault (entryOf t p (befallsMaps t p event before)))
+  pub lent : Befallen fault t p event (answerOf fault (entryOf t p (befallsMaps t p event before))) before after
 
 pub record AsksPacked (fault : ℕ) (t : Table) (p : ℕ) (k : Kind) (i : ℕ) (e : List ℕ) (r : ℕ) (before after : List ℕ) : Type 0 where
   pub answer : r ≡ packedValue (replyOf fault (cond (sendable (askedEvent k i) e) 1 0 ∷ []))
   pub line : after ≡ askedOut fault t p k i e before
 
 -- an event with a log: the entry stands behind its used ones, or it is unchanged
-pub record LogsAtEndPacked (fault : ℕ) (t : Table) (p : ℕ) (event : Event) (r : ℕ) (before after : List ℕ) (used : ℕ) (log log′ : List ℕ) : Type 0 where
+pub record LogsAtEndPacked (fault : ℕ) (t : Table) (p : ℕ) (event : Event) (r : ℕ) (before after : Maps) (used : ℕ) (log log′ : List ℕ) : Type 0 where
   pub befallen : BefallenPacked fault t p event r before after
-  pub log-after : log′ ≡ packedAfter log used (answerOf fault (entryOf t p (befalls t p event before)))
+  pub log-after : log′ ≡ packedAfter log used (answerOf fault (entryOf t p (befallsMaps t p event before)))
 
 -- The calls of the end p, over the table in its slices: as `Opens`, `Hears` and `AsksFor`, the answer packed.
 
-abbrev pub OpensPacked : Slices → ℕ → ℕ → ℕ → List ℕ → List ℕ → Type 0
+abbrev pub OpensPacked : Slices → ℕ → ℕ → ℕ → Maps → Maps → Type 0
 OpensPacked x p free r before after = BefallenPacked (opensFault x p before free) (tableOf x) p Opening r before after
 
-abbrev pub HearsPacked : Slices → ℕ → List ℕ → ℕ → ℕ → List ℕ → List ℕ → Type 0
+abbrev pub HearsPacked : Slices → ℕ → List ℕ → ℕ → ℕ → Maps → Maps → Type 0
 HearsPacked x p frame free r before after =
     BefallenPacked (hearsFault x p before frame free) (tableOf x) p (heardOf (tableOf x) (frameOf frame)) r before after
 
-abbrev pub AsksForPacked : Slices → ℕ → Kind → ℕ → List ℕ → ℕ → List ℕ → List ℕ → Type 0
-AsksForPacked x p k i e r before after = AsksPacked (askFault x p i e before) (tableOf x) p k i e r before after
+abbrev pub AsksForPacked : Slices → ℕ → Kind → ℕ → Maps → ℕ → List ℕ → List ℕ → Type 0
+AsksForPacked x p k i m r before after = AsksPacked (askFault x p i m before) (tableOf x) p k i (bytesOf (x .links) m) r before after
 
-abbrev pub OpensLoggedPacked : Slices → ℕ → ℕ → List ℕ → List ℕ → ℕ → List ℕ → List ℕ → Type 0
+abbrev pub OpensLoggedPacked : Slices → ℕ → ℕ → Maps → Maps → ℕ → List ℕ → List ℕ → Type 0
 OpensLoggedPacked x p r before after used log log′ =
     LogsAtEndPacked (opensFault x p before (length log - used)) (tableOf x) p Opening r before after used log log′
 
-abbrev pub HearsLoggedPacked : Slices → ℕ → List ℕ → ℕ → List ℕ → List ℕ → ℕ → List ℕ → List ℕ → Type 0
+abbrev pub HearsLoggedPacked : Slices → ℕ → List ℕ → ℕ → Maps → Maps → ℕ → List ℕ → List ℕ → Type 0
 HearsLoggedPacked x p frame r before after used log log′ =
     LogsAtEndPacked (hearsFault x p before frame (length log - used)) (tableOf x) p (heardOf (tableOf x) (frameOf frame)) r before after used log log′
+
+-- Turning: as `TurnsToMaps` and `TurnsToBytes`, the answer packed.
+
+pub record TurnsToMapsPacked (x : Slices) (p : ℕ) (e : List ℕ) (r : ℕ) (before after : Maps) : Type 0 where
+  pub answer : r ≡ packedValue (replyOf (toMapsFault x p e before) [])
+  pub maps-after : after ≡ turnedMaps x p e before
+
+pub record TurnsToBytesPacked (x : Slices) (p : ℕ) (m : Maps) (r : ℕ) (before after : List ℕ) : Type 0 where
+  pub answer : r ≡ packedValue (replyOf (toBytesFault x p m before) [])
+  pub bytes-after : after ≡ turnedBytes x p m before

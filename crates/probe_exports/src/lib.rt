@@ -1,16 +1,19 @@
-// The library of one end for C and Rust: open and hear, without a log and with one; ask, rests.
+// The library of one end for C and Rust: open and hear, without a log and with one; ask, rests; its record turned from bytes into maps and back.
 ghost use mathlib.Core.Path.{_≡_};
 ghost use Rattle.table.specs.Slices.{slicesOf};
+ghost use Rattle.probe_maps.specs.Maps.{rows};
 ghost use Rattle.probe.specs.declared.Kind.the-variants.{Offer, Refusal};
 ghost use Rattle.probe.specs.Answers.{askedReply, restingReply, whetherRests};
+ghost use Rattle.probe_turning.specs.Turned.{turningReply};
 ghost use Rattle.packed_answers.specs.Packed.{packedValue};
-ghost use Rattle.probe_exports.specs.Packed.{OpensPacked, HearsPacked, AsksForPacked, OpensLoggedPacked, HearsLoggedPacked};
+ghost use Rattle.probe_exports.specs.Packed.{OpensPacked, HearsPacked, AsksForPacked, OpensLoggedPacked, HearsLoggedPacked, TurnsToMapsPacked, TurnsToBytesPacked};
 use packed_answers::ANSWER_BASE;
 use packed_answers::logs;
 use packed_answers::packed_answer;
 use probe::Asked;
 use probe::Kind;
 use probe::Resting;
+use probe_turning::Turning;
 
 fn packed_asked(r: Asked) -> u64
     ensures { λ n. ⌜ n ≡ packedValue (askedReply r) ⌝ }
@@ -36,6 +39,15 @@ fn packed_resting(r: Resting) -> u64
     }
 }
 
+fn packed_turning(r: Turning) -> u64
+    ensures { λ n. ⌜ n ≡ packedValue (turningReply r) ⌝ }
+{
+    match r {
+        Turning::Turned => ANSWER_BASE,
+        Turning::Refused(refusal) => refusal as u64,
+    }
+}
+
 // `probe::open`, its answer packed.
 #[no_mangle]
 pub extern "C" fn planner_probe_open(
@@ -47,11 +59,16 @@ pub extern "C" fn planner_probe_open(
     highs: &[u16],
     costs: &[u16],
     probe: u16,
-    rec: &mut [u8],
+    standing: &mut [u64],
+    refused_out: &mut [u64],
+    held: &mut [u64],
+    refused_in: &mut [u64],
     free: usize,
 ) -> u64
     ensures { λ r. let x = slicesOf number probes links (now (needs .entry)) (now (lows .entry)) (now (highs .entry)) (now (costs .entry)) in
-        ⌜ OpensPacked x probe free r (now (rec .entry)) (now (rec .exit)) ⌝ }
+        let before = rows (now (standing .entry)) (now («refused_out» .entry)) (now (held .entry)) (now («refused_in» .entry)) in
+        let after = rows (now (standing .exit)) (now («refused_out» .exit)) (now (held .exit)) (now («refused_in» .exit)) in
+        ⌜ OpensPacked x probe free r before after ⌝ }
 {
     packed_answer(probe::open(
         number,
@@ -62,7 +79,10 @@ pub extern "C" fn planner_probe_open(
         highs,
         costs,
         probe,
-        rec,
+        standing,
+        refused_out,
+        held,
+        refused_in,
         free,
     ))
 }
@@ -78,12 +98,17 @@ pub extern "C" fn planner_probe_hear(
     highs: &[u16],
     costs: &[u16],
     probe: u16,
-    rec: &mut [u8],
+    standing: &mut [u64],
+    refused_out: &mut [u64],
+    held: &mut [u64],
+    refused_in: &mut [u64],
     frame: &[u8],
     free: usize,
 ) -> u64
     ensures { λ r. let x = slicesOf number probes links (now (needs .entry)) (now (lows .entry)) (now (highs .entry)) (now (costs .entry)) in
-        ⌜ HearsPacked x probe (now (frame .entry)) free r (now (rec .entry)) (now (rec .exit)) ⌝ }
+        let before = rows (now (standing .entry)) (now («refused_out» .entry)) (now (held .entry)) (now («refused_in» .entry)) in
+        let after = rows (now (standing .exit)) (now («refused_out» .exit)) (now (held .exit)) (now («refused_in» .exit)) in
+        ⌜ HearsPacked x probe (now (frame .entry)) free r before after ⌝ }
 {
     packed_answer(probe::hear(
         number,
@@ -94,7 +119,10 @@ pub extern "C" fn planner_probe_hear(
         highs,
         costs,
         probe,
-        rec,
+        standing,
+        refused_out,
+        held,
+        refused_in,
         frame,
         free,
     ))
@@ -111,12 +139,17 @@ pub extern "C" fn planner_probe_open_logged(
     highs: &[u16],
     costs: &[u16],
     probe: u16,
-    rec: &mut [u8],
+    standing: &mut [u64],
+    refused_out: &mut [u64],
+    held: &mut [u64],
+    refused_in: &mut [u64],
     log: &mut [u64],
     used: usize,
 ) -> u64
     ensures { λ r. let x = slicesOf number probes links (now (needs .entry)) (now (lows .entry)) (now (highs .entry)) (now (costs .entry)) in
-        ⌜ OpensLoggedPacked x probe r (now (rec .entry)) (now (rec .exit)) used (now (log .entry)) (now (log .exit)) ⌝ }
+        let before = rows (now (standing .entry)) (now («refused_out» .entry)) (now (held .entry)) (now («refused_in» .entry)) in
+        let after = rows (now (standing .exit)) (now («refused_out» .exit)) (now (held .exit)) (now («refused_in» .exit)) in
+        ⌜ OpensLoggedPacked x probe r before after used (now (log .entry)) (now (log .exit)) ⌝ }
 {
     let answer = probe::open(
         number,
@@ -127,7 +160,10 @@ pub extern "C" fn planner_probe_open_logged(
         highs,
         costs,
         probe,
-        rec,
+        standing,
+        refused_out,
+        held,
+        refused_in,
         wake_log::storing::free(used, log.len()),
     );
     logs::store(log, used, answer)
@@ -144,13 +180,18 @@ pub extern "C" fn planner_probe_hear_logged(
     highs: &[u16],
     costs: &[u16],
     probe: u16,
-    rec: &mut [u8],
+    standing: &mut [u64],
+    refused_out: &mut [u64],
+    held: &mut [u64],
+    refused_in: &mut [u64],
     frame: &[u8],
     log: &mut [u64],
     used: usize,
 ) -> u64
     ensures { λ r. let x = slicesOf number probes links (now (needs .entry)) (now (lows .entry)) (now (highs .entry)) (now (costs .entry)) in
-        ⌜ HearsLoggedPacked x probe (now (frame .entry)) r (now (rec .entry)) (now (rec .exit)) used (now (log .entry)) (now (log .exit)) ⌝ }
+        let before = rows (now (standing .entry)) (now («refused_out» .entry)) (now (held .entry)) (now («refused_in» .entry)) in
+        let after = rows (now (standing .exit)) (now («refused_out» .exit)) (now (held .exit)) (now («refused_in» .exit)) in
+        ⌜ HearsLoggedPacked x probe (now (frame .entry)) r before after used (now (log .entry)) (now (log .exit)) ⌝ }
 {
     let answer = probe::hear(
         number,
@@ -161,7 +202,10 @@ pub extern "C" fn planner_probe_hear_logged(
         highs,
         costs,
         probe,
-        rec,
+        standing,
+        refused_out,
+        held,
+        refused_in,
         frame,
         wake_log::storing::free(used, log.len()),
     );
@@ -179,12 +223,16 @@ pub extern "C" fn planner_probe_ask_offer(
     highs: &[u16],
     costs: &[u16],
     probe: u16,
-    rec: &[u8],
+    standing: &[u64],
+    refused_out: &[u64],
+    held: &[u64],
+    refused_in: &[u64],
     link: u16,
     out: &mut [u8],
 ) -> u64
     ensures { λ r. let x = slicesOf number probes links (now (needs .entry)) (now (lows .entry)) (now (highs .entry)) (now (costs .entry)) in
-        ⌜ AsksForPacked x probe Offer link (now (rec .entry)) r (now (out .entry)) (now (out .exit)) ⌝ }
+        let m = rows (now (standing .entry)) (now («refused_out» .entry)) (now (held .entry)) (now («refused_in» .entry)) in
+        ⌜ AsksForPacked x probe Offer link m r (now (out .entry)) (now (out .exit)) ⌝ }
 {
     packed_asked(probe::ask(
         number,
@@ -195,7 +243,10 @@ pub extern "C" fn planner_probe_ask_offer(
         highs,
         costs,
         probe,
-        rec,
+        standing,
+        refused_out,
+        held,
+        refused_in,
         Kind::Offer,
         link,
         out,
@@ -213,12 +264,16 @@ pub extern "C" fn planner_probe_ask_refusal(
     highs: &[u16],
     costs: &[u16],
     probe: u16,
-    rec: &[u8],
+    standing: &[u64],
+    refused_out: &[u64],
+    held: &[u64],
+    refused_in: &[u64],
     link: u16,
     out: &mut [u8],
 ) -> u64
     ensures { λ r. let x = slicesOf number probes links (now (needs .entry)) (now (lows .entry)) (now (highs .entry)) (now (costs .entry)) in
-        ⌜ AsksForPacked x probe Refusal link (now (rec .entry)) r (now (out .entry)) (now (out .exit)) ⌝ }
+        let m = rows (now (standing .entry)) (now («refused_out» .entry)) (now (held .entry)) (now («refused_in» .entry)) in
+        ⌜ AsksForPacked x probe Refusal link m r (now (out .entry)) (now (out .exit)) ⌝ }
 {
     packed_asked(probe::ask(
         number,
@@ -229,7 +284,10 @@ pub extern "C" fn planner_probe_ask_refusal(
         highs,
         costs,
         probe,
-        rec,
+        standing,
+        refused_out,
+        held,
+        refused_in,
         Kind::Refusal,
         link,
         out,
@@ -247,11 +305,15 @@ pub extern "C" fn planner_probe_rests(
     highs: &[u16],
     costs: &[u16],
     probe: u16,
-    rec: &[u8],
+    standing: &[u64],
+    refused_out: &[u64],
+    held: &[u64],
+    refused_in: &[u64],
     link: u16,
 ) -> u64
     ensures { λ r. let x = slicesOf number probes links (now (needs .entry)) (now (lows .entry)) (now (highs .entry)) (now (costs .entry)) in
-        ⌜ r ≡ packedValue (whetherRests x probe (now (rec .entry)) link) ⌝ }
+        let m = rows (now (standing .entry)) (now («refused_out» .entry)) (now (held .entry)) (now («refused_in» .entry)) in
+        ⌜ r ≡ packedValue (whetherRests x probe m link) ⌝ }
 {
     packed_resting(probe::rests(
         number,
@@ -262,7 +324,87 @@ pub extern "C" fn planner_probe_rests(
         highs,
         costs,
         probe,
-        rec,
+        standing,
+        refused_out,
+        held,
+        refused_in,
         link,
+    ))
+}
+
+// `probe_turning::maps_of`, its answer packed.
+#[no_mangle]
+pub extern "C" fn planner_probe_maps_of(
+    number: u16,
+    probes: u16,
+    links: u16,
+    needs: &[u16],
+    lows: &[u16],
+    highs: &[u16],
+    costs: &[u16],
+    probe: u16,
+    rec: &[u8],
+    standing: &mut [u64],
+    refused_out: &mut [u64],
+    held: &mut [u64],
+    refused_in: &mut [u64],
+) -> u64
+    ensures { λ r. let x = slicesOf number probes links (now (needs .entry)) (now (lows .entry)) (now (highs .entry)) (now (costs .entry)) in
+        let before = rows (now (standing .entry)) (now («refused_out» .entry)) (now (held .entry)) (now («refused_in» .entry)) in
+        let after = rows (now (standing .exit)) (now («refused_out» .exit)) (now (held .exit)) (now («refused_in» .exit)) in
+        ⌜ TurnsToMapsPacked x probe (now (rec .entry)) r before after ⌝ }
+{
+    packed_turning(probe_turning::maps_of(
+        number,
+        probes,
+        links,
+        needs,
+        lows,
+        highs,
+        costs,
+        probe,
+        rec,
+        standing,
+        refused_out,
+        held,
+        refused_in,
+    ))
+}
+
+// `probe_turning::bytes_of`, its answer packed.
+#[no_mangle]
+pub extern "C" fn planner_probe_bytes_of(
+    number: u16,
+    probes: u16,
+    links: u16,
+    needs: &[u16],
+    lows: &[u16],
+    highs: &[u16],
+    costs: &[u16],
+    probe: u16,
+    standing: &[u64],
+    refused_out: &[u64],
+    held: &[u64],
+    refused_in: &[u64],
+    rec: &mut [u8],
+) -> u64
+    ensures { λ r. let x = slicesOf number probes links (now (needs .entry)) (now (lows .entry)) (now (highs .entry)) (now (costs .entry)) in
+        let m = rows (now (standing .entry)) (now («refused_out» .entry)) (now (held .entry)) (now («refused_in» .entry)) in
+        ⌜ TurnsToBytesPacked x probe m r (now (rec .entry)) (now (rec .exit)) ⌝ }
+{
+    packed_turning(probe_turning::bytes_of(
+        number,
+        probes,
+        links,
+        needs,
+        lows,
+        highs,
+        costs,
+        probe,
+        standing,
+        refused_out,
+        held,
+        refused_in,
+        rec,
     ))
 }

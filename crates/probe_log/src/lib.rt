@@ -1,5 +1,6 @@
 // The events of one end with its wake log: a lent slice of entries, and the count of its used ones.
 ghost use Rattle.table.specs.Slices.{slicesOf};
+ghost use Rattle.probe_maps.specs.Maps.{rows};
 ghost use Rattle.probe_log.specs.Logged.{OpensTold, HearsTold, OpensLogged, HearsLogged};
 use wake_log::storing::Told;
 
@@ -12,12 +13,17 @@ fn open_told(
     highs: &[u16],
     costs: &[u16],
     probe: u16,
-    rec: &mut [u8],
+    standing: &mut [u64],
+    refused_out: &mut [u64],
+    held: &mut [u64],
+    refused_in: &mut [u64],
     used: usize,
     room: usize,
 ) -> Told
     ensures { λ r. let x = slicesOf number probes links (now (needs .entry)) (now (lows .entry)) (now (highs .entry)) (now (costs .entry)) in
-        ⌜ OpensTold x probe used room r (now (rec .entry)) (now (rec .exit)) ⌝ }
+        let before = rows (now (standing .entry)) (now («refused_out» .entry)) (now (held .entry)) (now («refused_in» .entry)) in
+        let after = rows (now (standing .exit)) (now («refused_out» .exit)) (now (held .exit)) (now («refused_in» .exit)) in
+        ⌜ OpensTold x probe used room r before after ⌝ }
 {
     let answer = probe::open(
         number,
@@ -28,7 +34,10 @@ fn open_told(
         highs,
         costs,
         probe,
-        rec,
+        standing,
+        refused_out,
+        held,
+        refused_in,
         wake_log::storing::free(used, room),
     );
     wake_log::storing::tell(answer, used, room)
@@ -43,13 +52,18 @@ fn hear_told(
     highs: &[u16],
     costs: &[u16],
     probe: u16,
-    rec: &mut [u8],
+    standing: &mut [u64],
+    refused_out: &mut [u64],
+    held: &mut [u64],
+    refused_in: &mut [u64],
     frame: &[u8],
     used: usize,
     room: usize,
 ) -> Told
     ensures { λ r. let x = slicesOf number probes links (now (needs .entry)) (now (lows .entry)) (now (highs .entry)) (now (costs .entry)) in
-        ⌜ HearsTold x probe (now (frame .entry)) used room r (now (rec .entry)) (now (rec .exit)) ⌝ }
+        let before = rows (now (standing .entry)) (now («refused_out» .entry)) (now (held .entry)) (now («refused_in» .entry)) in
+        let after = rows (now (standing .exit)) (now («refused_out» .exit)) (now (held .exit)) (now («refused_in» .exit)) in
+        ⌜ HearsTold x probe (now (frame .entry)) used room r before after ⌝ }
 {
     let answer = probe::hear(
         number,
@@ -60,7 +74,10 @@ fn hear_told(
         highs,
         costs,
         probe,
-        rec,
+        standing,
+        refused_out,
+        held,
+        refused_in,
         frame,
         wake_log::storing::free(used, room),
     );
@@ -77,12 +94,17 @@ pub fn open_logged(
     highs: &[u16],
     costs: &[u16],
     probe: u16,
-    rec: &mut [u8],
+    standing: &mut [u64],
+    refused_out: &mut [u64],
+    held: &mut [u64],
+    refused_in: &mut [u64],
     log: &mut [wake_log::Entry],
     used: usize,
 ) -> wake_log::Answer
     ensures { λ r. let x = slicesOf number probes links (now (needs .entry)) (now (lows .entry)) (now (highs .entry)) (now (costs .entry)) in
-        ⌜ OpensLogged x probe r (now (rec .entry)) (now (rec .exit)) used (now (log .entry)) (now (log .exit)) ⌝ }
+        let before = rows (now (standing .entry)) (now («refused_out» .entry)) (now (held .entry)) (now («refused_in» .entry)) in
+        let after = rows (now (standing .exit)) (now («refused_out» .exit)) (now (held .exit)) (now («refused_in» .exit)) in
+        ⌜ OpensLogged x probe r before after used (now (log .entry)) (now (log .exit)) ⌝ }
 {
     let t = open_told(
         number,
@@ -93,7 +115,10 @@ pub fn open_logged(
         highs,
         costs,
         probe,
-        rec,
+        standing,
+        refused_out,
+        held,
+        refused_in,
         used,
         log.len(),
     );
@@ -111,13 +136,18 @@ pub fn hear_logged(
     highs: &[u16],
     costs: &[u16],
     probe: u16,
-    rec: &mut [u8],
+    standing: &mut [u64],
+    refused_out: &mut [u64],
+    held: &mut [u64],
+    refused_in: &mut [u64],
     frame: &[u8],
     log: &mut [wake_log::Entry],
     used: usize,
 ) -> wake_log::Answer
     ensures { λ r. let x = slicesOf number probes links (now (needs .entry)) (now (lows .entry)) (now (highs .entry)) (now (costs .entry)) in
-        ⌜ HearsLogged x probe (now (frame .entry)) r (now (rec .entry)) (now (rec .exit)) used (now (log .entry)) (now (log .exit)) ⌝ }
+        let before = rows (now (standing .entry)) (now («refused_out» .entry)) (now (held .entry)) (now («refused_in» .entry)) in
+        let after = rows (now (standing .exit)) (now («refused_out» .exit)) (now (held .exit)) (now («refused_in» .exit)) in
+        ⌜ HearsLogged x probe (now (frame .entry)) r before after used (now (log .entry)) (now (log .exit)) ⌝ }
 {
     let t = hear_told(
         number,
@@ -128,7 +158,10 @@ pub fn hear_logged(
         highs,
         costs,
         probe,
-        rec,
+        standing,
+        refused_out,
+        held,
+        refused_in,
         frame,
         used,
         log.len(),

@@ -38,17 +38,6 @@ dearestUntried t p e = best (dearer t) (ownWith t p (outbound e) 0) (t .links) (
 abbrev pub cheapestHeld : Table → ℕ → List ℕ → ℕ
 cheapestHeld t p e = best (cheaper t) (ownWith t p (inbound e) 1) (t .links) (t .links)
 
--- one side of an end's record, and the order of its best: 0 for outbound bytes, the dearest first, and 1 for inbound bytes, the cheapest first
-abbrev pub sideByte : ℕ → List ℕ → ℕ → ℕ
-sideByte value e = cond (eqb value 1) (inbound e) (outbound e)
-
-abbrev pub sideBetter : ℕ → Table → ℕ → ℕ → Bool
-sideBetter value t = cond (eqb value 1) (cheaper t) (dearer t)
-
--- the best link with the value on its side: at 0 the dearest untried, at 1 the cheapest held
-abbrev pub bestOwn : ℕ → Table → ℕ → List ℕ → ℕ
-bestOwn value t p e = best (sideBetter value t) (ownWith t p (sideByte value e) value) (t .links) (t .links)
-
 -- 20: "A record of the wrong length."
 abbrev pub recordLengthFault : Table → List ℕ → ℕ
 recordLengthFault t e = cond (eqb (length e) (2 * t .links)) 0 20

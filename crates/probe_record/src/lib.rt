@@ -1,5 +1,4 @@
-// The record of an end: its bytes counted, searched and checked.
+// The record of an end: its bytes counted and checked.
 
 pub mod checks;
 pub mod counts;
-pub mod search;

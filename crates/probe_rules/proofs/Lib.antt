@@ -1,4 +1,3 @@
 pub mod OutcomeLaws
-pub mod Ready
 pub mod Frames
 pub mod Befalls

@@ -9,7 +9,7 @@ use lib.Dec.{ltb, eqb}
 use borrow.Author.Tests.{ltb-true}
 use Rattle.range.proofs.Bools.{and-left, decided}
 use Rattle.table.specs.Table.{Table, ofSlices, spare, dearer}
-use Rattle.probe_record.specs.Record.{outbound, inbound, standing, held, dearestUntried, cheapestHeld, bestOwn}
+use Rattle.probe_record.specs.Record.{outbound, inbound, standing, held, dearestUntried, cheapestHeld}
 use Rattle.probe_rules.specs.declared.Event.{Event}
 use Rattle.probe_rules.specs.declared.Event.the-variants.{Opening, Offer, Refusal}
 use Rattle.probe_rules.specs.declared.Outcome.{Outcome}
@@ -76,9 +76,3 @@ module _ (number probes links : ℕ) (needs lows highs costs : List ℕ) (p : �
   befalls-same Opening e = refl
   befalls-same (Offer i) e = refl
   befalls-same (Refusal i) e = refl
-
--- the best own link does not hang on the needs
-pub best-same : (value links : ℕ) (needs lows highs costs : List ℕ) (p : ℕ) (e : List ℕ)
-    → bestOwn value (ofSlices 0 0 links [] lows highs costs) p e ≡ bestOwn value (ofSlices 0 0 links needs lows highs costs) p e
-unfolding dearer
-best-same value links needs lows highs costs p e = refl

@@ -1,12 +1,8 @@
--- Where the links of an event and of an outcome are, and what the functions ask of their arguments.
-use Prim.Native.Nat.{ℕ, _*_, _≤_, _<_}
+-- Where the links of an event and of an outcome are.
+use Prim.Native.Nat.{ℕ, _<_}
 use mathlib.Core.Path.{_≡_}
 use mathlib.Core.Bool.{true}
-use mathlib.Core.List.{List}
-use lib.ListN.{length}
-use Rattle.range.specs.First.{first}
 use Rattle.table.specs.Table.{Table, touches}
-use Rattle.probe_record.specs.Record.{byteFault}
 use Rattle.probe_rules.specs.declared.Event.{Event}
 use Rattle.probe_rules.specs.declared.Event.the-variants.{Opening, Offer, Refusal}
 use Rattle.probe_rules.specs.declared.Outcome.{Outcome}
@@ -46,8 +42,3 @@ OwnOutcome t p (Refused i) = OwnLink t p i
 OwnOutcome t p (RefusalLearnt i) = OwnLink t p i
 OwnOutcome t p (NoChange i) = Unit
 OwnOutcome t p AllTried = Unit
-
--- a record with room for the links, that 21 lets pass
-pub record EndReady (t : Table) (p : ℕ) (e : List ℕ) : Type 0 where
-  pub room : 2 * t .links ≤ length e
-  pub bytes : first (byteFault t p e) (t .links) ≡ 0

@@ -1,6 +1,5 @@
 // The rules of an end: what an opening, an offer heard and a refusal heard do. Links go by their place in the table.
 
-pub mod decisions;
 pub mod outcomes;
 
 // What reaches an end.

@@ -1,41 +1,12 @@
-// What an event alters in the record, and its entry.
+// The entry of what befell an end.
 use table_links::ends::other;
 ghost use mathlib.Core.Path.{_≡_};
 ghost use mathlib.Core.List.{[]};
-ghost use Prim.Native.Nat.{_/_};
 ghost use lib.ListN.{length};
 ghost use Rattle.table.specs.Table.{ofSlices, other};
-ghost use Rattle.probe_rules.specs.Rules.{alter, whatOf, entryOf};
+ghost use Rattle.probe_rules.specs.Rules.{whatOf, entryOf};
 ghost use Rattle.probe_rules.specs.Within.{Within};
 use super::Outcome;
-
-// Alters an end's own record by what befell it.
-pub fn alter(rec: &mut [u8], outcome: Outcome)
-    requires { ⌜ Within (length (now rec) / 2) outcome ⌝ }
-    ensures { λ _. ⌜ now (rec .exit) ≡ alter outcome (now (rec .entry)) ⌝ }
-{
-    match outcome {
-        Outcome::Opened(i) => {
-            rec[2 * i] = 1;
-        }
-        Outcome::Enough => {}
-        Outcome::Taken(i) => {
-            rec[2 * i + 1] = 1;
-        }
-        Outcome::TakenDisplacing { link, displaced } => {
-            rec[2 * link + 1] = 1;
-            rec[2 * displaced + 1] = 2;
-        }
-        Outcome::Refused(i) => {
-            rec[2 * i + 1] = 2;
-        }
-        Outcome::RefusalLearnt(i) => {
-            rec[2 * i] = 2;
-        }
-        Outcome::NoChange(_) => {}
-        Outcome::AllTried => {}
-    }
-}
 
 // What the log says of it.
 fn what_of(outcome: Outcome, lows: &[u16], highs: &[u16], probe: u16) -> wake_log::What

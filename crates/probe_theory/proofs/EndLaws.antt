@@ -18,6 +18,7 @@ use Rattle.probe_rules.specs.Frames.{heardOf}
 use Rattle.probe_rules.specs.Within.{OwnLink, OwnEvent, OwnOutcome}
 use Rattle.probe_rules.proofs.Frames.{between-across}
 use Rattle.probe_rules.proofs.Befalls.{Befell, befell, befell-own, own-within}
+use Rattle.probe_maps.proofs.Faults.{turns-back, fresh-maps}
 use Rattle.probe_checks.specs.Checks.{heardFault, linkCallFault}
 use Rattle.probe_checks.proofs.Accepted.{heard-link, heard-to}
 use Rattle.probe_theory.specs.EndLaws.{EndLaws, recordAfter}
@@ -47,8 +48,10 @@ end-laws t legal p =
       changes-few = λ v e a. outcome-few t p e (befalls t p v e) (own-links v e a);
       fresh-usable = record-passes t p (fresh t) (fresh-good t p);
       stays-usable = λ v e f a. record-passes t p (recordAfter t p v e) (befell-good t p e (good-record t p e f) (is v e a) a);
+      fresh-maps = fresh-maps t;
+      fresh-maps-usable = turns-back t p .bytes-there (fresh t) (record-passes t p (fresh t) (fresh-good t p));
       opens-nothing = opens-nothing t legal p;
-      asked-again = λ k i slices e. asks-again t p k i e (linkCallFault slices t p e i);
+      asked-again = λ k i state e. asks-again t p k i e (linkCallFault state t p i);
       line-says = λ digits k i a. asked-says t legal digits p i a k;
       line-passes = λ digits k i a. asked-passes t legal digits p i a k;
       line-heard = λ digits k i a. asked-heard t legal digits p i a k;

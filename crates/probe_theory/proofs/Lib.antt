@@ -4,3 +4,4 @@ pub mod Usable
 pub mod OpensNothing
 pub mod Asking
 pub mod EndLaws
+pub mod SameThroughCalls

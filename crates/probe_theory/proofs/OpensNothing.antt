@@ -1,13 +1,15 @@
 -- What an opening says that opens nothing: by cases of what befell the end, on a record that 22 lets pass.
 use Prim.Native.Nat.{ℕ, _*_}
-use mathlib.Core.Path.{_≡_, refl, sym, ap}
+use mathlib.Core.Path.{_≡_, refl, sym, _∙_, ap}
 use mathlib.Core.Logic.{inl, inr}
 use mathlib.Core.List.{List}
 use native.Mathlib.Omega.{arith}
 use lib.Seq.{getD-set-same}
+use Rattle.range.specs.First.{orElse}
+use Rattle.range.proofs.Faults.{or-right}
 use Rattle.table.specs.Table.{Table, item}
 use Rattle.table.specs.Legal.{Legal}
-use Rattle.probe_record.proofs.Bytes.{GoodRecord, good-record}
+use Rattle.probe_record.proofs.Bytes.{GoodRecord}
 use Rattle.wake_log.specs.declared.Entry.{Entry}
 use Rattle.wake_log.specs.declared.Answer.the-variants.{Logged}
 use Rattle.wake_log.proofs.Answers.{logged-is}
@@ -16,6 +18,11 @@ use Rattle.probe_rules.specs.declared.Outcome.{Outcome}
 use Rattle.probe_rules.specs.declared.Outcome.the-variants.{Opened}
 use Rattle.probe_rules.specs.Rules.{befalls, alter, whatOf, entryOf}
 use Rattle.probe_rules.proofs.Befalls.{Befell, opened, enough, all-tried, befell}
+use Rattle.probe_rules.proofs.OutcomeLaws.{befalls-within}
+use Rattle.probe_maps.specs.Maps.{Maps, AllWords, bytesOf, mapsFault}
+use Rattle.probe_maps.specs.MapRules.{alterMaps}
+use Rattle.probe_maps.proofs.Faults.{good-maps, maps-good-record, turns-back}
+use Rattle.probe_maps.proofs.SameAltered.{bytes-altered}
 use Rattle.probe_checks.specs.Checks.{openFault}
 use Rattle.probe_checks.proofs.Accepted.{open-parts}
 use Rattle.probe.specs.Answers.{Befallen}
@@ -45,15 +52,24 @@ unaltered-says t p e good (all-tried m h) s =
       none-untried = λ c. h;
     }
 
-pub opens-nothing : (t : Table) → Legal t → (p slices free : ℕ) (e : List ℕ) (entry : Entry) → Befallen (openFault slices t p e free) t p Opening (Logged entry) e e
-    → OpensNothing t p e (entry .what)
-opens-nothing t legal p slices free e entry b = go (logged-is (openFault slices t p e free) (entryOf t p o) entry (sym (befallen-answer b)))
+pub opens-nothing : (t : Table) → Legal t → (p slices free : ℕ) (m : Maps) (entry : Entry) → AllWords m
+    → Befallen (openFault (orElse slices (mapsFault t p m)) t p free) t p Opening (Logged entry) m m → OpensNothing t p (bytesOf (t .links) m) (entry .what)
+opens-nothing t legal p slices free m entry words b = go (logged-is fault (entryOf t p o) entry (sym (befallen-answer b)))
   where
+    fault : ℕ
+    fault = openFault (orElse slices (mapsFault t p m)) t p free
+
+    e : List ℕ
+    e = bytesOf (t .links) m
+
     o : Outcome
     o = befalls t p Opening e
 
-    go : (openFault slices t p e free ≡ 0) × (entryOf t p o ≡ entry) → OpensNothing t p e (entry .what)
+    go : (fault ≡ 0) × (entryOf t p o ≡ entry) → OpensNothing t p e (entry .what)
     go (none, s) =
-        let good = good-record t p e (open-parts slices t p e free none .1) in
-        let after : alter o e ≡ e = sym (rw none at (b .record-after)) in
-        rw (← s) (unaltered-says t p e good (befell t legal p e Opening tt) after)
+        let passes = or-right slices (mapsFault t p m) (open-parts (orElse slices (mapsFault t p m)) t p free none .0) in
+        let good = maps-good-record t p m (good-maps t p m words passes) in
+        let same = turns-back t p .maps-back m words passes in
+        let after : alterMaps (t .links) o m ≡ m = sym (rw none at (b .maps-after)) in
+        let still : alter o e ≡ e = sym (bytes-altered (t .links) m e same o (befalls-within t p Opening e tt)) ∙ ap (bytesOf (t .links)) after in
+        rw (← s) (unaltered-says t p e good (befell t legal p e Opening tt) still)

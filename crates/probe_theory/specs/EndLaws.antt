@@ -5,7 +5,7 @@ use mathlib.Core.Logic.{_↔_, _⊎_}
 use mathlib.Core.Bool.{Bool, not}
 use mathlib.Core.List.{List}
 use lib.Dec.{eqb}
-use lib.ListN.{length}
+use lib.ListN.{length, replicate}
 use Rattle.range.specs.Sum.{count}
 use Rattle.range.specs.First.{orElse}
 use Rattle.table.specs.Table.{Table, item, spare, other}
@@ -20,6 +20,8 @@ use Rattle.probe_rules.specs.declared.Event.the-variants.{Opening}
 use Rattle.probe_rules.specs.Rules.{befalls, alter}
 use Rattle.probe_rules.specs.Frames.{heardOf}
 use Rattle.probe_rules.specs.Within.{OwnLink, OwnEvent}
+use Rattle.bit_maps.specs.BitMap.{wordsFor}
+use Rattle.probe_maps.specs.Maps.{Maps, rows, AllWords, bytesOf, mapsOf, mapsFault}
 use Rattle.probe.specs.declared.Kind.{Kind}
 use Rattle.probe.specs.declared.Asked.{Asked}
 use Rattle.probe_checks.specs.Checks.{heardFault, openFault, linkCallFault}
@@ -64,12 +66,16 @@ module _ (t : Table) (p : ℕ) where
     -- 20, 21 and 22 let a fresh record pass, and a record that they let pass stays one
     pub fresh-usable : recordFault t p (fresh t) ≡ 0
     pub stays-usable : (event : Event) (e : List ℕ) → recordFault t p e ≡ 0 → OwnEvent t p event → recordFault t p (recordAfter event e) ≡ 0
-    -- an opening that is logged and leaves the record as it was
-    pub opens-nothing : (slices free : ℕ) (e : List ℕ) (entry : Entry) → Befallen (openFault slices t p e free) t p Opening (Logged entry) e e → OpensNothing t p e (entry .what)
+    -- so of its maps: those of a fresh record are words of 0, and pass
+    pub fresh-maps : let none : List ℕ = replicate (wordsFor (t .links)) 0 in mapsOf (t .links) (fresh t) ≡ rows none none none none
+    pub fresh-maps-usable : mapsFault t p (mapsOf (t .links) (fresh t)) ≡ 0
+    -- an opening that is logged and leaves the maps as they were
+    pub opens-nothing : (slices free : ℕ) (m : Maps) (entry : Entry) → AllWords m
+        → Befallen (openFault (orElse slices (mapsFault t p m)) t p free) t p Opening (Logged entry) m m → OpensNothing t p (bytesOf (t .links) m) (entry .what)
     -- "as often as wished": asked again, an end answers and writes the same
-    pub asked-again : (k : Kind) (i slices : ℕ) (e : List ℕ) (r r′ : Asked) (out out′ out″ : List ℕ)
-        → Asks (orElse (lentFault (length out) 15) (linkCallFault slices t p e i)) t p k i e r out out′
-        → Asks (orElse (lentFault (length out′) 15) (linkCallFault slices t p e i)) t p k i e r′ out′ out″ → (r′ ≡ r) × (out″ ≡ out′)
+    pub asked-again : (k : Kind) (i state : ℕ) (e : List ℕ) (r r′ : Asked) (out out′ out″ : List ℕ)
+        → Asks (orElse (lentFault (length out) 15) (linkCallFault state t p i)) t p k i e r out out′
+        → Asks (orElse (lentFault (length out′) 15) (linkCallFault state t p i)) t p k i e r′ out′ out″ → (r′ ≡ r) × (out″ ≡ out′)
     -- the line says the frame; the other end does not turn it down, and hears what was asked for
     pub line-says : t .number < 65536 → (k : Kind) (i : ℕ) → OwnLink t p i → frameOf (askedLine t p k i) ≡ askedFrame t p k i
     pub line-passes : t .number < 65536 → (k : Kind) (i : ℕ) → OwnLink t p i → heardFault t (other t p i) (askedLine t p k i) ≡ 0

@@ -1,6 +1,7 @@
 -- Laws of first faults, as a loop over 0 ≤ i < n meets them.
 use Prim.Native.Nat.{ℕ, zero, suc, _+_, _<_}
-use mathlib.Core.Path.{_≡_, refl, sym, _∙_}
+use mathlib.Core.Path.{_≡_, refl, sym, _∙_, ap}
+use native.Mathlib.Nat.{add-zero, add-suc}
 use native.Mathlib.Omega.{arith}
 use native.Mathlib.Numerals.{add-one}
 use native.Mathlib.Decide.{decLt}
@@ -67,13 +68,23 @@ unfolding first
 none-first f zero h = refl
 none-first f (suc n) h = or-none (first f n) (f n) (none-first f n (λ i l. h i (omega arith))) ∙ h n (omega arith)
 
--- two stages that are checked as one: their fault is that of the whole, or the rest's is
+-- two stages that are checked as one: a fault of theirs is that of the whole
 pub or-through : (r a b d : ℕ) → r ≡ orElse a b → (r ≡ 0 → ⊥) → r ≡ orElse a (orElse b d)
 or-through r zero zero d e n = absurd (n e)
 or-through r zero (suc b) d e n = e
 or-through r (suc a) b d e n = e
 
-pub or-past : (r a b d : ℕ) → orElse a b ≡ 0 → r ≡ d → r ≡ orElse a (orElse b d)
-or-past r zero zero d e f = f
-or-past r zero (suc b) d e f = absurd (omega arith)
-or-past r (suc a) b d e f = absurd (omega arith)
+-- the first a, and the b behind them
+pub first-parts : (f : ℕ → ℕ) (a b : ℕ) → first f (a + b) ≡ orElse (first f a) (first (λ k. f (a + k)) b)
+unfolding first
+first-parts f a zero = ap (first f) (add-zero a) ∙ alone (first f a)
+  where
+    alone : (x : ℕ) → x ≡ orElse x 0
+    alone zero = refl
+    alone (suc x) = refl
+first-parts f a (suc b) =
+    ap (first f) (add-suc a b) ∙ ap (λ (x : ℕ). orElse x (f (a + b))) (first-parts f a b) ∙ grouped (first f a) (first (λ k. f (a + k)) b) (f (a + b))
+  where
+    grouped : (x y z : ℕ) → orElse (orElse x y) z ≡ orElse x (orElse y z)
+    grouped zero y z = refl
+    grouped (suc x) y z = refl

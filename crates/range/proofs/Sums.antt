@@ -6,7 +6,7 @@ use mathlib.Core.Bool.{Bool, true, false, cond, _&&_, not}
 use native.Mathlib.Omega.{arith}
 use native.Mathlib.Numerals.{add-one}
 use native.Mathlib.Decide.{decLt, ℕ-discrete}
-use native.Mathlib.Nat.{mul-le-mul-right, add-zero}
+use native.Mathlib.Nat.{mul-le-mul-right, add-zero, add-suc}
 use lib.Dec.{ltb, eqb}
 use borrow.Author.Tests.{lt-ltb, le-ltb, eq-eqb, ne-eqb}
 use Rattle.range.specs.Sum.{sum, weigh, count}
@@ -232,3 +232,23 @@ weigh-most (suc n) p c h = go (p n) (weigh-most n p c (λ i l. h i (omega arith)
     go : (b : Bool) → weigh n p c ≤ 65535 * n → c n ≤ 65535 → weigh n p c + cond b (c n) 0 ≤ 65535 * suc n
     go true a m = omega arith
     go false a m = omega arith
+
+-- the first a, and the b behind them
+pub count-parts : (p : ℕ → Bool) (a b : ℕ) → count (a + b) p ≡ count a p + count b (λ k. p (a + k))
+unfolding sum
+count-parts p a zero = ap (λ (x : ℕ). count x p) (add-zero a) ∙ sym (add-zero (count a p))
+count-parts p a (suc b) = ap (λ (x : ℕ). count x p) (add-suc a b) ∙ (let h = count-parts p a b in omega arith)
+
+-- past which there is none
+pub weigh-rest : (p : ℕ → Bool) (c : ℕ → ℕ) (k n : ℕ) → k ≤ n → ((j : ℕ) → k ≤ j → j < n → p j ≡ false) → weigh n p c ≡ weigh k p c
+unfolding sum
+weigh-rest p c zero zero l h = refl
+weigh-rest p c (suc k) zero l h = absurd (omega arith)
+weigh-rest p c k (suc n) l h = go (λ m. weigh-rest p c k n m (λ j a b. h j a (omega arith))) (ℕ-discrete k (suc n))
+  where
+    go : (k ≤ n → weigh n p c ≡ weigh k p c) → Dec (k ≡ suc n) → weigh (suc n) p c ≡ weigh k p c
+    go before (yes e) = rw e
+    go before (no d) =
+        let m : k ≤ n = omega arith in
+        let e = before m in
+        rw (h n m (omega arith)) (add-zero (weigh n p c) ∙ e)

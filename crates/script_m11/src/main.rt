@@ -2,6 +2,7 @@
 ghost use mathlib.Core.Path.{_≡_};
 ghost use Rattle.table.specs.Slices.{slicesOf};
 ghost use Rattle.wake_log.specs.Log.{slotOf};
+ghost use Rattle.probe_maps.specs.Maps.{rows};
 ghost use Rattle.script_m11.specs.Kept.{KeepsLine, KeepsOpening, KeepsFrame};
 use wake_log::Entry;
 use wake_log::Slot;
@@ -63,12 +64,17 @@ fn keep_opening(
     highs: &[u16],
     costs: &[u16],
     probe: u16,
-    rec: &mut [u8],
+    standing: &mut [u64],
+    refused_out: &mut [u64],
+    held: &mut [u64],
+    refused_in: &mut [u64],
     entries: [Entry; 16],
     used: usize,
 ) -> [Entry; 16]
     ensures { λ r. let x = slicesOf number probes links (now (needs .entry)) (now (lows .entry)) (now (highs .entry)) (now (costs .entry)) in
-        ⌜ KeepsOpening x probe (now (rec .entry)) (now (rec .exit)) used entries r ⌝ }
+        let before = rows (now (standing .entry)) (now («refused_out» .entry)) (now (held .entry)) (now («refused_in» .entry)) in
+        let after = rows (now (standing .exit)) (now («refused_out» .exit)) (now (held .exit)) (now («refused_in» .exit)) in
+        ⌜ KeepsOpening x probe before after used entries r ⌝ }
 {
     let mut log = entries;
     probe_log::open_logged(
@@ -80,7 +86,10 @@ fn keep_opening(
         highs,
         costs,
         probe,
-        rec,
+        standing,
+        refused_out,
+        held,
+        refused_in,
         &mut log,
         used,
     );
@@ -97,13 +106,18 @@ fn keep_frame(
     highs: &[u16],
     costs: &[u16],
     probe: u16,
-    rec: &mut [u8],
+    standing: &mut [u64],
+    refused_out: &mut [u64],
+    held: &mut [u64],
+    refused_in: &mut [u64],
     frame: &[u8],
     entries: [Entry; 16],
     used: usize,
 ) -> [Entry; 16]
     ensures { λ r. let x = slicesOf number probes links (now (needs .entry)) (now (lows .entry)) (now (highs .entry)) (now (costs .entry)) in
-        ⌜ KeepsFrame x probe (now (frame .entry)) (now (rec .entry)) (now (rec .exit)) used entries r ⌝ }
+        let before = rows (now (standing .entry)) (now («refused_out» .entry)) (now (held .entry)) (now («refused_in» .entry)) in
+        let after = rows (now (standing .exit)) (now («refused_out» .exit)) (now (held .exit)) (now («refused_in» .exit)) in
+        ⌜ KeepsFrame x probe (now (frame .entry)) before after used entries r ⌝ }
 {
     let mut log = entries;
     probe_log::hear_logged(
@@ -115,7 +129,10 @@ fn keep_frame(
         highs,
         costs,
         probe,
-        rec,
+        standing,
+        refused_out,
+        held,
+        refused_in,
         frame,
         &mut log,
         used,
@@ -181,7 +198,10 @@ fn fleet() {
 
 // Probe 1 takes probe 0's offer, opens, and takes probe 2's, displacing probe 0.
 fn end() {
-    let mut rec = [0u8; 6];
+    let mut standing = [0u64; 1];
+    let mut out = [0u64; 1];
+    let mut held = [0u64; 1];
+    let mut into = [0u64; 1];
     let one = keep_frame(
         1,
         4,
@@ -191,12 +211,30 @@ fn end() {
         &HIGHS,
         &COSTS,
         1,
-        &mut rec,
+        &mut standing,
+        &mut out,
+        &mut held,
+        &mut into,
         &LINES[15..30],
         fresh(),
         0,
     );
-    let two = keep_opening(1, 4, 3, &NEEDS, &LOWS, &HIGHS, &COSTS, 1, &mut rec, one, 1);
+    let two = keep_opening(
+        1,
+        4,
+        3,
+        &NEEDS,
+        &LOWS,
+        &HIGHS,
+        &COSTS,
+        1,
+        &mut standing,
+        &mut out,
+        &mut held,
+        &mut into,
+        one,
+        1,
+    );
     let three = keep_frame(
         1,
         4,
@@ -206,7 +244,10 @@ fn end() {
         &HIGHS,
         &COSTS,
         1,
-        &mut rec,
+        &mut standing,
+        &mut out,
+        &mut held,
+        &mut into,
         &LINES[75..90],
         two,
         2,

@@ -1,13 +1,14 @@
 -- What it means that a table's checks find no fault.
-use Prim.Native.Nat.{ℕ, _-_, _≤_, _<_}
-use mathlib.Core.Path.{_≡_, _∙_}
-use mathlib.Core.Bool.{cond, not, _&&_, _||_}
+use Prim.Native.Nat.{ℕ, _+_, _-_, _≤_, _<_}
+use mathlib.Core.Path.{_≡_, sym, _∙_}
+use mathlib.Core.Bool.{Bool, false, cond, not, _&&_, _||_}
 use native.Mathlib.Omega.{arith}
-use lib.Dec.{ltb, eqb}
-use borrow.Author.Tests.{ltb-true, ltb-false, eqb-true, eqb-false, not-false, eq-eqb, ne-eqb, le-ltb}
+use native.Mathlib.Decide.{ℕ-discrete, decLt}
+use lib.Dec.{ltb, leb, eqb}
+use borrow.Author.Tests.{ltb-true, ltb-false, leb-false, eqb-true, eqb-false, not-false, eq-eqb, ne-eqb, lt-ltb, le-ltb}
 use Rattle.range.specs.First.{first}
 use Rattle.range.proofs.Bools.{and-left, and-right, or-false-left, or-false-right, unless-none, when-none}
-use Rattle.range.proofs.Faults.{or-left, or-here, or-next, first-all}
+use Rattle.range.proofs.Faults.{or-left, or-here, or-next, or-none, first-none, first-all}
 use Rattle.table.specs.Legal.{endsFault, orderFault, linkFault, sizeFault, roomFault, Ends, Size, Room}
 
 pub ends-good : (probes low high : ℕ) → endsFault probes low high ≡ 0 → Ends probes low high
@@ -79,3 +80,43 @@ module _ (probes : ℕ) (low high : ℕ → ℕ) (i l h r : ℕ) (el : l ≡ low
   pub link-after : r ≡ 0 → (i ≡ 0 → ⊥) → (l₀ h₀ q : ℕ) → l₀ ≡ low (i - 1) → h₀ ≡ high (i - 1) → q ≡ orderFault l₀ h₀ l h → q ≡ linkFault probes low high i
   unfolding linkFault
   link-after z k l₀ h₀ q el₀ eh₀ f = or-next r (endsFault probes (low i) (high i)) order q ends z (f ∙ rw (el₀, eh₀, el, eh, ne-eqb i 0 k))
+
+-- How the code finds that a link passes: none of the tests that fail it does.
+ends-pass : (probes low high : ℕ) → (leb high low || leb probes high) ≡ false → endsFault probes low high ≡ 0
+ends-pass probes low high e =
+    let a = leb-false high low (or-false-left (leb high low) (leb probes high) e) in
+    let b = leb-false probes high (or-false-right (leb high low) (leb probes high) e) in
+    rw (lt-ltb low high a, lt-ltb high probes b)
+
+order-passes : (low₀ high₀ low high : ℕ) → (ltb low low₀ || (eqb low low₀ && leb high high₀)) ≡ false → orderFault low₀ high₀ low high ≡ 0
+order-passes low₀ high₀ low high e = go (decLt low₀ low)
+  where
+    go : Dec (low₀ < low) → orderFault low₀ high₀ low high ≡ 0
+    go (yes l) = rw (lt-ltb low₀ low l)
+    go (no n) =
+        let k = ltb-false low low₀ (or-false-left (ltb low low₀) (eqb low low₀ && leb high high₀) e) in
+        let q : low₀ ≡ low = omega arith in
+        let d = or-false-right (ltb low low₀) (eqb low low₀ && leb high high₀) e in
+        let h = leb-false high high₀ (rw (eq-eqb low low₀ (sym q)) at d) in
+        rw (le-ltb low₀ low (omega arith), eq-eqb low₀ low q, lt-ltb high₀ high h)
+
+-- by the ends of the link before it, where there is one
+module _ (probes : ℕ) (low high : ℕ → ℕ) (i l₀ h₀ : ℕ) (before : (i ≡ 0 → ⊥) → (l₀ ≡ low (i - 1)) × (h₀ ≡ high (i - 1))) where
+  abbrev failsEnds : Bool
+  failsEnds = leb (high i) (low i) || leb probes (high i)
+
+  abbrev failsOrder : Bool
+  failsOrder = ltb (low i) l₀ || (eqb (low i) l₀ && leb (high i) h₀)
+
+  link-passes : (failsEnds || failsOrder) ≡ false → linkFault probes low high i ≡ 0
+  unfolding linkFault
+  link-passes e =
+      or-none (endsFault probes (low i) (high i)) (cond (eqb i 0) 0 (orderFault (low (i - 1)) (high (i - 1)) (low i) (high i))) (ends-pass probes (low i) (high i) (or-false-left failsEnds failsOrder e)) ∙ go (ℕ-discrete i 0)
+    where
+      go : Dec (i ≡ 0) → cond (eqb i 0) 0 (orderFault (low (i - 1)) (high (i - 1)) (low i) (high i)) ≡ 0
+      go (yes z) = rw (eq-eqb i 0 z)
+      go (no n) = rw (ne-eqb i 0 n, ← before n .0, ← before n .1) (order-passes l₀ h₀ (low i) (high i) (or-false-right failsEnds failsOrder e))
+
+  pub links-pass : (bad : Bool) → (bad ≡ false → first (linkFault probes low high) i ≡ 0) → (bad || (failsEnds || failsOrder)) ≡ false → first (linkFault probes low high) (i + 1) ≡ 0
+  links-pass bad none e =
+      first-none (linkFault probes low high) i (none (or-false-left bad (failsEnds || failsOrder) e)) (link-passes (or-false-right bad (failsEnds || failsOrder) e))

@@ -25,7 +25,7 @@ fn degree(links: usize, lows: &[u16], highs: &[u16], probe: usize) -> usize
 }
 
 // A probe's spare, by its number of links; a probe past the needs needs none.
-fn spare_of(degree: usize, needs: &[u16], probe: usize) -> usize
+pub fn spare_of(degree: usize, needs: &[u16], probe: usize) -> usize
     ensures { λ r. ⌜ r ≡ degree - item (now (needs .entry)) probe ⌝ }
 {
     if needs.len() <= probe {

@@ -22,7 +22,7 @@ fn expected() -> Vec<String> {
 #[test]
 fn declarations() {
     let crates = of_crates();
-    assert!(crates.len() >= 27, "{}", crates.len());
+    assert!(crates.len() >= 29, "{}", crates.len());
     assert_eq!(of_ffi(&document(FFI)), crates);
     assert_eq!(of_header(&document(HEADER)), expected());
 }
@@ -88,6 +88,14 @@ fn edits_of_the_header_are_told() {
             "uint8_t *rec, size_t rec_length",
             "size_t rec_length, uint8_t *rec",
         ],
+        [
+            "*standing, size_t standing_length",
+            "*held, size_t held_length",
+        ],
+        [
+            "*refused_out, size_t refused_out_length",
+            "*refused_in, size_t refused_in_length",
+        ],
         ["    uint16_t link,\n", ""],
         ["    size_t free", "    uint16_t link, size_t free"],
         ["size_t used, size_t i", "size_t i, size_t used"],
@@ -121,6 +129,8 @@ fn edits_of_the_rust_declarations_are_told() {
         ["fn ", "fn other_"],
         ["&[u8]", "&mut [u8]"],
         ["&mut [u8]", "&[u8]"],
+        ["maps: Maps", "maps: LentMaps"],
+        ["maps: LentMaps", "maps: Maps"],
         ["&mut [u32]", "&mut [u16]"],
         ["&[u64]", "&mut [u64]"],
         ["&mut [u64]", "&[u64]"],
@@ -137,10 +147,17 @@ fn edits_of_the_rust_declarations_are_told() {
     let in_library = told(&ffi, library(&ffi), &edits, same);
     let (rules, _) = ffi.split_once("\nlibrary! {").expect("rules");
     let edits = [
-        ["($table.needs): &[u16]", "($table.needs): &mut [u16]"],
-        ["($table.needs): &mut [u16]", "($table.needs): &[u16]"],
-        ["($table.lows)", "($table.highs)"],
-        ["($table.probes): u16", "($table.probes): u8"],
+        ["($parts.needs): &[u16]", "($parts.needs): &mut [u16]"],
+        ["($parts.needs): &mut [u16]", "($parts.needs): &[u16]"],
+        ["($parts.lows)", "($parts.highs)"],
+        ["($parts.probes): u16", "($parts.probes): u8"],
+        ["($parts.refused_out)", "($parts.refused_in)"],
+        ["($parts.held): &[u64]", "($parts.held): &mut [u64]"],
+        ["($parts.held): &mut [u64]", "($parts.held): &[u64]"],
+        [
+            "($parts.standing): &mut [u64]",
+            "($parts.standing): &mut [u8]",
+        ],
     ];
     let in_rules = told(&ffi, rules, &edits, same);
     assert!(in_library > 60 && in_rules > 3, "{in_library}, {in_rules}");

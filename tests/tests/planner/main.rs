@@ -10,6 +10,7 @@ mod fleet;
 mod fleet_definitions;
 mod header;
 mod lines_alone;
+mod map_definitions;
 mod marked_sites;
 mod methods;
 mod named_slices;

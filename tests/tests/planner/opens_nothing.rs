@@ -12,6 +12,7 @@ use planner_tests::events::own_links;
 use planner_tests::ffi;
 use planner_tests::fleet::{own_record, with_marks, without_marks, Site, MARKS};
 use planner_tests::lines::{offer, opening, refusal};
+use planner_tests::maps::OwnMaps;
 use planner_tests::random::Random;
 use planner_tests::reference::{table_of_text, Behind, Caller, Table};
 use planner_tests::samples::{self, VALLEY};
@@ -64,17 +65,16 @@ fn printed(entry: Entry) -> String {
 /// An end alone, without a log and with one.
 #[track_caller]
 fn end_says(table: &Table, own: &[u8], entry: Entry) {
-    let mut end = End::fresh(table, entry.probe);
-    end.record = own.to_vec();
+    let mut end = End::with(table, entry.probe, own);
     assert_eq!(end.open(0), Err(26));
     assert_eq!(end.open(1), Ok(entry.what));
-    assert_eq!(end.record, own);
+    assert_eq!(end.record(), own);
     let mut log = Log::of(5, 2, &mut Random::new(110));
     log.lend(Ok(entry), |log, used| {
-        ffi::probe_open_logged(end.numbers.slices(), end.probe, &mut end.record, log, used)
+        ffi::probe_open_logged(end.numbers.slices(), end.probe, end.maps.lend(), log, used)
     });
     log.read();
-    assert_eq!(end.record, own);
+    assert_eq!(end.record(), own);
 }
 
 /// A fleet, without a log and with one; whether it is finished stays.
@@ -315,14 +315,14 @@ fn every_record_of_an_end() {
             let mut end = End::fresh(table, probe);
             for bytes in every_choice(2 * own.len()) {
                 let outbound: Vec<u8> = bytes.iter().copied().step_by(2).collect();
-                end.record.fill(0);
+                let mut record = vec![0; 2 * table.links.len()];
                 for (place, two) in own.iter().zip(bytes.chunks_exact(2)) {
-                    end.record[2 * place..][..2].copy_from_slice(two);
+                    record[2 * place..][..2].copy_from_slice(two);
                 }
-                let before = end.record.clone();
+                end.maps = OwnMaps::turned(&record);
                 match end.open(1) {
                     Ok(what) => {
-                        let changed = end.record != before;
+                        let changed = end.record() != record;
                         counted.count(what, &outbound, spare, changed);
                     }
                     refused => assert_eq!(refused, Err(22)),

@@ -256,7 +256,7 @@ fn short_end_alone() {
         assert_eq!(end.ask(Kind::Offer, place as u16, LINE), Ok(None));
         assert_eq!(end.rests(place as u16), Ok(false));
     }
-    assert_eq!(end.record, [0, 2, 0, 0, 0, 2, 0, 0]);
+    assert_eq!(end.record(), [0, 2, 0, 0, 0, 2, 0, 0]);
 }
 
 /// One offer standing or held is more than its spare; a refused one is not.
@@ -264,8 +264,9 @@ fn short_end_alone() {
 fn record_of_a_short_probe() {
     for place in [0, 1, 4, 5] {
         for (byte, number) in [(1, Some(22)), (2, None)] {
-            let mut end = End::fresh(&valley(), 1);
-            end.record[place] = byte;
+            let mut record = [0; 8];
+            record[place] = byte;
+            let mut end = End::with(&valley(), 1, &record);
             assert_eq!(end.open(1).err(), number);
             assert_eq!(end.rests(0).err(), number);
         }

@@ -1,8 +1,9 @@
-//! The calls with a lent log do what the same calls do without one, and their entries are read back.
+//! The calls with a lent log, on the record as it was before the same calls without one, answer the
+//! same and leave the same record; their entries are read back.
 
 use planner_tests::buffer::Buffer;
 use planner_tests::channel::{any_mix, Channel};
-use planner_tests::compare_ends::End;
+use planner_tests::compare_ends::{Buffers, End};
 use planner_tests::compare_fleet::Fleet;
 use planner_tests::compare_log::Log;
 use planner_tests::ends::Entry;
@@ -21,20 +22,6 @@ fn any_log(random: &mut Random) -> Log {
     Log::of(length, used, random)
 }
 
-/// Makes a call with the log on the record as it was before the call without one: it answers the
-/// same and leaves the same record.
-#[track_caller]
-fn same_logged(
-    log: &mut Log,
-    [before, after]: [&[u8]; 2],
-    expected: Result<Entry, u8>,
-    call: impl FnOnce(&mut [u8], &mut [u64], usize) -> u64,
-) {
-    let mut record = Buffer::holding(before, || 7);
-    log.lend(expected, |log, used| call(record.lend(), log, used));
-    assert!(record == Buffer::holding(after, || 7), "another record");
-}
-
 #[test]
 fn lines_of_a_fleet() {
     let mut tally = Tally::default();
@@ -45,10 +32,12 @@ fn lines_of_a_fleet() {
         for line in (0..40).flat_map(|_| channel.next(random)) {
             let before = fleet.record().to_vec();
             let expected = fleet.event(&line, log.used, log.length());
-            let (given, records) = (fleet.numbers.slices(), [&before[..], fleet.record()]);
-            same_logged(&mut log, records, expected, |record, log, used| {
-                ffi::fleet_event_logged(given, record, &line, log, used)
+            let (given, mut record) = (fleet.numbers.slices(), Buffer::holding(&before, || 7));
+            log.lend(expected, |log, used| {
+                ffi::fleet_event_logged(given, record.lend(), &line, log, used)
             });
+            let after = Buffer::holding(fleet.record(), || 7);
+            assert!(record == after, "another record");
             tally.count(expected.map(|entry| entry.what));
         }
         log.read();
@@ -65,7 +54,8 @@ fn openings_and_frames_of_an_end() {
         let (mut end, mut log) = (End::fresh(table, probe), any_log(random));
         end.numbers.lend_longer(random);
         for _ in 0..20 {
-            let (before, free) = (end.record.clone(), log.length().saturating_sub(log.used));
+            let free = log.length().saturating_sub(log.used);
+            let mut lent = Buffers::holding(end.maps.slices(), &mut Random::new(98));
             let damages = random.pick(&[[0, 0], [0, 0], [0, 0], [1, 0], [0, 1]]);
             let frame = any_frame(table, probe, random);
             let line = damaged_line(frame, damages, table, random);
@@ -74,17 +64,14 @@ fn openings_and_frames_of_an_end() {
                 true => end.open(free),
                 false => end.hear(&line, free),
             };
-            let (given, records) = (end.numbers.slices(), [&before[..], &end.record]);
+            let (given, maps) = (end.numbers.slices(), lent.lend());
             let expected = befell.map(|what| Entry { probe, what });
-            same_logged(
-                &mut log,
-                records,
-                expected,
-                |record, log, used| match opens {
-                    true => ffi::probe_open_logged(given, probe, record, log, used),
-                    false => ffi::probe_hear_logged(given, probe, record, &line, log, used),
-                },
-            );
+            log.lend(expected, |log, used| match opens {
+                true => ffi::probe_open_logged(given, probe, maps, log, used),
+                false => ffi::probe_hear_logged(given, probe, maps, &line, log, used),
+            });
+            let after = Buffers::holding(end.maps.slices(), &mut Random::new(98));
+            assert!(lent == after, "another record");
             tally.count(befell);
         }
         log.read();

@@ -2,54 +2,97 @@
 use borrow.Author.Needs.{needs}
 use Rattle.probe.proofs.ask.Statement.{statement}
 use Rattle.probe.proofs.ask.Tie as tie
-use mathlib.Core.Path.{sym, _∙_}
+use Prim.Native.Nat.{ℕ, _<_}
+use mathlib.Core.Path.{_≡_, sym, _∙_, ap}
 use native.Mathlib.Omega.{arith}
 use borrow.Author.Tests.{eq-eqb, ne-eqb, lt-ltb, le-ltb, not-true, not-false}
-use Rattle.table.specs.Table.{Table, ofSlices}
-use Rattle.table.specs.Slices.{sliceFault, slicesOf}
+use Rattle.range.specs.First.{orElse}
+use Rattle.table.specs.Slices.{Slices, slicesOf, tableOf, slicesFault}
 use Rattle.table.proofs.Slices.{legal-slices}
-use Rattle.probe_record.proofs.Bytes.{record-good}
-use Rattle.probe_checks.specs.Checks.{linkCallFault}
-use Rattle.probe_checks.proofs.Accepted.{link-parts}
+use Rattle.probe_maps.specs.Maps.{Maps, AllWords, rows, stateFault}
+use Rattle.probe_maps.specs.GoodMaps.{GoodMaps}
+use Rattle.probe_checks.specs.Checks.{ownLinkFault, linkCallFault}
+use Rattle.probe_checks.proofs.Accepted.{state-parts, link-parts}
+use Rattle.probe.proofs.Calls.{good-state, asked-bit}
 
 returns : tie.Need-returns
 returns c = record { answer = rw (lt-ltb _ _ (c .if1 .taken)); line = rw (lt-ltb _ _ (c .if1 .taken)) }
 
+slice-aggregate-check-state : tie.Need-slice-aggregate-check-state
+slice-aggregate-check-state c = search needs
+
+check-state-requires : tie.Need-check-state-requires
+check-state-requires c κs = search needs
+
 link-call-fault-requires : tie.Need-link-call-fault-requires
-link-call-fault-requires c κs = search needs
+link-call-fault-requires c κs =
+    let at = c .before in
+    let a = c .before .before .before .before .before .before .before .before .before .before .before .before .before .args in
+    let x = slicesOf 0 (a .probes) (a .links) (a .needs .now) (a .lows .now) (a .highs .now) (a .costs .now) in
+    λ z. let g = legal-slices 256 2048 x (state-parts x (a .probe) (rows (a .standing .now) (a .refused-out .now) (a .held .now) (a .refused-in .now)) (sym (at .check-state .ensures .0) ∙ z) .0) in (g .in-lows, g .in-highs)
+
+-- past the checks: the table is legal, the maps pass, and the link is one of its own
+module _ (at : tie.After-link-call-fault) where
+  abbrev at-state : tie.After-check-state
+  at-state = at .before .before
+
+  abbrev at-start : tie.Start
+  at-start = at-state .before .before .before .before .before .before .before .before .before .before .before .before
+
+  abbrev x : Slices
+  x = let a = at-start .args in slicesOf (a .number) (a .probes) (a .links) (a .needs .now) (a .lows .now) (a .highs .now) (a .costs .now)
+
+  abbrev m : Maps
+  m = let a = at-start .args in rows (a .standing .now) (a .refused-out .now) (a .held .now) (a .refused-in .now)
+
+  is-fault : at .link-call-fault .result ≡ linkCallFault (stateFault x (at-start .args .probe) m) (tableOf x) (at-start .args .probe) (at-start .args .link)
+  unfolding linkCallFault
+  is-fault = at .link-call-fault .ensures ∙ ap (λ (n : ℕ). orElse n (ownLinkFault (tableOf x) (at-start .args .probe) (at-start .args .link))) (at-state .check-state .ensures .0)
+
+  words : AllWords m
+  words =
+      record {
+        standing = λ k. at-state .before .before .before .before .before .before .before .shared-slice-known5 .given k .fits;
+        refused-out = λ k. at-state .before .before .before .before .before .before .shared-slice-known6 .given k .fits;
+        held = λ k. at-state .before .before .before .before .before .shared-slice-known7 .given k .fits;
+        refused-in = λ k. at-state .before .before .before .before .shared-slice-known8 .given k .fits;
+      }
+
+  module _ (none : at .link-call-fault .result ≡ 0) where
+    parts : (stateFault x (at-start .args .probe) m ≡ 0) × (at-start .args .link < x .links)
+    parts = link-parts (stateFault x (at-start .args .probe) m) (tableOf x) (at-start .args .probe) (at-start .args .link) (sym is-fault ∙ none)
+
+    good : (slicesFault x ≡ 0) × GoodMaps (tableOf x) (at-start .args .probe) m
+    good = good-state x (at-start .args .probe) m words (parts .0)
 
 returns-2 : tie.Need-returns-2
-unfolding linkCallFault
-returns-2 c = record { answer = rw (le-ltb _ _ (c .before .before .if1 .left), ← c .before .link-call-fault .ensures, ne-eqb _ _ (c .if2 .taken)); line = rw (le-ltb _ _ (c .before .before .if1 .left), ← c .before .link-call-fault .ensures, ne-eqb _ _ (c .if2 .taken)) }
+returns-2 c =
+    let at = c .before in
+    let room = at .before .before .before .before .if1 .left in
+    record { answer = rw (le-ltb _ _ room, ← is-fault at, ne-eqb _ _ (c .if2 .taken)); line = rw (le-ltb _ _ room, ← is-fault at, ne-eqb _ _ (c .if2 .taken)) }
 
 is-sendable-requires : tie.Need-is-sendable-requires
 is-sendable-requires c κs =
-    let at-start = c .before .before .before .before .before .before .before .before .before in
-    let a = at-start .args in
-    let t : Table = ofSlices 0 (a .probes) (a .links) (a .needs .now) (a .lows .now) (a .highs .now) (a .costs .now) in
-    let s = sliceFault 256 2048 (slicesOf 0 (a .probes) (a .links) (a .needs .now) (a .lows .now) (a .highs .now) (a .costs .now)) in
-    let p = link-parts s t (a .probe) (a .rec .now) (a .link) (sym (c .before .link-call-fault .ensures) ∙ c .if2 .left) in
-    let r = record-good t (a .probe) (a .rec .now) (p .1) in
-    omega (arith, r .0, p .2)
+    let at = c .before in
+    let p = parts at (c .if2 .left) in
+    let g = good at (c .if2 .left) .1 .sound in
+    (omega (arith, g .standing .size, p .1), omega (arith, g .refused-in .size, p .1))
 
 returns-3 : tie.Need-returns-3
-unfolding linkCallFault
 returns-3 c =
-    let at-link-call-fault = c .before .before .before in
-    let at-if1 = at-link-call-fault .before in
-    record { answer = rw (le-ltb _ _ (at-if1 .if1 .left), ← at-link-call-fault .link-call-fault .ensures, eq-eqb _ _ (c .before .before .if2 .left), sym (c .before .is-sendable .ensures) ∙ not-true _ (c .if3 .taken)); line = rw (le-ltb _ _ (at-if1 .if1 .left), ← at-link-call-fault .link-call-fault .ensures, eq-eqb _ _ (c .before .before .if2 .left), sym (c .before .is-sendable .ensures) ∙ not-true _ (c .if3 .taken)) }
+    let at = c .before .before .before in
+    let room = at .before .before .before .before .if1 .left in
+    let none = c .before .before .if2 .left in
+    let may = sym (asked-bit (tableOf (x at)) _ (m at) (good at none .1) (at-start at .args .kind) (at-start at .args .link)) ∙ sym (c .before .is-sendable .ensures) ∙ not-true _ (c .if3 .taken) in
+    record { answer = rw (le-ltb _ _ room, ← is-fault at, eq-eqb _ _ none, may); line = rw (le-ltb _ _ room, ← is-fault at, eq-eqb _ _ none, may) }
 
 other-requires : tie.Need-other-requires
 other-requires c κs =
-    let at-test-2 = c .before .before in
-    let at-link-call-fault = at-test-2 .before in
-    let at-start = at-link-call-fault .before .before .before .before .before .before .before .before in
-    let a = at-start .args in
-    let t : Table = ofSlices 0 (a .probes) (a .links) (a .needs .now) (a .lows .now) (a .highs .now) (a .costs .now) in
-    let s = sliceFault 256 2048 (slicesOf 0 (a .probes) (a .links) (a .needs .now) (a .lows .now) (a .highs .now) (a .costs .now)) in
-    let p = link-parts s t (a .probe) (a .rec .now) (a .link) (sym (at-link-call-fault .link-call-fault .ensures) ∙ at-test-2 .if2 .left) in
-    let g = legal-slices 256 2048 (slicesOf 0 (a .probes) (a .links) (a .needs .now) (a .lows .now) (a .highs .now) (a .costs .now)) (p .0) in
-    (omega (arith, g .in-lows, p .2), omega (arith, g .in-highs, p .2))
+    let at = c .before .before .before in
+    let none = c .before .before .if2 .left in
+    let p = parts at none in
+    let g = legal-slices 256 2048 (x at) (good at none .0) in
+    (omega (arith, g .in-lows, p .1), omega (arith, g .in-highs, p .1))
 
 kind-of-requires : tie.Need-kind-of-requires
 kind-of-requires c κs = search needs
@@ -61,24 +104,26 @@ same-length : tie.Need-same-length
 same-length c = search needs
 
 returns-4 : tie.Need-returns-4
-unfolding linkCallFault
 returns-4 c =
     let at-write-frame = c .before .before in
     let at-kind-of = at-write-frame .before in
     let at-other = at-kind-of .before .before in
     let at-test-3 = at-other .before in
     let at-is-sendable = at-test-3 .before in
-    let at-test-2 = at-is-sendable .before in
-    let at-link-call-fault = at-test-2 .before in
-    let at-test = at-link-call-fault .before in
+    let none = at-is-sendable .before .if2 .left in
+    let at = at-is-sendable .before .before in
+    let room = at .before .before .before .before .if1 .left in
     let w = rw (at-kind-of .kind-of .ensures, at-other .other .ensures) at (at-write-frame .write-frame .ensures) in
-    record { answer = rw (le-ltb _ _ (at-test .if1 .left), ← at-link-call-fault .link-call-fault .ensures, eq-eqb _ _ (at-test-2 .if2 .left), sym (at-is-sendable .is-sendable .ensures) ∙ not-false _ (at-test-3 .if3 .left)); line = rw (le-ltb _ _ (at-test .if1 .left), ← at-link-call-fault .link-call-fault .ensures, eq-eqb _ _ (at-test-2 .if2 .left), sym (at-is-sendable .is-sendable .ensures) ∙ not-false _ (at-test-3 .if3 .left)) w }
+    let may = sym (asked-bit (tableOf (x at)) _ (m at) (good at none .1) (at-start at .args .kind) (at-start at .args .link)) ∙ sym (at-is-sendable .is-sendable .ensures) ∙ not-false _ (at-test-3 .if3 .left) in
+    record { answer = rw (le-ltb _ _ room, ← is-fault at, eq-eqb _ _ none, may); line = rw (le-ltb _ _ room, ← is-fault at, eq-eqb _ _ none, may) w }
 
 pub ask-spec : {M : Type 1} → statement M
 ask-spec =
     tie.close
     (tie.spec
     returns
+    slice-aggregate-check-state
+    check-state-requires
     link-call-fault-requires
     returns-2
     is-sendable-requires

@@ -2,52 +2,144 @@
 use borrow.Author.Needs.{needs}
 use Rattle.probe.proofs.hear.Statement.{statement}
 use Rattle.probe.proofs.hear.Tie as tie
-use mathlib.Core.Path.{sym, _∙_}
+use Prim.Native.Nat.{ℕ}
+use mathlib.Core.Path.{_≡_, sym, _∙_, ap}
+use Rattle.range.specs.First.{orElse}
 use Rattle.table.specs.Table.{Table, ofSlices}
-use Rattle.table.specs.Slices.{sliceFault, slicesOf}
+use Rattle.table.specs.Slices.{Slices, slicesOf, tableOf, slicesFault}
 use Rattle.table.proofs.Slices.{legal-slices}
-use Rattle.probe_rules.specs.Frames.{heardOf}
 use Rattle.table_links.proofs.OrderedLinks.{ordered-links}
-use Rattle.probe_rules.proofs.Ready.{ready}
+use Rattle.table_links.proofs.Search.{ordered}
 use Rattle.probe_frame.specs.Frame.{frameOf}
-use Rattle.probe_checks.proofs.Accepted.{hear-parts, heard-within}
+use Rattle.probe_rules.specs.Frames.{heardOf}
+use Rattle.probe_maps.specs.Maps.{Maps, AllWords, rows, mapsFault, stateFault}
+use Rattle.probe_maps.specs.GoodMaps.{GoodMaps}
+use Rattle.probe_maps.proofs.Faults.{good-maps}
+use Rattle.probe_checks.specs.Checks.{fullFault, heardFault, hearFault}
+use Rattle.probe_checks.proofs.Accepted.{state-parts, hear-parts, heard-within}
 use Rattle.probe.proofs.Calls.{refused-call, accepted-call}
 
+slice-aggregate-check-state : tie.Need-slice-aggregate-check-state
+slice-aggregate-check-state c = search needs
+
+check-state-requires : tie.Need-check-state-requires
+check-state-requires c κs = search needs
+
+-- what the state's checks say: of the table, and of the maps
+module _ (at : tie.After-check-state) where
+  abbrev at-start : tie.Start
+  at-start = at .before .before .before .before .before .before .before .before .before .before .before .before .before .before .before
+
+  abbrev x : Slices
+  x = let a = at-start .args in slicesOf (a .number) (a .probes) (a .links) (a .needs .now) (a .lows .now) (a .highs .now) (a .costs .now)
+
+  abbrev m : Maps
+  m = let a = at-start .args in rows (a .standing .now) (a .refused-out .now) (a .held .now) (a .refused-in .now)
+
+  abbrev plain : Table
+  plain = let a = at-start .args in ofSlices 0 0 (a .links) (a .needs .now) (a .lows .now) (a .highs .now) (a .costs .now)
+
+  words : AllWords m
+  words =
+      record {
+        standing = λ k. at .before .before .before .before .before .before .before .before .before .before .slice-known .given k .fits;
+        refused-out = λ k. at .before .before .before .before .before .before .before .before .before .slice-known2 .given k .fits;
+        held = λ k. at .before .before .before .before .before .before .before .before .slice-known3 .given k .fits;
+        refused-in = λ k. at .before .before .before .before .before .before .before .slice-known4 .given k .fits;
+      }
+
+  module _ (none : at .check-state .result ≡ 0) where
+    parts : (slicesFault x ≡ 0) × (mapsFault (tableOf x) (at-start .args .probe) m ≡ 0)
+    parts = state-parts x (at-start .args .probe) m (sym (at .check-state .ensures .0) ∙ none)
+
+    good : GoodMaps plain (at-start .args .probe) m
+    good = good-maps plain (at-start .args .probe) m words (parts .1)
+
 check-hearing-requires : tie.Need-check-hearing-requires
-check-hearing-requires c κs = search needs
+check-hearing-requires c κs =
+    λ none. let at = c .before in let a = at-start at .args in ordered 256 2048 0 (a .probes) (a .links) (a .needs .now) (a .lows .now) (a .highs .now) (a .costs .now) (parts at none .0)
+
+-- the call's fault, by the state's, and what the frame says
+module _ (at : tie.After-check-hearing) where
+  is-fault : at .check-hearing .result .fault ≡ hearFault (stateFault (x (at .before .before)) (at-start (at .before .before) .args .probe) (m (at .before .before))) (tableOf (x (at .before .before))) (at-start (at .before .before) .args .probe) (at-start (at .before .before) .args .frame .now) (at-start (at .before .before) .args .free)
+  unfolding hearFault heardFault
+  is-fault =
+      let t = tableOf (x (at .before .before)) in
+      let a = at-start (at .before .before) .args in
+      at .check-hearing .ensures .0 ∙ ap (λ (n : ℕ). orElse n (orElse (heardFault t (a .probe) (a .frame .now)) (fullFault (a .free)))) (at .before .before .check-state .ensures .0)
+
+  module _ (z : at .check-hearing .result .fault ≡ 0) where
+    passes : (stateFault (x (at .before .before)) (at-start (at .before .before) .args .probe) (m (at .before .before)) ≡ 0) × (heardFault (tableOf (x (at .before .before))) (at-start (at .before .before) .args .probe) (at-start (at .before .before) .args .frame .now) ≡ 0)
+    passes = hear-parts (stateFault (x (at .before .before)) (at-start (at .before .before) .args .probe) (m (at .before .before))) (tableOf (x (at .before .before))) (at-start (at .before .before) .args .probe) (at-start (at .before .before) .args .frame .now) (at-start (at .before .before) .args .free) (sym is-fault ∙ z)
+
+    state-passes : at .before .before .check-state .result ≡ 0
+    state-passes = at .before .before .check-state .ensures .0 ∙ passes .0
 
 same-length : tie.Need-same-length
 same-length c = search needs
 
-returns : tie.Need-returns
-returns c = refused-call _ _ _ _ _ _ (c .before .before .check-hearing .ensures .0) (c .if1 .taken)
-
-apply-requires : tie.Need-apply-requires
-apply-requires c κs =
-    let at-test = c .before in
-    let at-heard = at-test .before .before in
-    let at-start = at-heard .before .before .before .before .before .before .before .before in
-    let a = at-start .args in
-    let t : Table = ofSlices (a .number) (a .probes) (a .links) (a .needs .now) (a .lows .now) (a .highs .now) (a .costs .now) in
-    let s = sliceFault 256 2048 (slicesOf 0 (a .probes) (a .links) (a .needs .now) (a .lows .now) (a .highs .now) (a .costs .now)) in
-    let p = hear-parts s t (a .probe) (a .rec .now) (a .frame .now) (a .free) (sym (at-heard .check-hearing .ensures .0) ∙ at-test .if1 .left) in
-    (ordered-links (slicesOf 0 (a .probes) (a .links) (a .needs .now) (a .lows .now) (a .highs .now) (a .costs .now)) (legal-slices 256 2048 (slicesOf 0 (a .probes) (a .links) (a .needs .now) (a .lows .now) (a .highs .now) (a .costs .now)) (p .0)), ready 0 (a .probes) (a .links) (a .needs .now) (a .lows .now) (a .highs .now) (a .costs .now) (a .probe) (a .rec .now) (p .1), rw (at-heard .check-hearing .ensures .1 (at-test .if1 .left)) (heard-within t (a .probe) (a .frame .now) (p .2)))
-
 same-length-2 : tie.Need-same-length-2
 same-length-2 c = search needs
 
+same-length-3 : tie.Need-same-length-3
+same-length-3 c = search needs
+
+same-length-4 : tie.Need-same-length-4
+same-length-4 c = search needs
+
+returns : tie.Need-returns
+returns c = refused-call _ _ _ _ _ _ (is-fault (c .before .before)) (c .if1 .taken)
+
+slice-aggregate-apply : tie.Need-slice-aggregate-apply
+slice-aggregate-apply c = search needs
+
+apply-requires : tie.Need-apply-requires
+apply-requires c κs =
+    let at-fault = c .before .before .before .before .before .before .before in
+    let at = at-fault .before .before in
+    let a = at-start at .args in
+    let z = c .before .before .before .before .before .if1 .left in
+    let none = state-passes at-fault z in
+    (ordered-links (x at) (legal-slices 256 2048 (x at) (parts at none .0)), at .check-state .ensures .1 none, good at none, rw (at-fault .check-hearing .ensures .1 z) (heard-within (tableOf (x at)) (a .probe) (a .frame .now) (passes at-fault z .1)))
+
+same-length-5 : tie.Need-same-length-5
+same-length-5 c = search needs
+
+same-length-6 : tie.Need-same-length-6
+same-length-6 c = search needs
+
+same-length-7 : tie.Need-same-length-7
+same-length-7 c = search needs
+
+same-length-8 : tie.Need-same-length-8
+same-length-8 c = search needs
+
 returns-2 : tie.Need-returns-2
 returns-2 c =
-    let at-apply = c .before .before in
-    let at-test = at-apply .before .before in
-    let at-heard = at-test .before .before in
-    let at-start = at-heard .before .before .before .before .before .before .before .before in
-    let a = at-start .args in
-    let t : Table = ofSlices (a .number) (a .probes) (a .links) (a .needs .now) (a .lows .now) (a .highs .now) (a .costs .now) in
-    let says = at-heard .check-hearing .ensures .1 (at-test .if1 .left) in
-    accepted-call _ (a .number) (a .probes) (a .links) (a .needs .now) (a .lows .now) (a .highs .now) (a .costs .now) (a .probe) (heardOf t (frameOf (a .frame .now))) (a .rec .now) _ _ (sym (at-heard .check-hearing .ensures .0) ∙ at-test .if1 .left) (rw says at (at-apply .apply .ensures .0)) (rw says at (at-apply .apply .ensures .1))
+    let at-apply = c .before .before .before .before .before .before .before .before .before in
+    let at-fault = at-apply .before .before .before .before .before .before .before .before in
+    let at = at-fault .before .before in
+    let a = at-start at .args in
+    let z = at-apply .before .before .before .before .before .before .if1 .left in
+    let says = at-fault .check-hearing .ensures .1 z in
+    accepted-call _ (a .number) (a .probes) (a .links) (a .needs .now) (a .lows .now) (a .highs .now) (a .costs .now) (a .probe) (heardOf (tableOf (x at)) (frameOf (a .frame .now))) (m at) _ _ (sym (is-fault at-fault) ∙ z) (rw says at (at-apply .apply .ensures .0)) (rw says at (at-apply .apply .ensures .1))
 
 pub hear-spec : {M : Type 1} → statement M
 hear-spec =
     tie.close
-    (tie.spec check-hearing-requires same-length returns apply-requires same-length-2 returns-2)
+    (tie.spec
+    slice-aggregate-check-state
+    check-state-requires
+    check-hearing-requires
+    same-length
+    same-length-2
+    same-length-3
+    same-length-4
+    returns
+    slice-aggregate-apply
+    apply-requires
+    same-length-5
+    same-length-6
+    same-length-7
+    same-length-8
+    returns-2)

@@ -4,6 +4,7 @@ use Rattle.probe_exports.proofs.planner_probe_ask_offer.Statement.{stat
 use Rattle.probe_exports.proofs.planner_probe_ask_offer.Tie as tie
 use Rattle.table.specs.Table.{ofSlices}
 use Rattle.probe.specs.declared.Kind.the-variants.{Offer}
+use Rattle.probe_maps.specs.Maps.{rows, bytesOf}
 use Rattle.probe_exports.proofs.Answers.{asks-packed}
 
 ask-requires : tie.Need-ask-requires
@@ -18,9 +19,8 @@ same-length c = search needs
 returns : tie.Need-returns
 returns c =
     let at-ask = c .before .before .before in
-    let at-start = at-ask .before .before .before .before .before .before .before .before in
-    let a = at-start .args in
-    asks-packed _ (ofSlices (a .number) (a .probes) (a .links) (a .needs .now) (a .lows .now) (a .highs .now) (a .costs .now)) (a .probe) Offer (a .link) (a .rec .now) _ _ (a .out .now) _ (at-ask .ask .ensures) (c .packed-asked .ensures)
+    let a = at-ask .before .before .before .before .before .before .before .before .before .before .before .args in
+    asks-packed _ (ofSlices (a .number) (a .probes) (a .links) (a .needs .now) (a .lows .now) (a .highs .now) (a .costs .now)) (a .probe) Offer (a .link) (bytesOf (a .links) (rows (a .standing .now) (a .refused-out .now) (a .held .now) (a .refused-in .now))) _ _ (a .out .now) _ (at-ask .ask .ensures) (c .packed-asked .ensures)
 
 pub planner-probe-ask-offer-spec : {M : Type 1} → statement M
 planner-probe-ask-offer-spec =

@@ -2,7 +2,8 @@
 use borrow.Author.Needs.{needs}
 use Rattle.probe_exports.proofs.planner_probe_hear_logged.Statement.{statement}
 use Rattle.probe_exports.proofs.planner_probe_hear_logged.Tie as tie
-use Rattle.table.specs.Table.{Table, ofSlices}
+use Rattle.table.specs.Table.{ofSlices}
+use Rattle.probe_maps.specs.Maps.{rows}
 use Rattle.probe_frame.specs.Frame.{frameOf}
 use Rattle.probe_rules.specs.Frames.{heardOf}
 use Rattle.probe_exports.proofs.Answers.{logged-packed}
@@ -22,17 +23,33 @@ same-length c = search needs
 same-length-2 : tie.Need-same-length-2
 same-length-2 c = search needs
 
+same-length-3 : tie.Need-same-length-3
+same-length-3 c = search needs
+
+same-length-4 : tie.Need-same-length-4
+same-length-4 c = search needs
+
+same-length-5 : tie.Need-same-length-5
+same-length-5 c = search needs
+
 returns : tie.Need-returns
 returns c =
     let at-store = c .before .before in
-    let at-hear = at-store .before .before .before .before in
-    let at-free = at-hear .before in
-    let at-start = at-free .before .before .before .before .before .before .before .before .before in
-    let a = at-start .args in
-    let t : Table = ofSlices (a .number) (a .probes) (a .links) (a .needs .now) (a .lows .now) (a .highs .now) (a .costs .now) in
-    logged-packed _ t (a .probe) (heardOf t (frameOf (a .frame .now))) _ _ (a .rec .now) _ (a .used) (a .log .now) _ (rw (at-free .free .ensures) at (at-hear .hear .ensures)) (at-store .store .ensures)
+    let at-call = at-store .before .before .before .before .before .before .before .before .before .before in
+    let at-free = at-call .before in
+    let a = at-free .before .before .before .before .before .before .before .before .before .before .before .before .before .before .before .args in
+    logged-packed _ (ofSlices (a .number) (a .probes) (a .links) (a .needs .now) (a .lows .now) (a .highs .now) (a .costs .now)) (a .probe) (heardOf (ofSlices (a .number) (a .probes) (a .links) (a .needs .now) (a .lows .now) (a .highs .now) (a .costs .now)) (frameOf (a .frame .now))) _ _ (rows (a .standing .now) (a .refused-out .now) (a .held .now) (a .refused-in .now)) _ (a .used) (a .log .now) _ (rw (at-free .free .ensures) at (at-call .hear .ensures)) (at-store .store .ensures)
 
 pub planner-probe-hear-logged-spec : {M : Type 1} → statement M
 planner-probe-hear-logged-spec =
     tie.close
-    (tie.spec free-requires hear-requires store-requires same-length same-length-2 returns)
+    (tie.spec
+    free-requires
+    hear-requires
+    store-requires
+    same-length
+    same-length-2
+    same-length-3
+    same-length-4
+    same-length-5
+    returns)

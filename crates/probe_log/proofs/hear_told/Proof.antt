@@ -18,14 +18,32 @@ tell-requires c κs = search needs
 same-length : tie.Need-same-length
 same-length c = search needs
 
+same-length-2 : tie.Need-same-length-2
+same-length-2 c = search needs
+
+same-length-3 : tie.Need-same-length-3
+same-length-3 c = search needs
+
+same-length-4 : tie.Need-same-length-4
+same-length-4 c = search needs
+
 returns : tie.Need-returns
 returns c =
-    let at-hear = c .before .before .before in
-    let at-free = at-hear .before in
-    let at-start = at-free .before .before .before .before .before .before .before .before in
-    let a = at-start .args in
-    let b = rw (at-free .free .ensures) at (at-hear .hear .ensures) in
-    record { told = c .tell .ensures ∙ ap (toldOf (a .used) (a .room)) (befallen-answer b); record-after = b .record-after }
+    let at-call = c .before .before .before .before .before .before .before .before .before in
+    let at-free = at-call .before in
+    let a = at-free .before .before .before .before .before .before .before .before .before .before .before .before .before .before .args in
+    let b = rw (at-free .free .ensures) at (at-call .hear .ensures) in
+    record { told = c .tell .ensures ∙ ap (toldOf (a .used) (a .room)) (befallen-answer b); maps-after = b .maps-after }
 
 pub hear-told-spec : {M : Type 1} → statement M
-hear-told-spec = tie.close (tie.spec free-requires hear-requires tell-requires same-length returns)
+hear-told-spec =
+    tie.close
+    (tie.spec
+    free-requires
+    hear-requires
+    tell-requires
+    same-length
+    same-length-2
+    same-length-3
+    same-length-4
+    returns)

@@ -1,5 +1,6 @@
 //! One end alone: bad records and frames, the rules of an end, and random calls.
 
+mod maps;
 mod random;
 mod refusals;
 mod rules;
@@ -13,10 +14,9 @@ fn m2_end() -> End {
     End::fresh(&marked(1), 1)
 }
 
+/// With the maps of these bytes.
 fn m2_end_with(record: &[u8]) -> End {
-    let mut end = m2_end();
-    end.record = record.to_vec();
-    end
+    End::with(&marked(1), 1, record)
 }
 
 /// M2 where probe 1 needs both its links.

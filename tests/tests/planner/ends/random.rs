@@ -41,13 +41,13 @@ fn ask(end: &mut End, table: &Table, random: &mut Random) {
 
 /// Asks, opens and hears the line, each on the same record, and leaves that.
 fn call(end: &mut End, line: &[u8], table: &Table, random: &mut Random) -> Result<What, u8> {
-    let (free, before) = (any_room(random), end.record.clone());
+    let (free, before) = (any_room(random), end.maps.clone());
     ask(end, table, random);
     let opened = end.open(free);
-    end.record.clone_from(&before);
+    end.maps.clone_from(&before);
     let heard = end.hear(line, free);
     assert_eq!(of_state(opened.err()), of_state(heard.err()));
-    end.record = before;
+    end.maps = before;
     heard
 }
 
@@ -97,7 +97,7 @@ fn damaged_records() {
     each_table(9, TABLES, |table, random| {
         let probe = any_probe(table, random);
         let mut end = reached(table, probe, random);
-        let record = end.record.clone();
+        let maps = end.maps.clone();
         for _ in 0..FRAMES {
             for _ in 0..1 + random.below(2) {
                 damage_record(&mut end, table, random);
@@ -107,7 +107,7 @@ fn damaged_records() {
                 false => any_line(table, probe, random),
             };
             tally.count(call(&mut end, &line, table, random));
-            end.record.clone_from(&record);
+            end.maps.clone_from(&maps);
         }
     });
     tally.assert_often(&[1, 2, 9, 20, 21, 22, 23, 24, 26]);

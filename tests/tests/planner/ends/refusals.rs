@@ -5,6 +5,7 @@ use planner_tests::compare_ends::End;
 use planner_tests::ends::{Frame, Kind, What, LINE};
 use planner_tests::faults::{each_choice, first_but, of_line, of_table, Fault};
 use planner_tests::lines::{self, line, offer, refusal};
+use planner_tests::maps::{flip, OwnMaps, MAPS};
 use planner_tests::sites::{marked, Numbers};
 
 /// What a fresh end makes of a line.
@@ -32,12 +33,14 @@ fn refused(mut end: End, number: u8) {
         assert_eq!(end.ask(kind, 1, LINE), Err(number));
     }
     assert_eq!(end.rests(1), Err(number));
+    assert_eq!(end.bytes_of(6), Err(number));
 }
 
 /// No call turns the record down.
 #[track_caller]
 fn accepted(mut end: End) {
     assert!(end.rests(1).is_ok());
+    assert!(end.bytes_of(6).is_ok());
     for kind in Kind::BOTH {
         assert!(end.ask(kind, 1, LINE).is_ok());
     }
@@ -45,32 +48,53 @@ fn accepted(mut end: End) {
     assert!(end.open(1).is_ok());
 }
 
+/// Three links take one word in each map, no fewer and no more.
 #[test]
 fn record_of_the_wrong_length() {
-    for length in (0..14).chain([4096, 131_070]) {
-        match length {
-            6 => accepted(m2_end_with(&vec![0; length])),
-            _ => refused(m2_end_with(&vec![0; length]), 20),
+    accepted(m2_end());
+    for words in [0, 2, 3, 32, 33, 1024] {
+        for map in 0..MAPS {
+            let mut end = m2_end();
+            end.maps.at(map).resize(words, 0);
+            refused(end, 20);
         }
+        let mut end = m2_end();
+        end.maps = OwnMaps::fresh(64 * words);
+        refused(end, 20);
     }
 }
 
 #[test]
-fn record_with_a_byte_over_2() {
-    for place in 0..6 {
-        for byte in 3..=255 {
+fn link_in_both_maps_of_a_direction() {
+    for link in 0..2 {
+        for (one, two) in [(0, 1), (2, 3)] {
             let mut end = m2_end();
-            end.record[place] = byte;
+            flip(end.maps.at(one), link);
+            flip(end.maps.at(two), link);
             refused(end, 21);
         }
+        // One of each direction is none.
+        for (one, two) in [(0, 2), (0, 3), (1, 2), (1, 3)] {
+            let mut end = m2_end();
+            flip(end.maps.at(one), link);
+            flip(end.maps.at(two), link);
+            accepted(end);
+        }
     }
 }
 
+/// M2's link 2 joins two other probes, and there is no link 3.
 #[test]
-fn record_with_a_byte_on_the_link_of_another_probe() {
-    for byte in [1, 2] {
-        refused(m2_end_with(&[0, 0, 0, 0, byte, 0]), 21);
-        refused(m2_end_with(&[0, 0, 0, 0, 0, byte]), 21);
+fn bit_on_the_link_of_another_probe_or_past_the_last() {
+    for link in 0..64 {
+        for map in 0..MAPS {
+            let mut end = m2_end();
+            flip(end.maps.at(map), link);
+            match link {
+                0 | 1 => accepted(end),
+                _ => refused(end, 21),
+            }
+        }
     }
 }
 
@@ -88,12 +112,13 @@ fn more_standing_or_more_held_than_spare() {
 #[test]
 fn one_standing_or_held_at_spare_0() {
     for place in 0..4 {
-        let mut end = End::fresh(&without_spare(), 1);
-        end.record[place] = 1;
-        refused(end, 22);
-        let mut end = End::fresh(&without_spare(), 1);
-        end.record[place] = 2;
-        accepted(end);
+        let with = |byte| {
+            let mut record = [0; 6];
+            record[place] = byte;
+            End::with(&without_spare(), 1, &record)
+        };
+        refused(with(1), 22);
+        accepted(with(2));
     }
 }
 
@@ -172,7 +197,7 @@ fn no_such_probe() {
         assert_eq!(end.ask(Kind::Offer, 0, LINE), Err(24));
         assert_eq!(end.rests(2), Err(24));
         // Every link is another probe's.
-        end.record[0] = 1;
+        flip(&mut end.maps.standing, 0);
         refused(end, 21);
     }
 }
@@ -195,7 +220,7 @@ fn refusal_where_outbound_is_0() {
         let hear = |outbound| {
             let mut end = m2_end_with(&[0, 0, outbound, inbound, 0, 0]);
             let befell = end.hear(&refusal(2, 1), 1);
-            (befell, end.record[2])
+            (befell, end.record()[2])
         };
         assert_eq!(hear(0), (Ok(What::Learnt(1)), 2));
         assert_eq!(hear(1), (Ok(What::Learnt(1)), 2));
@@ -256,9 +281,9 @@ impl AsMut<Vec<u8>> for Call {
 }
 
 const OF_RECORD: [Fault<Call>; 3] = [
-    (|call| call.end.record.push(0), 20),
-    (|call| call.end.record[5] = 1, 21),
-    (|call| call.end.record[..4].fill(1), 22),
+    (|call| call.end.maps.held.push(0), 20),
+    (|call| flip(&mut call.end.maps.refused_in, 63), 21),
+    (|call| call.end.maps.standing[0] = 0b11, 22),
 ];
 
 const OF_FRAME: [Fault<Call>; 2] = [
@@ -279,6 +304,8 @@ fn order_of_refusals() {
         let (mut end, line, free) = (call.end, call.line, call.free);
         let of_state = first_but(refusals, &[1, 2, 9, 23, 24, 26]);
         assert_eq!(end.rests(1).err(), of_state);
+        assert_eq!(end.bytes_of(6).err(), of_state);
+        assert_eq!(end.bytes_of(5), Err(8));
         assert_eq!(end.ask(Kind::Offer, 2, LINE).err(), of_state.or(Some(24)));
         assert_eq!(end.ask(Kind::Offer, 2, LINE - 1), Err(8));
         assert_eq!(end.hear(&line, free).err(), first_but(refusals, &[]));

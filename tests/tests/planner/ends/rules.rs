@@ -6,6 +6,7 @@ use planner_tests::ends::{other_end, Frame, Kind, What, LINE};
 use planner_tests::events::own_links;
 use planner_tests::ffi;
 use planner_tests::lines::{offer, refusal};
+use planner_tests::maps::OwnMaps;
 use planner_tests::random::{each_seed, Random};
 use planner_tests::reference::{falling, plan, Table, FULL};
 use planner_tests::sites::{half_needed, largest_hubs, legal_of_size, marked, site, Numbers};
@@ -17,7 +18,7 @@ fn spare_0_refuses_every_offer() {
     assert_eq!(end.hear(&offer(2, 1), 1), Ok(What::Refused(1)));
     assert_eq!(end.hear(&offer(2, 1), 1), Ok(What::NoChange(1)));
     assert_eq!(end.open(1), Ok(What::Enough));
-    assert_eq!(end.record, [0, 2, 0, 2, 0, 0]);
+    assert_eq!(end.record(), [0, 2, 0, 2, 0, 0]);
     for (link, to) in [(0, 0), (1, 2)] {
         let line = Some(refusal(1, to));
         assert_eq!(end.ask(Kind::Refusal, link, LINE), Ok(line));
@@ -52,7 +53,7 @@ fn displacing_takes_the_cheapest_held() {
             Ok(What::NoChange(_))
         ));
     }
-    assert_eq!(end.record, [0, 2, 0, 2, 0, 2, 0, 1, 0, 1]);
+    assert_eq!(end.record(), [0, 2, 0, 2, 0, 2, 0, 1, 0, 1]);
 }
 
 #[test]
@@ -150,33 +151,42 @@ fn asked_line_is_heard_by_the_other_end() {
 #[test]
 fn answers_as_numbers() {
     let numbers = Numbers::of(&marked(1));
-    let mut record = [0; 6];
-    let mut open = || ffi::probe_open(numbers.slices(), 1, &mut record, 1);
+    let mut maps = OwnMaps::fresh(3);
+    let mut open = || ffi::probe_open(numbers.slices(), 1, maps.lend(), 1);
     assert_eq!(open(), 0x8000_0100_0001_ffff);
     assert_eq!(open(), 0x8000_0101_ffff_ffff);
-    let mut hear = |line: &[u8]| ffi::probe_hear(numbers.slices(), 1, &mut record, line, 1);
+    let mut hear = |line: &[u8]| ffi::probe_hear(numbers.slices(), 1, maps.lend(), line, 1);
     assert_eq!(hear(b"01000100000001\n"), 0x8000_0102_0000_ffff);
     assert_eq!(hear(b"01000100020001\n"), 0x8000_0103_0001_0000);
     assert_eq!(hear(b"02000100020001\n"), 0x8000_0105_0001_ffff);
     assert_eq!(hear(b"02000100020001\n"), 0x8000_0106_0001_ffff);
     assert_eq!(hear(b"02000100000001\n"), 0x8000_0105_0000_ffff);
     assert_eq!(hear(b"03000100010001\n"), 9);
-    assert_eq!(record, [2, 2, 2, 1, 0, 0]);
-    let opened = ffi::probe_open(numbers.slices(), 0, &mut [2, 0, 0, 0, 0, 0], 1);
+    assert_eq!(maps.clone().array(), [[0b00], [0b11], [0b10], [0b01]]);
+    let mut tried = OwnMaps::turned(&[2, 0, 0, 0, 0, 0]);
+    let opened = ffi::probe_open(numbers.slices(), 0, tried.lend(), 1);
     assert_eq!(opened, 0x8000_0007_ffff_ffff);
     let mut out = [9; 17];
     let mut ask = |kind, link| {
-        let answer = ffi::probe_ask(numbers.slices(), 1, &record, kind, link, &mut out);
+        let answer = ffi::probe_ask(numbers.slices(), 1, maps.slices(), kind, link, &mut out);
         (answer, out)
     };
     assert_eq!(ask(Kind::Offer, 1), (0x0001_0000_0000_0000, [9; 17]));
     assert_eq!(ask(Kind::Refusal, 2), (24, [9; 17]));
     let line = *b"02000100010000\n\x09\x09";
     assert_eq!(ask(Kind::Refusal, 0), (0x0001_0000_0000_0001, line));
-    let rests = |record: &[u8]| ffi::probe_rests(numbers.slices(), 1, record, 1);
-    assert_eq!(rests(&record), 0x0001_0000_0000_0000);
-    assert_eq!(rests(&[0, 0, 1, 1, 0, 0]), 0x0001_0000_0000_0001);
-    assert_eq!(rests(&[0, 0, 1, 1, 0]), 20);
+    let rests = |maps: &OwnMaps| ffi::probe_rests(numbers.slices(), 1, maps.slices(), 1);
+    assert_eq!(rests(&maps), 0x0001_0000_0000_0000);
+    let mut record = [9; 7];
+    let answer = ffi::probe_bytes_of(numbers.slices(), 1, maps.slices(), &mut record);
+    assert_eq!((answer, record), (1 << 48, [2, 2, 2, 1, 0, 0, 9]));
+    let both = [0, 0, 1, 1, 0, 0];
+    let answer = ffi::probe_maps_of(numbers.slices(), 1, &both, maps.lend());
+    assert_eq!(answer, 0x0001_0000_0000_0000);
+    assert_eq!(maps.clone().array(), [[0b10], [0], [0b10], [0]]);
+    assert_eq!(rests(&maps), 0x0001_0000_0000_0001);
+    maps.held.push(0);
+    assert_eq!(rests(&maps), 20);
 }
 
 /// The lines that may be sent now.

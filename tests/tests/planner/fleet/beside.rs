@@ -1,4 +1,4 @@
-//! Each end alone, on its own bytes of the fleet's record, does what the fleet does.
+//! Each end alone, on the maps of its own bytes of the fleet's record, does what the fleet does.
 
 use planner_tests::channel::{any_mix, Channel};
 use planner_tests::compare_ends::End;
@@ -6,13 +6,12 @@ use planner_tests::compare_fleet::Fleet;
 use planner_tests::ends::{Entry, Frame, Kind, What, LINE};
 use planner_tests::events::each_table;
 use planner_tests::fleet::own_record;
+use planner_tests::maps::OwnMaps;
 use planner_tests::random::Random;
 use planner_tests::reference::Table;
 
 fn end_of(table: &Table, probe: u16, record: &[u8]) -> End {
-    let mut end = End::fresh(table, probe);
-    end.record = own_record(table, probe, record);
-    end
+    End::with(table, probe, &own_record(table, probe, record))
 }
 
 /// The end that opens or hears does the same alone. One that restarts is fresh; it knows no such
@@ -31,7 +30,8 @@ fn same_alone(table: &Table, before: &[u8], line: &[u8], entry: Entry, after: &[
         _ => end.hear(line, 1),
     };
     assert_eq!(alone, Ok(entry.what));
-    assert_eq!(end.record, own_record(table, entry.probe, after));
+    let own = own_record(table, entry.probe, after);
+    assert_eq!(end.maps, OwnMaps::turned(&own));
 }
 
 /// A frame may be sent exactly when its end writes it; the fleet accepts it then.

@@ -13,8 +13,8 @@ use Rattle.table.specs.Table.{Table, item, ofSlices, touches, dearerByPlace}
 use Rattle.table_links.proofs.Own.{Next, next-own-is}
 use Rattle.fleet_theory.specs.Fleet.{own}
 use Rattle.fleet_theory.proofs.Own.{own-same}
-use Rattle.probe_record.specs.Record.{sideByte, sideBetter}
-use Rattle.probe_record.proofs.SearchLaws.{side-before, side-behind}
+use Rattle.fleet_rules.specs.Survey.{sideByte, sideBetter}
+use Rattle.fleet_rules.proofs.Sides.{side-before, side-behind}
 use Rattle.fleet_rules.proofs.Passing.{one-most, Passing, passing-start, passing-next, passing-own, passing-all}
 
 abbrev Inv-loop : tie.InvT-loop

@@ -1,65 +1,45 @@
 -- `probe_checks::faults::check_hearing` meets its contract.
-use Prim.Native.Nat.{ℕ}
 use borrow.Author.Needs.{needs}
 use Rattle.probe_checks.proofs.faults.check_hearing.Statement.{statement}
 use Rattle.probe_checks.proofs.faults.check_hearing.Tie as tie
-use mathlib.Core.Path.{_≡_, refl, sym, _∙_}
+use Prim.Native.Nat.{ℕ}
+use mathlib.Core.Path.{_≡_, refl, _∙_}
+use mathlib.Core.List.{[]}
 use native.Mathlib.Omega.{arith}
 use borrow.Author.Tests.{eq-eqb, ne-eqb}
 use Rattle.range.specs.First.{orElse}
-use Rattle.range.proofs.Faults.{or-here, or-next, or-left}
-use Rattle.table.specs.Slices.{sliceFault, slicesOf}
+use Rattle.range.proofs.Faults.{or-here, or-next}
 use Rattle.table.specs.Table.{Table, ofSlices}
-use Rattle.table_links.proofs.Search.{ordered}
-use Rattle.probe_record.specs.Record.{recordFault}
 use Rattle.probe_checks.specs.Checks.{fullFault, heardFault, hearFault}
 use Rattle.probe_checks.proofs.Accepted.{hear-early, hear-late}
-
-state-fault-requires : tie.Need-state-fault-requires
-state-fault-requires c κs = search needs
 
 refused-requires : tie.Need-refused-requires
 refused-requires c κs = search needs
 
 returns : tie.Need-returns
 returns c =
-    let at-fine = c .before in
-    let at-state = at-fine .before in
-    let at-start = at-state .before .before .before .before .before .before .before in
-    let a = at-start .args in
-    let t : Table = ofSlices (a .number) (a .probes) (a .links) (a .needs .now) (a .lows .now) (a .highs .now) (a .costs .now) in
-    let s : ℕ = sliceFault 256 2048 (slicesOf 0 (a .probes) (a .links) (a .needs .now) (a .lows .now) (a .highs .now) (a .costs .now)) in
-    rw (c .refused .ensures)
-    (hear-early s t (a .probe) (a .rec .now) _ (a .frame .now) (a .free) (at-state .state-fault .ensures) (at-fine .if1 .taken), λ none. absurd (at-fine .if1 .taken none))
+    let at-test = c .before in
+    let a = at-test .before .before .before .before .args in
+    let t : Table = ofSlices (a .number) 0 (a .links) [] (a .lows .now) (a .highs .now) [] in
+    rw (c .refused .ensures) (hear-early (a .state) t (a .probe) _ (a .frame .now) (a .free) refl (at-test .if1 .taken), λ none. absurd (at-test .if1 .taken none))
 
 check-frame-requires : tie.Need-check-frame-requires
-check-frame-requires c κs =
-    let at-state = c .before in
-    let at-start = at-state .before .before .before .before .before .before .before in
-    let a = at-start .args in
-    let t : Table = ofSlices (a .number) (a .probes) (a .links) (a .needs .now) (a .lows .now) (a .highs .now) (a .costs .now) in
-    let s : ℕ = sliceFault 256 2048 (slicesOf 0 (a .probes) (a .links) (a .needs .now) (a .lows .now) (a .highs .now) (a .costs .now)) in
-    let z : orElse s (recordFault t (a .probe) (a .rec .now)) ≡ 0 = sym (at-state .state-fault .ensures) ∙ c .if1 .left in
-    ordered 256 2048 0 (a .probes) (a .links) (a .needs .now) (a .lows .now) (a .highs .now) (a .costs .now) (or-left _ _ z)
+check-frame-requires c κs = c .before .before .before .before .pre (c .if1 .left)
 
 -- past the frame's check: the call's fault, by the frame's and then the log's
 module _ (at-frame : tie.After-check-frame) where
   abbrev at-start : tie.Start
-  at-start = at-frame .before .before .before .before .before .before .before .before .before
+  at-start = at-frame .before .before .before .before .before
 
   abbrev t : Table
-  t = let a = at-start .args in ofSlices (a .number) (a .probes) (a .links) (a .needs .now) (a .lows .now) (a .highs .now) (a .costs .now)
-
-  abbrev s : ℕ
-  s = let a = at-start .args in sliceFault 256 2048 (slicesOf 0 (a .probes) (a .links) (a .needs .now) (a .lows .now) (a .highs .now) (a .costs .now))
+  t = let a = at-start .args in ofSlices (a .number) 0 (a .links) [] (a .lows .now) (a .highs .now) []
 
   past-frame : (r : ℕ) → r ≡ orElse (at-frame .check-frame .result .fault) (fullFault (at-start .args .free))
-      → r ≡ hearFault s t (at-start .args .probe) (at-start .args .rec .now) (at-start .args .frame .now) (at-start .args .free)
+      → r ≡ hearFault (at-start .args .state) t (at-start .args .probe) (at-start .args .frame .now) (at-start .args .free)
   unfolding heardFault
   past-frame r =
-      let at-fine = at-frame .before in
       let a = at-start .args in
-      hear-late s t (a .probe) (a .rec .now) r (a .frame .now) (a .free) _ (sym (at-fine .before .state-fault .ensures) ∙ at-fine .if1 .left) (at-frame .check-frame .ensures .0)
+      hear-late (a .state) t (a .probe) r (a .frame .now) (a .free) _ (at-frame .before .if1 .left) (at-frame .check-frame .ensures .0)
 
 returns-2 : tie.Need-returns-2
 returns-2 c = (past-frame (c .before .before) _ (or-here _ _ _ refl (c .if2 .taken)), λ none. absurd (c .if2 .taken none))
@@ -83,7 +63,6 @@ pub check-hearing-spec : {M : Type 1} → statement M
 check-hearing-spec =
     tie.close
     (tie.spec
-    state-fault-requires
     refused-requires
     returns
     check-frame-requires

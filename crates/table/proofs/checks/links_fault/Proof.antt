@@ -17,6 +17,15 @@ Inv-loop probes links lows highs i₀ i = (i ≤ links) × (first (linkFault pro
 abbrev μ-loop : tie.MeasureT-loop
 μ-loop probes links lows highs i₀ i = links - i
 
+cast-are-rising : tie.Need-cast-are-rising Inv-loop μ-loop
+cast-are-rising c = search needs
+
+are-rising-requires : tie.Need-are-rising-requires Inv-loop μ-loop
+are-rising-requires c κs = search needs
+
+returns : tie.Need-returns Inv-loop μ-loop
+returns c = sym (c .before .are-rising .ensures (c .if2 .taken))
+
 loop-holds : tie.Need-loop-holds Inv-loop μ-loop
 unfolding first
 loop-holds c = (search needs, refl)
@@ -24,12 +33,12 @@ loop-holds c = (search needs, refl)
 link-fault-requires : tie.Need-link-fault-requires Inv-loop μ-loop
 link-fault-requires c κs = search needs
 
-returns : tie.Need-returns Inv-loop μ-loop
-returns c =
+returns-2 : tie.Need-returns-2 Inv-loop μ-loop
+returns-2 c =
     let l = c .before .before .before in
-    let a = c .before .before .before .before .before .before .args in
+    let a = c .before .before .before .before .before .before .before .args in
     let e = c .before .link-fault .ensures in
-    e ∙ sym (first-some (linkFault (a .probes) (item (a .lows .now)) (item (a .highs .now))) (a .links) (l .loop .i) (l .loop .inv .1) (c .before .before .loop-test .taken) (λ z. c .if1 .taken (e ∙ z)))
+    e ∙ sym (first-some (linkFault (a .probes) (item (a .lows .now)) (item (a .highs .now))) (a .links) (l .loop .i) (l .loop .inv .1) (c .before .before .loop-test .taken) (λ z. c .if3 .taken (e ∙ z)))
 
 add-i : tie.Need-add-i Inv-loop μ-loop
 add-i c = search needs
@@ -40,13 +49,13 @@ loop-less c = search needs
 loop-again : tie.Need-loop-again Inv-loop μ-loop
 loop-again c =
     let l = c .before .before .before in
-    let a = c .before .before .before .before .before .before .args in
+    let a = c .before .before .before .before .before .before .before .args in
     let e = c .before .link-fault .ensures in
-    (search needs, first-none (linkFault (a .probes) (item (a .lows .now)) (item (a .highs .now))) (l .loop .i) (l .loop .inv .1) (sym e ∙ c .if1 .left))
+    (search needs, first-none (linkFault (a .probes) (item (a .lows .now)) (item (a .highs .now))) (l .loop .i) (l .loop .inv .1) (sym e ∙ c .if3 .left))
 
-returns-2 : tie.Need-returns-2 Inv-loop μ-loop
-returns-2 c =
-    let at-start = c .before .before .before .before in
+returns-3 : tie.Need-returns-3 Inv-loop μ-loop
+returns-3 c =
+    let at-start = c .before .before .before .before .before in
     let e : c .before .loop .i ≡ at-start .args .links = omega arith in
     rw (← e) (sym (c .before .loop .inv .1))
 
@@ -56,10 +65,13 @@ links-fault-spec =
     (tie.spec
     Inv-loop
     μ-loop
+    cast-are-rising
+    are-rising-requires
+    returns
     loop-holds
     link-fault-requires
-    returns
+    returns-2
     add-i
     loop-less
     loop-again
-    returns-2)
+    returns-3)

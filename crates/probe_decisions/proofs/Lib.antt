@@ -1,0 +1,3 @@
+pub mod SearchLaws
+pub mod DecisionLaws
+pub mod StepLaws
