@@ -74,7 +74,7 @@ module _ (t : Table) (legal : Legal t) (r : List ℕ) (long : length r ≡ 8 * t
   after p v = alterFleet t p (befalls t p v (own t p r)) r
 
   opening-alters : (p i : ℕ) → i < t .links → touches t p i ≡ true → outOf t r p i ≡ 0 → onesAt t (outOf t r) p < spare t p → Differ t r (after p Opening)
-  opening-alters p i l at z room same _ = go (dearest t legal p (own t p r))
+  opening-alters p i l at z room same _ = go (dearest t (legal-table 256 2048 t legal .order) p (own t p r))
     where
       d : ℕ
       d = dearestUntried t p (own t p r)

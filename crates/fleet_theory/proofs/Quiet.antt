@@ -38,7 +38,7 @@ module _ (t : Table) (legal : Legal t) (r : List ℕ) where
   altering i = alters t r (t .low i) (t .high i) i || alters t r (t .high i) (t .low i) i
 
   quiet-opens : BothQuiet → (p : ℕ) → wouldOpen t r p ≡ true → ⊥
-  quiet-opens quiet p e = go (dearest t legal p (own t p r))
+  quiet-opens quiet p e = go (dearest t (legal-table 256 2048 t legal .order) p (own t p r))
     where
       i : ℕ
       i = dearestUntried t p (own t p r)
@@ -86,7 +86,7 @@ module _ (t : Table) (legal : Legal t) (r : List ℕ) where
   unfolding finished
   finished-quiet e =
       record {
-        opened = λ p i l at z. full-at p i l at z (decLt (standing t p (own t p r)) (spare t p)) (dearest t legal p (own t p r));
+        opened = λ p i l at z. full-at p i l at z (decLt (standing t p (own t p r)) (spare t p)) (dearest t (legal-table 256 2048 t legal .order) p (own t p r));
         heard = λ i p w l x a b. heard i p w a b (still i p w l x);
         told = λ i p w l x a. told i p w a (still i p w l x);
       }

@@ -3,3 +3,4 @@ pub mod Lines
 pub mod Parts
 pub mod Numbers
 pub mod Alone
+pub mod Split

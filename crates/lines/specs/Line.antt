@@ -1,6 +1,6 @@
--- A line of a text.
+-- A line of a text, and its lines.
 use mathlib.Core.Bool.{cond}
-use mathlib.Core.List.{List, [], _∷_}
+use mathlib.Core.List.{List, [], _∷_, _++_}
 use Prim.Native.Nat.{ℕ, suc, _+_}
 use lib.Dec.{eqb, ltb}
 use lib.ListN.{length, drop}
@@ -17,3 +17,8 @@ unfoldable pub lineAt : List ℕ → ℕ → Found
 lineAt s at = cond (ltb (at + untilFeed (drop at s)) (length s))
     (record { line = Here at (untilFeed (drop at s)); next = at + untilFeed (drop at s) + 1 })
     (record { line = Missing; next = length s })
+
+-- the lines of a text, each with its line feed; a last one without it is a line too. `held` are the bytes of the first line so far.
+unfoldable pub linesFrom : List ℕ → List ℕ → List (List ℕ)
+linesFrom held [] = cond (eqb (length held) 0) [] (held ∷ [])
+linesFrom held (b ∷ bs) = cond (eqb b 10) ((held ++ (b ∷ [])) ∷ linesFrom [] bs) (linesFrom (held ++ (b ∷ [])) bs)

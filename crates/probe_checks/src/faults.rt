@@ -33,7 +33,7 @@ fn event_of(kind: usize, link: usize) -> probe_rules::Event
 }
 
 // 1, 2, 9, 23, 24 of a frame's line, or what it says.
-fn check_frame(
+pub fn check_frame(
     number: u16,
     links: usize,
     lows: &[u16],

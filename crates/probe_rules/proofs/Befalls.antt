@@ -10,7 +10,7 @@ use borrow.Author.Tests.{ltb-true, ltb-false, lt-ltb, eqb-true, eqb-false, eq-eq
 use Rattle.range.proofs.Bools.{and-left, and-right, and-intro, decided}
 use Rattle.range.proofs.Choice.{Best, nobody, chosen}
 use Rattle.table.specs.Table.{Table, touches, spare, dearer, cheaper}
-use Rattle.table.specs.Legal.{Legal}
+use Rattle.table.specs.Legal.{Legal, RisingLinks}
 use Rattle.plan_theory.proofs.Places.{Order, Side, here, earlier, later, side}
 use Rattle.plan_theory.proofs.Order.{dearer-order}
 use Rattle.table.proofs.LegalLaws.{legal-table}
@@ -37,12 +37,12 @@ pub data Befell (t : Table) (p : ℕ) (e : List ℕ) : Event → Outcome → Typ
   learnt : (i : ℕ) → (outbound e i ≡ 2 → ⊥) → Befell t p e (Refusal i) (RefusalLearnt i)
   known : (i : ℕ) → outbound e i ≡ 2 → Befell t p e (Refusal i) (NoChange i)
 
-module _ (t : Table) (legal : Legal t) (p : ℕ) (e : List ℕ) where
+module _ (t : Table) (rises : RisingLinks t) (p : ℕ) (e : List ℕ) where
   abbrev order : Order (t .links) (dearer t)
-  order = dearer-order t (legal-table 256 2048 t legal .order)
+  order = dearer-order t rises
 
   befell-opening : Befell t p e Opening (opening t p e)
-  befell-opening = go (decided room) (decided some) (dearest t legal p e)
+  befell-opening = go (decided room) (decided some) (dearest t rises p e)
     where
       i : ℕ
       i = dearestUntried t p e
@@ -73,7 +73,7 @@ module _ (t : Table) (legal : Legal t) (p : ℕ) (e : List ℕ) where
       go (inr a) s b = rw a (enough (ltb-false (standing t p e) (spare t p) a))
 
   befell-offer : (i : ℕ) → i < t .links → inbound e i ≡ 0 → Befell t p e (Offer i) (offer t p e i)
-  befell-offer i l z = go (decided room) (decided (some && dear)) (cheapest t legal p e)
+  befell-offer i l z = go (decided room) (decided (some && dear)) (cheapest t rises p e)
     where
       c : ℕ
       c = cheapestHeld t p e
@@ -122,18 +122,21 @@ module _ (t : Table) (legal : Legal t) (p : ℕ) (e : List ℕ) where
       go (inr a) (inl d) b = rw (a, d) (displaced a (and-left some dear d) (and-right some dear d) b)
       go (inr a) (inr d) b = rw (a, d) (refused i z (ltb-false (held t p e) (spare t p) a) (all-dearer d b))
 
-  pub befell : (v : Event) → EventWithin (t .links) v → Befell t p e v (befalls t p v e)
-  befell Opening w = befell-opening
-  befell (Offer i) w = go (decided (eqb (inbound e i) 0))
+  pub befell-rising : (v : Event) → EventWithin (t .links) v → Befell t p e v (befalls t p v e)
+  befell-rising Opening w = befell-opening
+  befell-rising (Offer i) w = go (decided (eqb (inbound e i) 0))
     where
       go : (eqb (inbound e i) 0 ≡ true) ⊎ (eqb (inbound e i) 0 ≡ false) → Befell t p e (Offer i) (befalls t p (Offer i) e)
       go (inl a) = rw a (befell-offer i w (eqb-true (inbound e i) 0 a))
       go (inr a) = rw a (seen i (eqb-false (inbound e i) 0 a))
-  befell (Refusal i) w = go (decided (eqb (outbound e i) 2))
+  befell-rising (Refusal i) w = go (decided (eqb (outbound e i) 2))
     where
       go : (eqb (outbound e i) 2 ≡ true) ⊎ (eqb (outbound e i) 2 ≡ false) → Befell t p e (Refusal i) (befalls t p (Refusal i) e)
       go (inl a) = rw a (known i (eqb-true (outbound e i) 2 a))
       go (inr a) = rw a (learnt i (eqb-false (outbound e i) 2 a))
+
+pub befell : (t : Table) → Legal t → (p : ℕ) (e : List ℕ) (v : Event) → EventWithin (t .links) v → Befell t p e v (befalls t p v e)
+befell t legal = befell-rising t (legal-table 256 2048 t legal .order)
 
 pub own-within : (t : Table) (p : ℕ) (v : Event) → OwnEvent t p v → EventWithin (t .links) v
 own-within t p Opening o = tt

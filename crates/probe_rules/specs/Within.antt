@@ -14,6 +14,12 @@ EventWithin n Opening = Unit
 EventWithin n (Offer i) = i < n
 EventWithin n (Refusal i) = i < n
 
+-- the event is a frame heard
+abbrev pub IsFrame : Event → Type 0
+IsFrame Opening = ⊥
+IsFrame (Offer i) = Unit
+IsFrame (Refusal i) = Unit
+
 abbrev pub Within : ℕ → Outcome → Type 0
 Within n (Opened i) = i < n
 Within n Enough = Unit

@@ -4,13 +4,14 @@ use Prim.Native.Nat.{ℕ, _≤_, _<_, _%_}
 use mathlib.Core.Path.{_≡_}
 use mathlib.Core.List.{List, [], _∷_, _++_}
 use lib.ListN.{length, take}
+use Rattle.lines.specs.Line.{linesFrom}
 use Rattle.table.specs.Slices.{Slices}
 use Rattle.output.specs.Output.{Prints}
 use Rattle.output.specs.declared.Output.{Output}
 use Rattle.output.specs.declared.Output.the-variants.{Length, Refused as Unprinted}
 use Rattle.fleet_theory.specs.Fleet.{State, start, run, allChanges}
 use Rattle.fleet_calls.specs.Calls.{SameTable}
-use Rattle.script_theory.specs.Script.{linesFrom, afterPiece, endText, scriptText}
+use Rattle.script_theory.specs.Script.{afterPiece, endText, scriptText}
 use Rattle.script_steps.specs.declared.Progress.{Progress}
 use Rattle.script_output.specs.Handling.{before, HandlesPiece, endCallFault}
 use Rattle.script_output.specs.declared.Handling.{Handling}

@@ -14,12 +14,13 @@ use Rattle.range.proofs.Bools.{decided}
 use Rattle.range.specs.First.{orElse}
 use Rattle.range.proofs.Faults.{or-right}
 use Rattle.range.proofs.Sums.{sum-add, none-count}
+use Rattle.lines.specs.Line.{linesFrom}
 use Rattle.probe_frame.specs.Frame.{frameOf, frameFault}
 use Rattle.fleet_theory.specs.Fleet.{fleetFault, entryBy, faultOf, State, start, accepted, answerTo, next, run, frameChanges, changes, allChanges, finished}
 use Rattle.table.specs.Slices.{Slices, tableOf, slicesFault}
 use Rattle.fleet_theory.proofs.Changes.{no-frame-changes}
 use Rattle.fleet_theory.proofs.Run.{HoldsAfter, start-holds, fault-is, next-holds}
-use Rattle.script_theory.specs.Script.{answerLine, linesFrom, printed, lastLine, scriptText, Script, afterLine, afterByte, afterPiece, begun, endText, together, carried, printedBy}
+use Rattle.script_theory.specs.Script.{answerLine, printed, lastLine, scriptText, Script, afterLine, afterByte, afterPiece, begun, endText, together, carried, printedBy}
 use Rattle.script_theory.proofs.Lines.{same-digits, Unclosed, unclosed-none, unclosed-next, unclosed-rest, unclosed-refused, short-take, take-again, short-or-long}
 
 module _ (x : Slices) (room : ℕ) where

@@ -6,7 +6,7 @@ use Rattle.range.specs.Sum.{sum}
 use Rattle.range.specs.Choice.{lowest, best}
 use Rattle.range.specs.Lists.{joined, stored}
 use Rattle.hex.specs.Digits.{valueOf, digitOf, numberAt, digits}
-use Rattle.lines.specs.Line.{untilFeed, lineAt}
+use Rattle.lines.specs.Line.{untilFeed, lineAt, linesFrom}
 use Rattle.lines.specs.Digits.{lineFault}
 use Rattle.table.specs.Table.{dearer}
 use Rattle.table.specs.Legal.{linkFault}
@@ -14,7 +14,7 @@ use Rattle.table.specs.Text.{begins, textFault}
 use Rattle.table_laws.specs.Samples.{bytes, m2Text}
 use Rattle.probe_frame.specs.Frame.{frameFault}
 use Rattle.fleet_theory.specs.Fleet.{own, marks, wipedTo, next, run, changes, finished}
-use Rattle.script_theory.specs.Script.{linesFrom, printed, scriptText, scriptOutput}
+use Rattle.script_theory.specs.Script.{printed, scriptText, scriptOutput}
 
 pub m4-output : scriptOutput (bytes "000100020001\n0000\n0000\n000000010007\nffff\n00000100000000\n01000100000001\n00000100010001\n01000100010000\n")
     ≡ bytes "0000000000ffff\n0001020000ffff\n0001000000ffff\n0000020000ffff\n0100000004\n"

@@ -7,6 +7,7 @@ use lib.ListN.{length, take, drop, replicate}
 use Rattle.range.specs.Sum.{sum}
 use Rattle.range.specs.Lists.{stored}
 use Rattle.hex.specs.Digits.{digits}
+use Rattle.lines.specs.Line.{linesFrom}
 use Rattle.table.specs.Table.{Table}
 use Rattle.table.specs.Text.{ofText, textFault, textEnd}
 use Rattle.output.specs.Output.{refusalLine}
@@ -26,11 +27,6 @@ entryLine e = digits 4 (e .probe) ++ (digits 2 (codeOf (e .what)) ++ (digits 4 (
 abbrev pub answerLine : Answer → List ℕ
 answerLine (Logged e) = entryLine e
 answerLine (Refused n) = refusalLine n
-
--- the lines of a text, each with its line feed; a last one without it is a line too. `held` are the bytes of the first line so far.
-unfoldable pub linesFrom : List ℕ → List ℕ → List (List ℕ)
-linesFrom held [] = cond (eqb (length held) 0) [] (held ∷ [])
-linesFrom held (b ∷ bs) = cond (eqb b 10) ((held ++ (b ∷ [])) ∷ linesFrom [] bs) (linesFrom (held ++ (b ∷ [])) bs)
 
 -- "For each it prints the entry"; "A refused line prints its refusal and the script goes on."
 unfoldable pub printed : Slices → ℕ → State → List (List ℕ) → List ℕ

@@ -3,7 +3,7 @@ use borrow.Author.Needs.{needs}
 use Rattle.probe_decisions.proofs.decisions.decide.Statement.{statement}
 use Rattle.probe_decisions.proofs.decisions.decide.Tie as tie
 use native.Mathlib.Omega.{arith}
-use mathlib.Core.Path.{sym, _∙_}
+use mathlib.Core.Path.{refl, sym, _∙_}
 use Rattle.probe_decisions.proofs.DecisionLaws.{unseen-is, refused-is}
 
 enum-told : tie.Need-enum-told
@@ -25,7 +25,7 @@ returns : tie.Need-returns
 returns c =
     let at-start = c .before .before .before .before .before .before .before .before .before .before .before .before in
     let w = rw (c .before .before .before .event .given .1) at (at-start .pre .1) in
-    λ t end. rw (c .before .before .before .event .given .1, unseen-is end _ w, sym (c .before .has .ensures) ∙ c .if1 .taken)
+    ((λ t end. rw (c .before .before .before .event .given .1, unseen-is end _ w, sym (c .before .has .ensures) ∙ c .if1 .taken)), (λ f. refl))
 
 has-requires-2 : tie.Need-has-requires-2
 has-requires-2 c κs =
@@ -37,7 +37,7 @@ returns-2 : tie.Need-returns-2
 returns-2 c =
     let at-start = c .before .before .before .before .before .before .before .before .before .before .before .before .before .before in
     let w = rw (c .before .before .before .before .before .event .given .1) at (at-start .pre .1) in
-    λ t end. rw (c .before .before .before .before .before .event .given .1, unseen-is end _ w, sym (c .before .before .before .has .ensures) ∙ c .before .before .if1 .left, sym (c .before .has2 .ensures) ∙ c .if2 .taken)
+    ((λ t end. rw (c .before .before .before .before .before .event .given .1, unseen-is end _ w, sym (c .before .before .before .has .ensures) ∙ c .before .before .if1 .left, sym (c .before .has2 .ensures) ∙ c .if2 .taken)), (λ f. refl))
 
 decide-offer-requires : tie.Need-decide-offer-requires
 decide-offer-requires c κs =
@@ -57,7 +57,7 @@ has-requires-3 c κs =
 
 returns-3 : tie.Need-returns-3
 returns-3 c =
-    λ t end. rw (c .before .before .before .event2 .given .1, refused-is end _, sym (c .before .has3 .ensures) ∙ c .if3 .taken)
+    ((λ t end. rw (c .before .before .before .event2 .given .1, refused-is end _, sym (c .before .has3 .ensures) ∙ c .if3 .taken)), (λ f. refl))
 
 same-length : tie.Need-same-length
 same-length c = search needs
@@ -65,7 +65,7 @@ same-length c = search needs
 returns-4 : tie.Need-returns-4
 returns-4 c =
     let a = c .before .before .before .before .before .before .before .before .before .before .before .before .before .args in
-    λ t end. rw (c .before .before .before .before .enum-told .given .1) (c .before .before .decide-opening .ensures t (a .held .now) (a .refused-in .now) end)
+    ((λ t end. rw (c .before .before .before .before .enum-told .given .1) (c .before .before .decide-opening .ensures t (a .held .now) (a .refused-in .now) end)), (λ f. absurd (rw (c .before .before .before .before .enum-told .given .1) at f)))
 
 same-length-2 : tie.Need-same-length-2
 same-length-2 c = search needs
@@ -75,11 +75,11 @@ returns-5 c =
     let at-start = c .before .before .before .before .before .before .before .before .before .before .before .before .before .before .before .before in
     let a = at-start .args in
     let w = rw (c .before .before .before .before .before .before .before .event .given .1) at (at-start .pre .1) in
-    λ t end. rw (c .before .before .before .before .before .before .before .event .given .1, unseen-is end _ w, sym (c .before .before .before .before .before .has .ensures) ∙ c .before .before .before .before .if1 .left, sym (c .before .before .before .has2 .ensures) ∙ c .before .before .if2 .left) (c .decide-offer .ensures t (a .standing .now) (a .refused-out .now) (a .refused-in .now) end)
+    ((λ t end. rw (c .before .before .before .before .before .before .before .event .given .1, unseen-is end _ w, sym (c .before .before .before .before .before .has .ensures) ∙ c .before .before .before .before .if1 .left, sym (c .before .before .before .has2 .ensures) ∙ c .before .before .if2 .left) (c .decide-offer .ensures t (a .standing .now) (a .refused-out .now) (a .refused-in .now) end)), (λ f. refl))
 
 returns-6 : tie.Need-returns-6
 returns-6 c =
-    λ t end. rw (c .before .before .before .event2 .given .1, refused-is end _, sym (c .before .has3 .ensures) ∙ c .if3 .left)
+    ((λ t end. rw (c .before .before .before .event2 .given .1, refused-is end _, sym (c .before .has3 .ensures) ∙ c .if3 .left)), (λ f. refl))
 
 pub decide-spec : {M : Type 1} → statement M
 decide-spec =

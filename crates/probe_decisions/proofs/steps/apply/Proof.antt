@@ -30,7 +30,7 @@ alter-requires c κs =
     let p = at-start .pre in
     let t : Table = ofSlices 0 0 (a .links) (a .needs .now) (a .lows .now) (a .highs .now) (a .costs .now) in
     let m : Maps = rows (a .standing .now) (a .refused-out .now) (a .held .now) (a .refused-in .now) in
-    let d = at-decide .decide .ensures t (end-of (a .links) (a .needs .now) (a .lows .now) (a .highs .now) (a .costs .now) (a .own .now) (a .probe) m (p .0) (p .1) (p .2)) in
+    let d = at-decide .decide .ensures .0 t (end-of (a .links) (a .needs .now) (a .lows .now) (a .highs .now) (a .costs .now) (a .own .now) (a .probe) m (p .0) (p .1) (p .2)) in
     let w = befalls-within t (a .probe) (a .event) (bytesOf (a .links) m) (p .3) in
     (a .links, p .2 .sound, rw d w)
 
@@ -42,7 +42,7 @@ entry-of-requires c κs =
     let p = at-start .pre in
     let t : Table = ofSlices 0 0 (a .links) (a .needs .now) (a .lows .now) (a .highs .now) (a .costs .now) in
     let m : Maps = rows (a .standing .now) (a .refused-out .now) (a .held .now) (a .refused-in .now) in
-    let d = at-decide .decide .ensures t (end-of (a .links) (a .needs .now) (a .lows .now) (a .highs .now) (a .costs .now) (a .own .now) (a .probe) m (p .0) (p .1) (p .2)) in
+    let d = at-decide .decide .ensures .0 t (end-of (a .links) (a .needs .now) (a .lows .now) (a .highs .now) (a .costs .now) (a .own .now) (a .probe) m (p .0) (p .1) (p .2)) in
     let w = befalls-within t (a .probe) (a .event) (bytesOf (a .links) m) (p .3) in
     let few : a .links ≤ 65536 = omega (arith, p .0 .few) in
     rw d (within-wider (a .links) 65536 (befallsMaps t (a .probe) (a .event) m) few w, within-wider (a .links) (length (a .lows .now)) (befallsMaps t (a .probe) (a .event) m) (p .0 .in-lows) w, within-wider (a .links) (length (a .highs .now)) (befallsMaps t (a .probe) (a .event) m) (p .0 .in-highs) w)
@@ -70,10 +70,10 @@ returns c =
     let p = at-start .pre in
     let t : Table = ofSlices 0 0 (a .links) (a .needs .now) (a .lows .now) (a .highs .now) (a .costs .now) in
     let m : Maps = rows (a .standing .now) (a .refused-out .now) (a .held .now) (a .refused-in .now) in
-    let d = at-decide .decide .ensures t (end-of (a .links) (a .needs .now) (a .lows .now) (a .highs .now) (a .costs .now) (a .own .now) (a .probe) m (p .0) (p .1) (p .2)) in
+    let d = at-decide .decide .ensures .0 t (end-of (a .links) (a .needs .now) (a .lows .now) (a .highs .now) (a .costs .now) (a .own .now) (a .probe) m (p .0) (p .1) (p .2)) in
     let w = befalls-within t (a .probe) (a .event) (bytesOf (a .links) m) (p .3) in
     let e = rw d at (c .entry-of .ensures) in
-    (e ∙ entry-same 0 0 (a .links) (a .needs .now) (a .lows .now) (a .highs .now) (a .costs .now) (a .probe) (befallsMaps t (a .probe) (a .event) m), c .before .before .before .before .before .before .before .before .before .alter .ensures (a .links) (p .2 .sound) (rw d w) ∙ ap (λ (o : Outcome). alterMaps (a .links) o m) d)
+    (e ∙ entry-same 0 0 (a .links) (a .needs .now) (a .lows .now) (a .highs .now) (a .costs .now) (a .probe) (befallsMaps t (a .probe) (a .event) m), c .before .before .before .before .before .before .before .before .before .alter .ensures (a .links) (p .2 .sound) (rw d w) ∙ ap (λ (o : Outcome). alterMaps (a .links) o m) d, at-decide .decide .ensures .1)
 
 pub apply-spec : {M : Type 1} → statement M
 apply-spec =

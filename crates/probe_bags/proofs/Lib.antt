@@ -1,0 +1,11 @@
+pub mod Steps
+pub mod Frames
+pub mod Settled
+pub mod Heard
+pub mod Records
+pub mod Members
+pub mod Faults
+pub mod Passing
+pub mod Singly
+pub mod BagLaws
+pub mod Samples

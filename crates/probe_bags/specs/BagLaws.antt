@@ -1,0 +1,62 @@
+-- The laws of a bag of frames. The sentences are those of document 02, No. 7.
+use Prim.Native.Nat.{ℕ, suc, _≤_, _<_}
+use mathlib.Core.Path.{_≡_}
+use mathlib.Core.Logic.{_↔_}
+use mathlib.Core.List.{List, [], _∷_, _++_, List·Mem, Perm, map}
+use lib.ListN.{length, getD}
+use lib.Seq.{sets}
+use Rattle.table.specs.Table.{Table}
+use Rattle.table.specs.Slices.{Slices, tableOf}
+use Rattle.wake_log.specs.declared.Entry.{Entry}
+use Rattle.wake_log.specs.declared.Answer.{Answer}
+use Rattle.wake_log.specs.declared.Answer.the-variants.{Logged, Refused as Unlogged}
+use Rattle.probe_maps.specs.Maps.{Maps, AllWords, stateFault}
+use Rattle.probe_checks.specs.Checks.{heardFault}
+use Rattle.probe.specs.Answers.{Hears}
+use Rattle.probe_bags.specs.declared.Hearing.{Hearing}
+use Rattle.probe_bags.specs.declared.Hearing.the-variants.{Heard, Refused}
+use Rattle.probe_bags.specs.Bag.{framesOf, HearsBag}
+
+-- no line feed stands in it
+abbrev pub NoFeed : List ℕ → Type 0
+NoFeed l = (j : ℕ) → j < length l → getD l j 0 ≡ 10 → ⊥
+
+-- "A frame ends at its line feed; a last piece without one counts as a frame and is refused by 1."
+pub record BagFrames : Type 0 where
+  pub no-frame : framesOf [] ≡ []
+  pub frame-ends : (l rest : List ℕ) → NoFeed l → framesOf (l ++ (10 ∷ rest)) ≡ (l ++ (10 ∷ [])) ∷ framesOf rest
+  pub last-piece : (l : List ℕ) → NoFeed l → 0 < length l → framesOf l ≡ l ∷ []
+  pub piece-refused : (t : Table) (p : ℕ) (l : List ℕ) → NoFeed l → heardFault t p l ≡ 1
+
+-- "hearing them singly": the end p hears one frame after the other by a call of `hear`, with an entry of its log free each time; the answers, and the maps that the last call leaves
+pub data Singly (x : Slices) (p : ℕ) : List (List ℕ) → Maps → List Answer → Maps → Type 0 where
+  no-call : (m : Maps) → Singly x p [] m [] m
+  one-call : (l : List ℕ) (ls : List (List ℕ)) (free : ℕ) (r : Answer) (rs : List Answer) (m m′ m″ : Maps) → Hears x p l (suc free) r m m′
+      → Singly x p ls m′ rs m″ → Singly x p (l ∷ ls) m (r ∷ rs) m″
+
+-- the first refusal of some answers, or 0
+abbrev pub firstRefusal : List Answer → ℕ
+firstRefusal [] = 0
+firstRefusal (Logged e ∷ rs) = firstRefusal rs
+firstRefusal (Unlogged n ∷ rs) = n
+
+-- of the end p: calls on the maps m, of 64-bit words, with the log's first entries used
+pub record BagLaws (x : Slices) (p : ℕ) : Type 0 where
+  -- "The record afterwards is the one that hearing them singly would give", and so are the entries, "in the bag's order"
+  pub as-singly : (bag : List ℕ) (n : ℕ) (m m′ : Maps) (used : ℕ) (log log′ : List Entry) → AllWords m → HearsBag x p bag (Heard n) m m′ used log log′
+      → (rs : List Answer) (m″ : Maps) → Singly x p (framesOf bag) m rs m″
+      → (m″ ≡ m′) × ((es : List Entry) × (rs ≡ map Logged es) × (log′ ≡ sets log used es) × (length es ≡ n))
+  -- "and is the same in every order of the bag": an order of a bag that is heard is heard, and leaves the same record
+  pub any-order : (bag bag′ : List ℕ) (n : ℕ) (r : Hearing) (m m′ m″ : Maps) (used : ℕ) (log log′ log″ : List Entry) → AllWords m
+      → Perm (framesOf bag) (framesOf bag′) → HearsBag x p bag (Heard n) m m′ used log log′ → HearsBag x p bag′ r m m″ used log log″
+      → (r ≡ Heard n) × (m″ ≡ m′)
+  -- sharper: the record depends on which frames are in the bag, not on how often each is
+  pub same-frames : (bag bag′ : List ℕ) (n n′ : ℕ) (m m′ m″ : Maps) (used used′ : ℕ) (log log′ other other′ : List Entry) → AllWords m
+      → ((l : List ℕ) → List·Mem l (framesOf bag) ↔ List·Mem l (framesOf bag′))
+      → HearsBag x p bag (Heard n) m m′ used log log′ → HearsBag x p bag′ (Heard n′) m m″ used′ other other′ → m″ ≡ m′
+  -- "An empty bag changes nothing."
+  pub empty-bag : (r : Hearing) (m m′ : Maps) (used : ℕ) (log log′ : List Entry) → HearsBag x p [] r m m′ used log log′ → (m′ ≡ m) × (log′ ≡ log)
+  -- "If a frame of the bag is refused, the whole bag is, by the number of its first bad frame": that which its call alone would answer
+  pub first-bad : (bag : List ℕ) (r : Hearing) (m m′ : Maps) (used : ℕ) (log log′ : List Entry) → HearsBag x p bag r m m′ used log log′
+      → stateFault x p m ≡ 0 → length (framesOf bag) ≤ 64 → (rs : List Answer) (m″ : Maps) → Singly x p (framesOf bag) m rs m″ → (firstRefusal rs ≡ 0 → ⊥)
+      → (r ≡ Refused (firstRefusal rs)) × (m′ ≡ m) × (log′ ≡ log)

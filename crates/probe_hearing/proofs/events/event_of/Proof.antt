@@ -1,0 +1,16 @@
+use borrow.Author.Needs.{needs}
+use Rattle.probe_hearing.proofs.events.event_of.Statement.{statement}
+use Rattle.probe_hearing.proofs.events.event_of.Tie as tie
+use borrow.Author.Tests.{eq-eqb, ne-eqb}
+
+cast-link : tie.Need-cast-link
+cast-link c = search needs
+
+returns : tie.Need-returns
+returns c = simp (eq-eqb _ _ (c .if1 .taken))
+
+returns-2 : tie.Need-returns-2
+returns-2 c = simp (ne-eqb _ _ (c .if1 .left))
+
+pub event-of-spec : {M : Type 1} → statement M
+event-of-spec = tie.close (tie.spec cast-link returns returns-2)
