@@ -13,6 +13,7 @@
  * then a mark of each: 1 once the frame that the byte permits could have been sent, else 0. An outbound byte permits an
  * offer while it is 1, an inbound byte a refusal while it is 2. A fresh record is all zero.
  * A wake log has a number for each entry, of any value before it is used; the count of its used ones goes beside it.
+ * A bag is bytes: its frames end at their line feeds, and a last piece without one counts as a frame, which 1 refuses.
  *
  * The functions with display_ in their names are for the well-head display: parameters and answers as without it, at
  * most 16 probes and 40 links (3 beyond). 16 needs, 40 lows, highs, costs and plan bytes and 160 working bytes are never
@@ -26,7 +27,7 @@
  *    5 a link not after the one before it              24 no such probe or link, or a frame for another probe
  *    6 the closing line absent, different or followed  26 the log is full
  *    8 slices of unequal length, or one too short      27 a frame that could never yet have been sent
- *    9 a frame kind with no meaning here
+ *    9 a frame kind with no meaning here               32 a bag of more than 64 frames
  * A wrong bit of a map is on another probe's link, past the last link, or on a link that is set in both maps of a
  * direction; a wrong byte is over 2, or not 0 on another probe's link.
  */
@@ -41,6 +42,8 @@
 /* The bytes of the longest table text, and of a frame's line with its line feed. */
 #define PLANNER_MOST_TEXT 27922
 #define PLANNER_FRAME 15
+/* The most frames of a bag. */
+#define PLANNER_MOST_FRAMES 64
 /* The words of a map over so many links, and where a link's bit stands in it. */
 #define PLANNER_MAP_WORDS(links) (((size_t)(links) + 63) / 64)
 #define PLANNER_MAP_WORD(link) ((size_t)(link) / 64)
@@ -79,6 +82,9 @@
 #define PLANNER_EVENT_DISPLACED(answer) ((uint16_t)(answer))
 /* Stands for a link or a displaced probe that is absent. */
 #define PLANNER_ABSENT 0xffff
+
+/* The frames heard, each with its entry: planner_probe_hear_bag. */
+#define PLANNER_HEARD(answer) ((uint16_t)(answer))
 
 /* Whether the frame is written, the link rested, the fleet finished: planner_probe_ask_offer, _probe_ask_refusal,
  * _probe_rests and _fleet_finished. */
@@ -257,6 +263,22 @@ uint64_t planner_probe_hear_logged(
     uint64_t *held, size_t held_length,
     uint64_t *refused_in, size_t refused_in_length,
     const uint8_t *frame, size_t frame_length,
+    uint64_t *log, size_t log_length,
+    size_t used);
+
+/* The probe hears a bag of frames, all of them or none; their entries go behind the used ones of the log, in order. */
+uint64_t planner_probe_hear_bag(
+    uint16_t number, uint16_t probes, uint16_t links,
+    const uint16_t *needs, size_t needs_length,
+    const uint16_t *lows, size_t lows_length,
+    const uint16_t *highs, size_t highs_length,
+    const uint16_t *costs, size_t costs_length,
+    uint16_t probe,
+    uint64_t *standing, size_t standing_length,
+    uint64_t *refused_out, size_t refused_out_length,
+    uint64_t *held, size_t held_length,
+    uint64_t *refused_in, size_t refused_in_length,
+    const uint8_t *bag, size_t bag_length,
     uint64_t *log, size_t log_length,
     size_t used);
 

@@ -1,7 +1,7 @@
 /* Document 01's site M2 through planner.h: read, planned by both methods, and its script M11 run by a fleet, by ends
- * alone and as a text. Prints the plan and the log as the programs do. Then an end's record in bytes and as maps,
- * openings that open nothing, a restart, M2 with a need above the links, and the display's calls. The status is 0 if all
- * is as 01 and 02 have it. */
+ * alone and as a text. Prints the plan and the log as the programs do. Then a bag of frames, an end's record in bytes
+ * and as maps, openings that open nothing, a restart, M2 with a need above the links, and the display's calls. The status
+ * is 0 if all is as 01 and 02 have it. */
 #include "planner.h"
 
 #include <stdio.h>
@@ -209,6 +209,43 @@ static void one_end_logged(void) {
     expect(PLANNER_EVENT_WHAT(answer) == 3 && PLANNER_EVENT_DISPLACED(answer) == 0, "third entry of an end", 0);
     answer = planner_probe_open_logged(TABLE, 1, MAPS(own), log, 3, 3);
     expect(answer == 26, "full log of an end", 0);
+}
+
+/* Both offers as one bag, in either order: the same maps, each frame with its entry. Then a refused frame, a full log,
+ * the empty bag, and a frame too many. */
+static void bag(void) {
+    static uint8_t frames[(PLANNER_MOST_FRAMES + 1) * PLANNER_FRAME];
+    static uint64_t longer[PLANNER_MOST_FRAMES];
+    uint64_t log[4] = {7, 8, 9, 10}, answer;
+    struct maps own = fresh, other = fresh;
+    unsigned frame;
+
+    for (frame = 0; frame <= PLANNER_MOST_FRAMES; frame++) {
+        memcpy(frames + frame * PLANNER_FRAME, M11[frame % 2 == 0 ? 1 : 5], PLANNER_FRAME);
+    }
+    answer = planner_probe_hear_bag(TABLE, 1, MAPS(own), frames, 2 * PLANNER_FRAME, log, 4, 1);
+    expect(!PLANNER_REFUSED(answer) && PLANNER_HEARD(answer) == 2, "bag", 0);
+    expect(log[0] == 7 && log[3] == 10, "log around a bag's entries", 0);
+    expect(PLANNER_EVENT_WHAT(log[1]) == 2 && PLANNER_EVENT_LINK(log[1]) == 0, "first entry of a bag", 0);
+    expect(PLANNER_EVENT_WHAT(log[2]) == 3 && PLANNER_EVENT_DISPLACED(log[2]) == 0, "second entry of a bag", 0);
+    answer = planner_probe_hear_bag(TABLE, 1, MAPS(other), frames + PLANNER_FRAME, 2 * PLANNER_FRAME, log, 4, 1);
+    expect(PLANNER_HEARD(answer) == 2 && memcmp(&own, &other, sizeof own) == 0, "bag in another order", 0);
+    expect(PLANNER_EVENT_WHAT(log[1]) == 2 && PLANNER_EVENT_WHAT(log[2]) == 4, "entries in that order", 0);
+
+    other = fresh;
+    answer = planner_probe_hear_bag(TABLE, 1, MAPS(other), frames, 2 * PLANNER_FRAME - 1, log, 4, 1);
+    expect(answer == 1, "last piece without a line feed", 0);
+    answer = planner_probe_hear_bag(TABLE, 1, MAPS(other), frames, 2 * PLANNER_FRAME, log, 4, 3);
+    expect(answer == 26, "log with an entry too few for the bag", 0);
+    answer = planner_probe_hear_bag(TABLE, 1, MAPS(other), frames, sizeof frames, longer, PLANNER_MOST_FRAMES, 0);
+    expect(answer == 32, "a frame too many", 0);
+    answer = planner_probe_hear_bag(TABLE, 1, MAPS(other), frames, 0, log, 4, 4);
+    expect(answer == PLANNER_ANSWER_BASE, "empty bag", 0);
+    expect(memcmp(&other, &fresh, sizeof other) == 0 && log[3] == 10, "refused bags change nothing", 0);
+    answer = planner_probe_hear_bag(TABLE, 1, MAPS(other), frames, sizeof frames - PLANNER_FRAME, longer,
+                                    PLANNER_MOST_FRAMES, 0);
+    expect(PLANNER_HEARD(answer) == PLANNER_MOST_FRAMES, "the most frames", 0);
+    expect(memcmp(&own, &other, sizeof own) == 0, "repeated frames", 0);
 }
 
 /* That end's record turned into bytes and back, and what 8, 20, 21 and 22 refuse of either form. */
@@ -429,6 +466,7 @@ int main(void) {
     fleet_logged();
     one_end();
     one_end_logged();
+    bag();
     turned();
     script();
     open_nothing();

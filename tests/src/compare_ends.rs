@@ -2,7 +2,8 @@
 
 use crate::buffer::Buffer;
 use crate::compare::assert_same;
-use crate::ends::{differ, Entry, Kind, What, LINE};
+use crate::compare_log::Log;
+use crate::ends::{self, differ, Entry, Kind, What, LINE};
 use crate::ffi;
 use crate::maps::{self, words, Four, LentMaps, Maps, OwnMaps, MAPS};
 use crate::random::Random;
@@ -114,6 +115,56 @@ impl End {
             |end, lent| ffi::probe_hear(end.numbers.slices(), end.probe, lent, line, free),
             |end, lent| maps::hear(end.numbers.slices(), end.probe, lent, line, free),
         )
+    }
+
+    /// Hears a bag with a lent log; hands back what befell with each frame. A refused bag changes no
+    /// word of the maps and no entry of the log.
+    #[track_caller]
+    pub fn hear_bag(&mut self, bag: &[u8], log: &mut Log) -> Result<Vec<What>, u8> {
+        let before = Buffers::holding(self.maps.slices(), &mut self.random);
+        let (mut by_library, mut by_reference) = (before.clone(), before.clone());
+        let lent = Buffer::holding(bag, || self.random.byte());
+        let (given, probe) = (self.numbers.slices(), self.probe);
+        let (same, log_before) = (lent.clone(), log.clone());
+        let result = maps::hear_bag(given, probe, by_reference.lend(), bag, log.free());
+        let entries = result.as_deref().unwrap_or(&[]);
+        let answer = log.lend_for(entries, |log, used| {
+            let maps = by_library.lend();
+            ffi::probe_hear_bag(given, probe, maps, lent.entries(), log, used)
+        });
+        assert_same(
+            "hear a bag",
+            [answer, ffi::bag_answer(&result)],
+            [&by_library, &by_reference],
+        );
+        assert!(lent == same, "hearing changes no byte of the bag");
+        match &result {
+            Ok(entries) => {
+                assert!(entries.iter().all(|entry| entry.probe == probe));
+                self.hear_singly(bag, entries, (before, log_before), (&by_library, log));
+                self.maps = by_library.entries().map(<[u64]>::to_vec);
+            }
+            Err(_) => assert!(by_library == before, "a refused bag"),
+        }
+        result.map(|entries| entries.into_iter().map(|entry| entry.what).collect())
+    }
+
+    /// Each frame heard by a call of its own leaves the same maps and the same log.
+    #[track_caller]
+    fn hear_singly(
+        &self,
+        bag: &[u8],
+        entries: &[Entry],
+        (mut maps, mut log): (Buffers, Log),
+        after: (&Buffers, &Log),
+    ) {
+        let (given, probe) = (self.numbers.slices(), self.probe);
+        for (frame, entry) in ends::frames(bag).into_iter().zip(entries) {
+            log.lend(Ok(*entry), |log, used| {
+                ffi::probe_hear_logged(given, probe, maps.lend(), frame, log, used)
+            });
+        }
+        assert!((&maps, &log) == after, "another record or log singly");
     }
 
     /// Asks for a frame with a slice of this length; hands back the line if it is written.

@@ -4,9 +4,11 @@ use crate::buffer::Buffer;
 use crate::ends::Entry;
 use crate::ffi;
 use crate::random::Random;
+use std::slice;
 
 /// A log that is lent from call to call. Beforehand each of its numbers is random, also in the used
 /// places.
+#[derive(Clone, Debug, PartialEq)]
 pub struct Log {
     numbers: Buffer<u64>,
     pub used: usize,
@@ -30,23 +32,41 @@ impl Log {
         self.numbers.entries().len()
     }
 
-    /// Lends it to a call that is to answer this: an accepted one stores its entry behind the used
-    /// ones, and no other number changes.
+    /// How many entries are free.
+    pub fn free(&self) -> usize {
+        self.length().saturating_sub(self.used)
+    }
+
+    /// Lends it to a call that is to store these entries behind the used ones, in their order; no
+    /// other number changes. Hands back the call's answer.
+    #[track_caller]
+    pub fn lend_for(
+        &mut self,
+        entries: &[Entry],
+        call: impl FnOnce(&mut [u64], usize) -> u64,
+    ) -> u64 {
+        let mut after = self.numbers.clone();
+        let answer = call(self.numbers.lend(), self.used);
+        for entry in entries {
+            let number = ffi::entry_answer(&Ok(*entry));
+            after.lend()[self.used] = number;
+            self.used += 1;
+            self.answers.push(number);
+        }
+        assert!(self.numbers == after, "another log");
+        answer
+    }
+
+    /// Lends it to a call that is to answer this: an accepted one stores its entry.
     #[track_caller]
     pub fn lend(
         &mut self,
         expected: Result<Entry, u8>,
         call: impl FnOnce(&mut [u64], usize) -> u64,
     ) {
-        let mut after = self.numbers.clone();
-        let answer = call(self.numbers.lend(), self.used);
+        let entries = expected.as_ref().map_or(&[][..], slice::from_ref);
+        let answer = self.lend_for(entries, call);
         assert_eq!(answer, ffi::entry_answer(&expected));
-        if expected.is_ok() {
-            after.lend()[self.used] = answer;
-            self.used += 1;
-            self.answers.push(answer);
-        }
-        assert!(self.numbers == after, "another log");
     }
 
     /// Reads every entry that was stored, and that there is none past the used ones or past the

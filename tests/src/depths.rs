@@ -1,6 +1,6 @@
 //! How deep each call for C goes on sites of its caller's largest sizes and on others.
 
-use crate::ends::Kind;
+use crate::ends::{other_end, Kind, MOST_FRAMES};
 use crate::events::each_table;
 use crate::ffi::{self, ANSWER_BASE};
 use crate::fleet::{own_record, BYTES};
@@ -64,6 +64,20 @@ pub struct Site {
     probe: u16,
     own: Vec<u8>,
     maps: OwnMaps,
+    bags: Vec<Vec<u8>>,
+}
+
+/// Offers of all neighbours of the probe, then refusals, over and over until they fill bags of the
+/// most frames; table 0001.
+fn bags(table: &Table, probe: u16) -> Vec<Vec<u8>> {
+    let others = table.links.iter().flat_map(|&link| other_end(link, probe));
+    let offers = others.clone().map(|other| offer(other, probe));
+    let refusals = others.map(|other| refusal(other, probe));
+    let frames: Vec<Vec<u8>> = offers.chain(refusals).collect();
+    let count = frames.len().next_multiple_of(MOST_FRAMES);
+    let frames: Vec<&Vec<u8>> = frames.iter().cycle().take(count).collect();
+    let bag = |bag: &[&Vec<u8>]| bag.iter().flat_map(|frame| frame.iter().copied()).collect();
+    frames.chunks(MOST_FRAMES).map(bag).collect()
 }
 
 impl Site {
@@ -87,6 +101,7 @@ impl Site {
             maps: OwnMaps::turned(&own),
             own,
             reached,
+            bags: bags(table, probe),
             probe,
         }
     }
@@ -105,7 +120,7 @@ struct Lending {
     maps: OwnMaps,
     record: Vec<u8>,
     line: [u8; 16],
-    log: [u64; 2],
+    log: [u64; MOST_FRAMES + 1],
     out: Vec<u8>,
 }
 
@@ -125,7 +140,7 @@ impl Lending {
             maps: OwnMaps::fresh(site.own.len() / 2),
             record: vec![0; site.reached.len()],
             line: [9; 16],
-            log: [ANSWER_BASE; 2],
+            log: [ANSWER_BASE; MOST_FRAMES + 1],
             out: vec![9; room_for(site.input.len())],
         }
     }
@@ -203,7 +218,7 @@ const fn display(name: &'static str, make: fn(&Site, &mut Lending) -> u64) -> Ca
     Call { name, caller, make }
 }
 
-pub const CALLS: [Call; 29] = [
+pub const CALLS: [Call; 30] = [
     full("planner_check_table", check_table),
     display("planner_display_check_table", check_table),
     display("planner_display_plan_slse", plan_slse),
@@ -246,6 +261,12 @@ pub const CALLS: [Call; 29] = [
         ffi::probe_open(given, site.probe, maps.lend(), 1);
         let hear = |line: &Vec<u8>| ffi::probe_hear(given, site.probe, maps.lend(), line, 1);
         largest(site.lines.iter().map(hear))
+    }),
+    full("planner_probe_hear_bag", |site, lent| {
+        let (given, maps, log) = (site.numbers.slices(), &mut lent.maps, &mut lent.log);
+        ffi::probe_open(given, site.probe, maps.lend(), 1);
+        let hear = |bag: &Vec<u8>| ffi::probe_hear_bag(given, site.probe, maps.lend(), bag, log, 1);
+        largest(site.bags.iter().map(hear))
     }),
     full("planner_probe_hear_logged", |site, lent| {
         let (given, maps, log) = (site.numbers.slices(), &mut lent.maps, &mut lent.log);

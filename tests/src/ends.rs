@@ -247,6 +247,25 @@ impl End {
         What::Learnt(own.place)
     }
 
+    /// The frame's kind and the place of its link among the own ones: 1, 2, 9, 23, 24.
+    fn judge(&self, given: Slices, probe: u16, line: &[u8]) -> Result<(Kind, usize), u8> {
+        let frame = Frame::of_line(line)?;
+        let kind = frame.known_kind()?;
+        if frame.number != given.number {
+            return Err(23);
+        }
+        let from_there = |own: &Own| frame.to == probe && own.other == frame.from;
+        let at = self.own.iter().position(from_there).ok_or(24)?;
+        Ok((kind, at))
+    }
+
+    fn hear(&mut self, (kind, at): (Kind, usize)) -> What {
+        match kind {
+            Kind::Offer => self.hear_offer(at),
+            Kind::Refusal => self.hear_refusal(at),
+        }
+    }
+
     /// The own link with this place in the table, or 24.
     fn on(&self, link: u16) -> Result<Own, u8> {
         let own = self.own.iter().find(|own| own.place == link.into());
@@ -254,10 +273,10 @@ impl End {
     }
 }
 
-fn check_log(free: usize) -> Result<(), u8> {
-    match free {
-        0 => Err(26),
-        _ => Ok(()),
+fn check_log(free: usize, entries: usize) -> Result<(), u8> {
+    match free < entries {
+        true => Err(26),
+        false => Ok(()),
     }
 }
 
@@ -272,7 +291,7 @@ pub fn open(given: Slices, probe: u16, record: &mut [u8], free: usize) -> Result
     if probe >= given.probes {
         return Err(24);
     }
-    check_log(free)?;
+    check_log(free, 1)?;
     let what = end.open();
     end.store(record);
     Ok(Entry { probe, what })
@@ -287,20 +306,47 @@ pub fn hear(
     free: usize,
 ) -> Result<Entry, u8> {
     let mut end = End::of(given, probe, record)?;
-    let frame = Frame::of_line(line)?;
-    let kind = frame.known_kind()?;
-    if frame.number != given.number {
-        return Err(23);
-    }
-    let from_there = |own: &Own| frame.to == probe && own.other == frame.from;
-    let at = end.own.iter().position(from_there).ok_or(24)?;
-    check_log(free)?;
-    let what = match kind {
-        Kind::Offer => end.hear_offer(at),
-        Kind::Refusal => end.hear_refusal(at),
-    };
+    let judged = end.judge(given, probe, line)?;
+    check_log(free, 1)?;
+    let what = end.hear(judged);
     end.store(record);
     Ok(Entry { probe, what })
+}
+
+/// The most frames in a bag.
+pub const MOST_FRAMES: usize = 64;
+
+/// The frames of a bag: each ends at its line feed, and a last piece without one counts.
+pub fn frames(bag: &[u8]) -> Vec<&[u8]> {
+    bag.split_inclusive(|&byte| byte == b'\n').collect()
+}
+
+/// The probe hears a bag of frames, of any bytes: all are judged before the first is heard. The
+/// entries stand in the bag's order.
+pub fn hear_bag(
+    given: Slices,
+    probe: u16,
+    record: &mut [u8],
+    bag: &[u8],
+    free: usize,
+) -> Result<Vec<Entry>, u8> {
+    let mut end = End::of(given, probe, record)?;
+    let frames = frames(bag);
+    if frames.len() > MOST_FRAMES {
+        return Err(32);
+    }
+    let mut judged = Vec::new();
+    for frame in &frames {
+        judged.push(end.judge(given, probe, frame)?);
+    }
+    if probe >= given.probes {
+        return Err(24);
+    }
+    check_log(free, frames.len())?;
+    let heard = judged.into_iter().map(|frame| end.hear(frame));
+    let entries = heard.map(|what| Entry { probe, what }).collect();
+    end.store(record);
+    Ok(entries)
 }
 
 /// Asked for a frame on a link, writes its line at the start of `out` if it may be sent now.

@@ -1,7 +1,7 @@
 //! Random events for an end, and damaged frames and records.
 
 use crate::compare_ends::End;
-use crate::ends::{other_end, Frame, What};
+use crate::ends::{other_end, Frame, What, MOST_FRAMES};
 use crate::maps::{bit, flip, MAPS};
 use crate::random::{each_seed, Random};
 use crate::reference::Table;
@@ -77,6 +77,25 @@ pub fn any_frame(table: &Table, probe: u16, random: &mut Random) -> Frame {
         from: from.unwrap_or(probe),
         to: probe,
     }
+}
+
+/// The frames of a bag: offers and refusals to the probe, often a few of them many times. One bag in
+/// twelve has too many.
+pub fn any_bag(table: &Table, probe: u16, random: &mut Random) -> Vec<Vec<u8>> {
+    let (few, many) = (random.below(9), random.below(MOST_FRAMES + 1));
+    let too_many = MOST_FRAMES + 1 + random.below(40);
+    let count = match random.below(12) {
+        0 => too_many,
+        1 => MOST_FRAMES,
+        2..=4 => many,
+        _ => few,
+    };
+    let different = 1 + random.below(count + 1);
+    let frames: Vec<Vec<u8>> = (0..different)
+        .map(|_| any_frame(table, probe, random).line())
+        .collect();
+    let chosen = (0..count).map(|_| frames[random.below(different)].clone());
+    chosen.collect()
 }
 
 /// How many entries are free: seldom none.
@@ -211,11 +230,12 @@ fn set_twice(end: &mut End, link: usize, random: &mut Random) {
     }
 }
 
-fn shuffled(mut places: Vec<usize>, random: &mut Random) -> Vec<usize> {
-    for place in (1..places.len()).rev() {
-        places.swap(place, random.below(place + 1));
+/// In a random order.
+pub fn shuffled<T>(mut things: Vec<T>, random: &mut Random) -> Vec<T> {
+    for place in (1..things.len()).rev() {
+        things.swap(place, random.below(place + 1));
     }
-    places
+    things
 }
 
 /// Gives so many of the own links a 1, all outbound or all inbound, and the others none there.

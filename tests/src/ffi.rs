@@ -107,6 +107,14 @@ library! {
         log: &mut [u64],
         used: usize
     ) -> u64;
+    pub fn probe_hear_bag(
+        given: Slices,
+        probe: u16,
+        maps: LentMaps,
+        bag: &[u8],
+        log: &mut [u64],
+        used: usize
+    ) -> u64;
     pub fn probe_hear_logged(
         given: Slices,
         probe: u16,
@@ -246,6 +254,14 @@ pub fn entry_answer(result: &Result<Entry, u8>) -> u64 {
             let [code, link, displaced] = what.numbers();
             (1 << 63) + ((*probe as u64) << 40) + (code << 32) + (link << 16) + displaced
         }
+        Err(refusal) => *refusal as u64,
+    }
+}
+
+/// The number that stands for the answer to a bag: how many frames were heard.
+pub fn bag_answer(result: &Result<Vec<Entry>, u8>) -> u64 {
+    match result {
+        Ok(entries) => ANSWER_BASE + entries.len() as u64,
         Err(refusal) => *refusal as u64,
     }
 }

@@ -208,6 +208,20 @@ pub fn hear(
     Ok(entry)
 }
 
+/// The probe hears a bag of frames, of any bytes.
+pub fn hear_bag(
+    given: Slices,
+    probe: u16,
+    maps: LentMaps,
+    bag: &[u8],
+    free: usize,
+) -> Result<Vec<Entry>, u8> {
+    let mut record = maps.shared().judged(given, probe)?;
+    let entries = ends::hear_bag(given, probe, &mut record, bag, free)?;
+    maps.store(&record);
+    Ok(entries)
+}
+
 /// Asked for a frame on a link, writes its line at the start of `out` if it may be sent now.
 pub fn ask(
     given: Slices,

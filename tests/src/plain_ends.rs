@@ -1,7 +1,9 @@
 //! An end's opening and hearing as plain Rust, apart from the second implementation, to time the library
 //! against: on maps with all checks, and on bytes, as a yardstick, for a legal table.
 
-use crate::ends::{Entry, Frame, Kind, What};
+use crate::ends::{Entry, Frame, Kind, What, MOST_FRAMES};
+use crate::events::shuffled;
+use crate::ffi;
 use crate::maps::{words, LentMaps};
 use crate::random::Random;
 use crate::reference::{counted_need, falling, Slices, Table, FULL};
@@ -164,6 +166,7 @@ impl<'a> End<'a> {
         }
         if self.held < self.spare {
             self.maps.held[word] |= bit;
+            self.held += 1;
             return What::Taken(link);
         }
         let held = self.links(|place| self.maps.held[place]);
@@ -191,6 +194,21 @@ impl<'a> End<'a> {
         self.maps.refused_out[word] |= bit;
         What::Learnt(link)
     }
+
+    /// The frame's kind and its link: 1, 2, 9, 23, 24.
+    fn judge(&self, line: &[u8]) -> Result<(Kind, usize), u8> {
+        let (kind, from) = heard(self.given, self.probe, line)?;
+        let from_there = |&link: &usize| other_end(self.given, link, self.probe) == from;
+        let link = self.links(|place| self.own[place]).find(from_there);
+        Ok((kind, link.ok_or(24)?))
+    }
+
+    fn hear(&mut self, (kind, link): (Kind, usize)) -> What {
+        match kind {
+            Kind::Offer => self.hear_offer(link),
+            Kind::Refusal => self.hear_refusal(link),
+        }
+    }
 }
 
 pub fn open(given: Slices, probe: u16, maps: LentMaps, free: usize) -> Result<Entry, u8> {
@@ -213,18 +231,45 @@ pub fn hear(
     free: usize,
 ) -> Result<Entry, u8> {
     let mut end = End::of(given, probe, maps)?;
-    let (kind, from) = heard(given, probe, line)?;
-    let from_there = |&link: &usize| other_end(given, link, probe) == from;
-    let link = end.links(|place| end.own[place]).find(from_there);
-    let link = link.ok_or(24)?;
+    let judged = end.judge(line)?;
     if free == 0 {
         return Err(26);
     }
-    let what = match kind {
-        Kind::Offer => end.hear_offer(link),
-        Kind::Refusal => end.hear_refusal(link),
-    };
+    let what = end.hear(judged);
     Ok(Entry { probe, what })
+}
+
+/// All checks once; the entries go behind the used ones of the log. The frames heard.
+pub fn hear_bag(
+    given: Slices,
+    probe: u16,
+    maps: LentMaps,
+    bag: &[u8],
+    log: &mut [u64],
+    used: usize,
+) -> Result<usize, u8> {
+    let mut end = End::of(given, probe, maps)?;
+    let frames = || bag.split_inclusive(|&byte| byte == b'\n');
+    let count = frames().take(MOST_FRAMES + 1).count();
+    if count > MOST_FRAMES {
+        return Err(32);
+    }
+    let mut judged = [(Kind::Offer, 0); MOST_FRAMES];
+    for (judged, frame) in judged.iter_mut().zip(frames()) {
+        *judged = end.judge(frame)?;
+    }
+    if probe >= given.probes {
+        return Err(24);
+    }
+    let free = log.get_mut(used..).unwrap_or_default();
+    if free.len() < count {
+        return Err(26);
+    }
+    for (stored, &judged) in free.iter_mut().zip(&judged[..count]) {
+        let what = end.hear(judged);
+        *stored = ffi::entry_answer(&Ok(Entry { probe, what }));
+    }
+    Ok(count)
 }
 
 /// The yardstick: an end of a legal table on its bytes, without the table's checks.
@@ -369,6 +414,9 @@ pub struct Timed {
     pub record: Vec<u8>,
     /// The line of an offer that it takes, on its dearest link.
     pub line: Vec<u8>,
+    /// As many frames as a bag may have: offers and refusals of its neighbours, which come again where
+    /// it has fewer than half as many.
+    pub bag: Vec<u8>,
 }
 
 impl Timed {
@@ -382,19 +430,27 @@ impl Timed {
             record[2 * standing] = 1;
             record[2 * held + 1] = 1;
         }
-        let [low, high] = table.links[own[0]].ends();
-        let frame = Frame {
-            kind: 1,
-            number: table.number,
-            from: (low + high) as u16 - probe,
-            to: probe,
+        let frame = |kind: Kind, link: usize| {
+            let [low, high] = table.links[link].ends();
+            let frame = Frame {
+                kind: kind as u8,
+                number: table.number,
+                from: (low + high) as u16 - probe,
+                to: probe,
+            };
+            frame.line()
         };
+        let random = &mut Random::new(36);
+        let neighbours = shuffled(own.clone(), random).into_iter().cycle();
+        let chosen = neighbours.take(MOST_FRAMES / 2);
+        let both = chosen.flat_map(|link| Kind::BOTH.map(|kind| frame(kind, link)));
         Timed {
             site,
             numbers: Numbers::of(table),
             probe,
             record,
-            line: frame.line(),
+            line: frame(Kind::Offer, own[0]),
+            bag: shuffled(both.collect(), random).concat(),
         }
     }
 }

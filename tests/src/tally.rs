@@ -6,12 +6,24 @@ use crate::reference::WITHDRAWN;
 /// 01's and 02's codes of what can befall a probe, as they are printed.
 pub const CODES: [&str; 9] = ["00", "01", "02", "03", "04", "05", "06", "07", "08"];
 
-#[derive(Debug, Default)]
+/// One more than the largest refusal's number.
+const NUMBERS: usize = 33;
+
+#[derive(Debug)]
 pub struct Tally {
     /// By the refusal's number.
-    pub refused: [usize; 28],
+    pub refused: [usize; NUMBERS],
     /// By the code.
     pub befell: [usize; CODES.len()],
+}
+
+impl Default for Tally {
+    fn default() -> Tally {
+        Tally {
+            refused: [0; NUMBERS],
+            befell: [0; CODES.len()],
+        }
+    }
 }
 
 impl Tally {
@@ -19,6 +31,14 @@ impl Tally {
         match answer {
             Ok(what) => self.befell[what.numbers()[0] as usize] += 1,
             Err(refusal) => self.refused[usize::from(refusal)] += 1,
+        }
+    }
+
+    /// What befell with each frame of a bag, or its refusal.
+    pub fn count_bag(&mut self, answer: &Result<Vec<What>, u8>) {
+        match answer {
+            Ok(befell) => befell.iter().for_each(|&what| self.count(Ok(what))),
+            Err(refusal) => self.count(Err(*refusal)),
         }
     }
 

@@ -169,7 +169,7 @@ fn codes() {
 }
 
 /// The refusals that calls make; 7 and 25 are withdrawn.
-const REFUSALS: [u8; 15] = [1, 2, 3, 4, 5, 6, 8, 9, 20, 21, 22, 23, 24, 26, 27];
+const REFUSALS: [u8; 16] = [1, 2, 3, 4, 5, 6, 8, 9, 20, 21, 22, 23, 24, 26, 27, 32];
 
 /// The README's table and the header's list have each of them once, and no other.
 #[test]

@@ -22,7 +22,7 @@ fn expected() -> Vec<String> {
 #[test]
 fn declarations() {
     let crates = of_crates();
-    assert!(crates.len() >= 29, "{}", crates.len());
+    assert!(crates.len() >= 30, "{}", crates.len());
     assert_eq!(of_ffi(&document(FFI)), crates);
     assert_eq!(of_header(&document(HEADER)), expected());
 }

@@ -1,10 +1,11 @@
 //! The second implementation's maps by themselves, and the plain Rust of an end beside it.
 
 use planner_tests::compare_ends::End;
-use planner_tests::ends::{self, differ, Kind, LINE};
+use planner_tests::ends::{self, differ, Kind, What, LINE, MOST_FRAMES};
 use planner_tests::events::{
-    any_frame, any_probe, any_record, any_room, damage_record, damaged_line, each_table,
+    any_bag, any_frame, any_probe, any_record, any_room, damage_record, damaged_line, each_table,
 };
+use planner_tests::ffi;
 use planner_tests::maps::{self, bit, flip, words, OwnMaps, MAPS};
 use planner_tests::plain_ends;
 use planner_tests::sites::{marked, site, Numbers};
@@ -167,4 +168,71 @@ fn plain_rust() {
     tally.assert_often(&[1, 2, 9, 20, 21, 22, 23, 24, 26]);
     tally.assert_each_befell_an_end(100);
     assert!(on_bytes > 20_000, "{on_bytes}");
+}
+
+/// A bag by plain Rust and by the second implementation, with a log of so many entries.
+#[track_caller]
+fn bag_by_both(end: &End, bag: &[u8], [length, used]: [usize; 2]) -> Result<Vec<What>, u8> {
+    let [mut maps, mut same] = [end.maps.clone(), end.maps.clone()];
+    let (given, probe) = (end.numbers.slices(), end.probe);
+    let (mut log, mut after) = (vec![7; length], vec![7; length]);
+    let free = length.saturating_sub(used);
+    let expected = maps::hear_bag(given, probe, maps.lend(), bag, free);
+    for (place, entry) in expected.iter().flatten().enumerate() {
+        after[used + place] = ffi::entry_answer(&Ok(*entry));
+    }
+    let answer = plain_ends::hear_bag(given, probe, same.lend(), bag, &mut log, used);
+    assert_eq!(ffi::write_answer(&answer), ffi::bag_answer(&expected));
+    assert_eq!((same, log), (maps, after));
+    expected.map(|entries| entries.into_iter().map(|entry| entry.what).collect())
+}
+
+#[test]
+fn bags_in_plain_rust() {
+    let (mut tally, mut heard) = (Tally::default(), 0);
+    each_table(138, 6_000, |table, random| {
+        let (probe, short) = (any_probe(table, random), random.short());
+        let probe = random.pick(&[probe, probe, probe, probe, probe, short]);
+        for _ in 0..5 {
+            let mut end = match random.one_in(2) {
+                true => End::fresh(table, probe),
+                false => End::with(table, probe, &any_record(table, probe, random)),
+            };
+            if random.one_in(4) {
+                damage_record(&mut end, table, random);
+            }
+            let mut frames = any_bag(table, probe, random);
+            if random.one_in(2) {
+                let frame = any_frame(table, probe, random);
+                let damages = random.pick(&[[1, 0], [2, 0], [0, 1]]);
+                frames.push(damaged_line(frame, damages, table, random));
+            }
+            let length = random.pick(&[0, 3, 70, 70, 70, 70]);
+            let used = random.pick(&[0, 0, 1, 3, length, length + 1, usize::MAX]);
+            let answer = bag_by_both(&end, &frames.concat(), [length, used]);
+            heard += usize::from(answer.as_ref().is_ok_and(|befell| befell.len() > 1));
+            tally.count_bag(&answer);
+        }
+    });
+    tally.assert_often(&[1, 2, 9, 20, 21, 22, 23, 24, 26, 32]);
+    let befell = &tally.befell[2..7];
+    assert!(befell.iter().all(|&befell| befell > 300), "{tally:?}");
+    assert!(heard > 2_000, "{heard}");
+}
+
+/// The bag of each timed end has the most frames, of both kinds, and is heard.
+#[test]
+fn timed_bags() {
+    for end in plain_ends::timed() {
+        let (mut maps, given) = (OwnMaps::turned(&end.record), end.numbers.slices());
+        let entries = maps::hear_bag(given, end.probe, maps.lend(), &end.bag, MOST_FRAMES);
+        let entries = entries.expect("a bag that is heard");
+        assert_eq!(entries.len(), MOST_FRAMES);
+        let mut tally = Tally::default();
+        tally.count_bag(&Ok(entries.into_iter().map(|entry| entry.what).collect()));
+        let [taken, _, _, learnt, _] = tally.befell[2..7] else {
+            panic!("five codes");
+        };
+        assert!(taken > 0 && learnt > 10, "{tally:?}");
+    }
 }

@@ -7,7 +7,7 @@ use planner_tests::compare_ends::{Buffers, End};
 use planner_tests::compare_fleet::Fleet;
 use planner_tests::compare_log::Log;
 use planner_tests::ends::Entry;
-use planner_tests::events::{any_frame, any_probe, damaged_line, each_table};
+use planner_tests::events::{any_bag, any_frame, any_probe, damaged_line, each_table};
 use planner_tests::ffi;
 use planner_tests::random::Random;
 use planner_tests::repository::document;
@@ -78,6 +78,35 @@ fn openings_and_frames_of_an_end() {
     });
     tally.assert_often(&[1, 2, 9, 23, 24, 26]);
     tally.assert_each_befell_an_end(300);
+}
+
+/// Openings and bags in a row with one log: the entries of a bag stand behind one another.
+#[test]
+fn bags_of_an_end() {
+    let (mut tally, mut in_a_row) = (Tally::default(), 0);
+    each_table(137, 3_000, |table, random| {
+        let probe = any_probe(table, random);
+        let (mut end, mut log) = (End::fresh(table, probe), any_log(random));
+        for _ in 0..8 {
+            let mut lent = end.maps.clone();
+            let opened = end.open(log.free());
+            let (given, maps) = (end.numbers.slices(), lent.lend());
+            let expected = opened.map(|what| Entry { probe, what });
+            log.lend(expected, |log, used| {
+                ffi::probe_open_logged(given, probe, maps, log, used)
+            });
+            assert_eq!(lent, end.maps);
+            tally.count(opened);
+            let before = log.used;
+            let bag = any_bag(table, probe, random).concat();
+            tally.count_bag(&end.hear_bag(&bag, &mut log));
+            in_a_row += usize::from(log.used > before + 1);
+        }
+        log.read();
+    });
+    tally.assert_often(&[24, 26, 32]);
+    tally.assert_each_befell_an_end(300);
+    assert!(in_a_row > 2_000, "{in_a_row}");
 }
 
 /// What the gate has the program over lent logs print: M11's entries, then those of probe 1.

@@ -1,6 +1,6 @@
 //! Maps and bytes turned into each other, single bits flipped, and the sizes around a word's 64 links.
 
-use super::{m2_end, m2_end_with};
+use super::{every_choice, every_record, m2_end, m2_end_with};
 use planner_tests::compare_ends::End;
 use planner_tests::ends::{self, Kind, What, LINE};
 use planner_tests::events::{any_frame, any_record, any_room, damage_record, of_state, own_links};
@@ -13,12 +13,6 @@ use planner_tests::sites::{
     every_table, half_needed, hubs, largest_hubs, legal_of_size, marked, site, Numbers,
 };
 use planner_tests::tally::Tally;
-
-/// Every choice of so many digits below the base.
-fn every_choice(count: u32, base: usize) -> impl Iterator<Item = Vec<u8>> {
-    let digit = move |number: usize, place: u32| (number / base.pow(place) % base) as u8;
-    (0..base.pow(count)).map(move |number| (0..count).map(|place| digit(number, place)).collect())
-}
 
 /// The lengths of outputs that are not too short: exact, then longer, each map by another count.
 fn fitting(words: usize) -> [[usize; MAPS]; 2] {
@@ -66,13 +60,8 @@ fn every_record_of_small_sites() {
             let mut spares = table.spares();
             spares.push(0);
             for (probe, spare) in (0..).zip(spares) {
-                let own = own_links(table, probe);
                 let mut end = End::fresh(table, probe);
-                for bytes in every_choice(2 * own.len() as u32, 3) {
-                    let mut record = vec![0; 2 * table.links.len()];
-                    for (place, two) in own.iter().zip(bytes.chunks_exact(2)) {
-                        record[2 * place..][..2].copy_from_slice(two);
-                    }
+                for record in every_record(table, probe) {
                     let ones = |side: usize| {
                         let bytes = record.iter().skip(side).step_by(2);
                         bytes.filter(|&&byte| byte == 1).count()

@@ -1,11 +1,15 @@
-//! One end alone: bad records and frames, the rules of an end, and random calls.
+//! One end alone: bad records, frames and bags, the rules of an end, and random calls.
 
+mod bad_bags;
+mod bags;
 mod maps;
 mod random;
+mod random_bags;
 mod refusals;
 mod rules;
 
 use planner_tests::compare_ends::End;
+use planner_tests::events::own_links;
 use planner_tests::reference::Table;
 use planner_tests::sites::marked;
 
@@ -24,4 +28,22 @@ fn without_spare() -> Table {
     let mut table = marked(1);
     table.needs[1] = 2;
     table
+}
+
+/// Every choice of so many digits below the base.
+fn every_choice(count: u32, base: usize) -> impl Iterator<Item = Vec<u8>> {
+    let digit = move |number: usize, place: u32| (number / base.pow(place) % base) as u8;
+    (0..base.pow(count)).map(move |number| (0..count).map(|place| digit(number, place)).collect())
+}
+
+/// Every record with bytes up to 2 on the probe's own links.
+fn every_record(table: &Table, probe: u16) -> impl Iterator<Item = Vec<u8>> {
+    let (own, links) = (own_links(table, probe), table.links.len());
+    every_choice(2 * own.len() as u32, 3).map(move |bytes| {
+        let mut record = vec![0; 2 * links];
+        for (place, two) in own.iter().zip(bytes.chunks_exact(2)) {
+            record[2 * place..][..2].copy_from_slice(two);
+        }
+        record
+    })
 }
