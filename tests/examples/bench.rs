@@ -2,7 +2,8 @@
 
 use planner_tests::channel::full_script;
 use planner_tests::depths;
-use planner_tests::ffi;
+use planner_tests::ends::{LINE, MOST_FRAMES};
+use planner_tests::ffi::{self, ANSWER_BASE};
 use planner_tests::fleet::{self, BYTES};
 use planner_tests::maps::OwnMaps;
 use planner_tests::methods;
@@ -303,6 +304,100 @@ fn print_ends() {
     }
 }
 
+/// The aims of a bag: against plain Rust, and against its frames by single calls.
+const AIM_TO_RUST: f64 = 1.2;
+const AIM_TO_SINGLES: f64 = 0.5;
+
+/// A timed end that hears its bag.
+struct Hearing<'a> {
+    end: &'a Timed,
+    start: OwnMaps,
+    maps: OwnMaps,
+    log: [u64; MOST_FRAMES],
+}
+
+impl Hearing<'_> {
+    fn of(end: &Timed) -> Hearing<'_> {
+        let start = OwnMaps::turned(&end.record);
+        Hearing {
+            end,
+            maps: start.clone(),
+            start,
+            log: [0; MOST_FRAMES],
+        }
+    }
+
+    /// By the library (0), by plain Rust on the same maps (1), or frame by frame by single calls of the
+    /// library; each from the same record.
+    fn hear(&mut self, which: usize) {
+        let start = self.start.slices().array();
+        for (map, start) in self.maps.lend().array().into_iter().zip(start) {
+            map.copy_from_slice(start);
+        }
+        let (given, probe) = (black_box(self.end.numbers.slices()), self.end.probe);
+        let (bag, log) = (black_box(&self.end.bag[..]), &mut self.log);
+        let (maps, frames) = (&mut self.maps, bag.chunks_exact(LINE).enumerate());
+        let answer = match which {
+            0 => ffi::probe_hear_bag(given, probe, maps.lend(), bag, log, 0),
+            1 => ffi::write_answer(&plain_ends::hear_bag(
+                given,
+                probe,
+                maps.lend(),
+                bag,
+                log,
+                0,
+            )),
+            _ => frames.fold(0, |_, (used, frame)| {
+                ffi::probe_hear_logged(given, probe, maps.lend(), frame, log, used)
+            }),
+        };
+        assert!(answer >= ANSWER_BASE);
+    }
+}
+
+/// Microseconds of each of the three in each run.
+fn measure_bag(end: &Timed) -> Vec<[f64; 3]> {
+    let mut hearing = Hearing::of(end);
+    let left = [0, 1, 2].map(|which| {
+        hearing.log.fill(0);
+        hearing.hear(which);
+        (hearing.maps.clone(), hearing.log)
+    });
+    assert_eq!(left[1], left[0], "Rust differs");
+    assert_eq!(left[2], left[0], "single calls differ");
+    let mut runs = vec![[0.0; 3]; RUNS];
+    for (run, times) in runs.iter_mut().enumerate() {
+        for which in (0..3).map(|place| (run + place) % 3) {
+            let start = Instant::now();
+            for _ in 0..CALLS_A_RUN {
+                hearing.hear(which);
+            }
+            times[which] = start.elapsed().as_secs_f64() * 1e6 / f64::from(CALLS_A_RUN);
+        }
+    }
+    runs
+}
+
+fn print_bags() {
+    println!(
+        "site          links  frames    library us   rust us  ratio  aim  singles us  ratio  aim"
+    );
+    for end in &timed() {
+        let runs = measure_bag(end);
+        let median = |of: &dyn Fn(&[f64; 3]) -> f64| Sorted::of(runs.iter().map(of)).quarter(2);
+        println!(
+            "{:<12}  {:>5}  {MOST_FRAMES:>6}    {:>10.2}  {:>8.2}  {:>5.2}  {AIM_TO_RUST:.1}  {:>10.2}  {:>5.2}  {AIM_TO_SINGLES:.1}",
+            end.site,
+            end.numbers.links,
+            median(&|times| times[0]),
+            median(&|times| times[1]),
+            median(&|times| times[0] / times[1]),
+            median(&|times| times[2]),
+            median(&|times| times[0] / times[2]),
+        );
+    }
+}
+
 fn print_depths() {
     println!("call                          bytes");
     for (name, depth) in depths::of_planning() {
@@ -325,6 +420,9 @@ fn main() {
     );
     println!("against the byte calls of the landing before; medians of {RUNS} runs:");
     print_ends();
+    println!("A bag of {MOST_FRAMES} frames heard by such an end, against plain Rust on the same maps and against");
+    println!("single calls of the same frames; medians of {RUNS} runs:");
+    print_bags();
     println!("Deepest stack of each planning call, the display's on its own largest sites:");
     print_depths();
 }
