@@ -2,7 +2,7 @@
 use Prim.Native.Nat.{ℕ, zero, suc, _+_, _*_}
 use mathlib.Core.Path.{_≡_}
 use mathlib.Core.Bool.{Bool, true, false, cond, _&&_, _||_, not}
-use mathlib.Core.List.{List}
+use mathlib.Core.List.{List, [], _∷_}
 use native.Mathlib.Omega.{arith}
 use lib.Dec.{ltb, eqb}
 use lib.ListN.{length, getD}
@@ -26,6 +26,7 @@ use Rattle.probe_maps.specs.Maps.{Maps, hasWords, mapsLengthFault, wrongBits, i
 use Rattle.probe_checks.specs.Checks.{frameKindFault, toFault, probeFault, ownLinkFault, fullFault, heardFault, hearFault, openFault, linkCallFault}
 use Rattle.probe_turning.specs.Turned.{rowsLentFault, toMapsFault, toBytesFault}
 use Rattle.probe.specs.Answers.{hearsFault, opensFault}
+use Rattle.probe_bags.specs.Bag.{framesOf, framesFault, manyFault, roomFault, bagFault, hearsBagFault}
 use Rattle.fleet_theory.specs.Fleet.{own, marks, permitting, wrongByte, linkBytesFault, ofOneProbe, fleetFault, eventKindFault, eventEndsFault, eventLineFault, eventOf, unsentFault, eventFault}
 use Rattle.fleet_theory.specs.Withdrawn.{TwentyFiveWithdrawn}
 
@@ -115,6 +116,14 @@ heard-other t p l =
     (or-other (frameKindFault f) (orElse (numberFault t f) (toFault t p f)) (unless-other (eqb (f .kind) 1 || eqb (f .kind) 2) 9 (λ z. omega arith))
     (or-other (numberFault t f) (toFault t p f) (number-other t f) (unless-other (eqb (f .to) p && ltb (between t (f .from) (f .to)) (t .links)) 24 (λ z. omega arith))))
 
+frames-other : (t : Table) (p : ℕ) (ls : List (List ℕ)) → Other (framesFault t p ls)
+unfolding framesFault
+frames-other t p [] = λ z. omega arith
+frames-other t p (l ∷ ls) = or-other (heardFault t p l) (framesFault t p ls) (heard-other t p l) (frames-other t p ls)
+
+probe-other : (t : Table) (p : ℕ) → Other (probeFault t p)
+probe-other t p = unless-other (ltb p (t .probes)) 24 (λ z. omega arith)
+
 fleet-other : (t : Table) (r : List ℕ) → Other (fleetFault t r)
 fleet-other t r =
     or-other (cond (eqb (length r) (8 * t .links)) 0 20) (orElse (first (linkBytesFault r) (t .links)) (first (λ p. spareFault t p (own t p r)) (t .probes)))
@@ -152,11 +161,21 @@ module _ (x : Slices) where
       or-other (stateFault x p m) (orElse (heardFault t p l) (fullFault free)) (state p m)
       (or-other (heardFault t p l) (fullFault free) (heard-other t p l) (full-other free))
 
+  bag : (p : ℕ) (m : Maps) (frames : List ℕ) (free : ℕ) → Other (hearsBagFault x p m frames free)
+  unfolding bagFault
+  bag p m frames free =
+      let ls = framesOf frames in
+      let last = orElse (probeFault t p) (roomFault ls free) in
+      or-other (stateFault x p m) (orElse (manyFault ls) (orElse (framesFault t p ls) last)) (state p m)
+      (or-other (manyFault ls) (orElse (framesFault t p ls) last) (when-other (ltb 64 (length ls)) 32 (λ z. omega arith))
+      (or-other (framesFault t p ls) last (frames-other t p ls)
+      (or-other (probeFault t p) (roomFault ls free) (probe-other t p) (when-other (ltb free (length ls)) 26 (λ z. omega arith)))))
+
   opening : (p : ℕ) (m : Maps) (free : ℕ) → Other (opensFault x p m free)
   unfolding openFault
   opening p m free =
       or-other (stateFault x p m) (orElse (probeFault t p) (fullFault free)) (state p m)
-      (or-other (probeFault t p) (fullFault free) (unless-other (ltb p (t .probes)) 24 (λ z. omega arith)) (full-other free))
+      (or-other (probeFault t p) (fullFault free) (probe-other t p) (full-other free))
 
   link-call : (p : ℕ) (m : Maps) (i : ℕ) → Other (linkCallFault (stateFault x p m) t p i)
   unfolding linkCallFault
@@ -182,4 +201,4 @@ module _ (x : Slices) where
       (or-other unsent full (unsent-other (eventOf t (frameOf l)) (marks t (frameOf l .from) r)) (unless-other (ltb used room) 26 (λ z. omega arith)))))
 
   pub twenty-five-withdrawn : TwentyFiveWithdrawn x
-  twenty-five-withdrawn = record { of-hearing = hearing; of-opening = opening; of-link-call = link-call; of-turning-to-maps = to-maps; of-turning-to-bytes = to-bytes; of-line = line }
+  twenty-five-withdrawn = record { of-hearing = hearing; of-bag = bag; of-opening = opening; of-link-call = link-call; of-turning-to-maps = to-maps; of-turning-to-bytes = to-bytes; of-line = line }

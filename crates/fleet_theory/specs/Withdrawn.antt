@@ -7,10 +7,12 @@ use Rattle.probe_maps.specs.Maps.{Maps, stateFault}
 use Rattle.probe_checks.specs.Checks.{linkCallFault}
 use Rattle.probe_turning.specs.Turned.{toMapsFault, toBytesFault}
 use Rattle.probe.specs.Answers.{hearsFault, opensFault}
+use Rattle.probe_bags.specs.Bag.{hearsBagFault}
 use Rattle.fleet_theory.specs.Fleet.{eventFault}
 
 pub record TwentyFiveWithdrawn (x : Slices) : Type 0 where
   pub of-hearing : (p : ℕ) (m : Maps) (l : List ℕ) (free : ℕ) → hearsFault x p m l free ≡ 25 → ⊥
+  pub of-bag : (p : ℕ) (m : Maps) (bag : List ℕ) (free : ℕ) → hearsBagFault x p m bag free ≡ 25 → ⊥
   pub of-opening : (p : ℕ) (m : Maps) (free : ℕ) → opensFault x p m free ≡ 25 → ⊥
   pub of-link-call : (p : ℕ) (m : Maps) (i : ℕ) → linkCallFault (stateFault x p m) (tableOf x) p i ≡ 25 → ⊥
   -- nor by a call of turning

@@ -19,16 +19,18 @@ use Rattle.wake_log.specs.declared.Entry.{Entry}
 use Rattle.wake_log.specs.declared.Answer.{Answer}
 use Rattle.wake_log.specs.declared.Answer.the-variants.{Logged}
 use Rattle.probe_maps.specs.Maps.{Maps, AllWords, mapsFault, stateFault}
+use Rattle.probe_maps.specs.SameRecords.{SameRecord}
 use Rattle.probe_maps.proofs.Faults.{good-maps}
 use Rattle.probe_checks.proofs.Accepted.{state-parts}
 use Rattle.probe_bags.specs.declared.Hearing.{Hearing}
 use Rattle.probe_bags.specs.declared.Hearing.the-variants.{Heard, Refused}
-use Rattle.probe_bags.specs.Bag.{framesOf, eventsOf, mapsAfter, entriesAfter, framesFault, hearingReply, hearingOf, hearsBagFault, HearsBag}
+use Rattle.probe_bags.specs.Bag.{framesOf, eventsOf, mapsAfter, entriesAfter, bytesAfter, entriesByBytes, framesFault, hearingReply, hearingOf, hearsBagFault, HearsBag}
 use Rattle.probe_bags.specs.BagLaws.{Singly, firstRefusal, BagLaws}
 use Rattle.probe_bags.proofs.Steps.{all-own, length-events, length-entries}
 use Rattle.probe_bags.proofs.Faults.{NoFault, no-fault, fault-none, frame-fault}
 use Rattle.probe_bags.proofs.Settled.{offers, refuses}
 use Rattle.probe_bags.proofs.Records.{events-frames, same-maps}
+use Rattle.probe_bags.proofs.Bytes.{on-bytes}
 use Rattle.probe_bags.proofs.Members.{some-same, passes-within}
 use Rattle.probe_bags.proofs.Passing.{passing}
 use Rattle.probe_bags.proofs.Singly.{rising-slices, singly-is, first-refusal}
@@ -111,6 +113,13 @@ module _ (x : Slices) (p : ℕ) where
         let is = singly-is x p fine calls (passing t p m maps-pass) (stages .frames) in
         (is .0 ∙ sym left, (entriesAfter t p events m, is .1, told, length-entries t p events m ∙ length-events t (framesOf bag) ∙ sym (accepted .1)))
 
+    by-bytes : (e : List ℕ) → SameRecord (x .links) m e
+        → (let vs = eventsOf t (framesOf bag) in SameRecord (x .links) m′ (bytesAfter t p vs e) × (log′ ≡ sets log used (entriesByBytes t p vs e)))
+    by-bytes e s =
+        let vs = eventsOf t (framesOf bag) in
+        let same = on-bytes t p vs (all-own t p (framesOf bag) (stages .frames)) m e s in
+        (rw left (same .0), told ∙ ap (sets log used) (same .1))
+
     -- another bag of the same frames leaves the same
     same-left : (ms : List (List ℕ)) → AllWords m → ((l : List ℕ) → List·Mem l (framesOf bag) ↔ List·Mem l ms) → framesFault t p ms ≡ 0
         → mapsAfter t p (eventsOf t ms) m ≡ m′
@@ -172,9 +181,10 @@ module _ (x : Slices) (p : ℕ) where
 pub bag-laws : (x : Slices) → (p : ℕ) → BagLaws x p
 bag-laws x p =
     record {
-      as-singly = λ bag n m m′ used log log′ words h. as-singly x p bag n m m′ used log log′ h;
+      as-singly = as-singly x p;
       any-order = any-order x p;
       same-frames = same-frames x p;
+      on-bytes = λ bag n m m′ e used log log′ s h. by-bytes x p bag n m m′ used log log′ h e s;
       empty-bag = empty-bag x p;
       first-bad = first-bad x p;
     }

@@ -3,6 +3,7 @@ pub mod Frames
 pub mod Settled
 pub mod Heard
 pub mod Records
+pub mod Bytes
 pub mod Members
 pub mod Faults
 pub mod Passing

@@ -26,15 +26,10 @@ use Rattle.probe_maps.specs.MapRules.{befallsMaps, alterMaps}
 use Rattle.probe_maps.proofs.Rounds.{pairs-equal, maps-bytes, bytes-maps}
 use Rattle.probe_maps.proofs.Faults.{maps-good-record}
 use Rattle.probe_theory.proofs.Usable.{befell-good}
-use Rattle.probe_bags.specs.Bag.{eventsOf, mapsAfter}
+use Rattle.probe_bags.specs.Bag.{eventsOf, mapsAfter, bytesAfter}
 use Rattle.probe_bags.proofs.Steps.{AllOwn, all-frames, good-step}
 use Rattle.probe_bags.proofs.Settled.{offers, refuses, some, candidate, inAfter, outAfter, few}
 use Rattle.probe_bags.proofs.Heard.{in-step, out-step}
-
--- the bytes after events, one after the other
-abbrev pub bytesAfter : Table → ℕ → List Event → List ℕ → List ℕ
-bytesAfter t p [] e = e
-bytesAfter t p (v ∷ vs) e = bytesAfter t p vs (alter (befalls t p v e) e)
 
 -- no event is an opening
 abbrev pub AllFrames : List Event → Type 0
@@ -60,6 +55,7 @@ module _ (t : Table) (rises : RisingLinks t) (p : ℕ) where
   good-after-one v e good own = befell-good t p e good (fell e v own) own
 
   good-after : (vs : List Event) (e : List ℕ) → GoodRecord t p e → AllOwn t p vs → GoodRecord t p (bytesAfter t p vs e)
+  unfolding bytesAfter
   good-after [] e good own = good
   good-after (v ∷ vs) e good own = good-after vs (after v e) (good-after-one v e good (own .0)) (own .1)
 
@@ -81,6 +77,7 @@ module _ (t : Table) (rises : RisingLinks t) (p : ℕ) where
 
   heard-in : (vs : List Event) (e : List ℕ) → GoodRecord t p e → AllOwn t p vs → (i : ℕ) → i < t .links
       → inbound (bytesAfter t p vs e) i ≡ inAfter t p (inbound e) (some offers vs) i
+  unfolding bytesAfter
   heard-in [] e good own i l = sym (at-rest e good i l)
   heard-in (v ∷ vs) e good own i l =
       heard-in vs (after v e) (good-after-one v e good (own .0)) (own .1) i l
@@ -88,6 +85,7 @@ module _ (t : Table) (rises : RisingLinks t) (p : ℕ) where
 
   heard-out : (vs : List Event) (e : List ℕ) → GoodRecord t p e → AllOwn t p vs → AllFrames vs → (i : ℕ)
       → outbound (bytesAfter t p vs e) i ≡ outAfter (outbound e) (some refuses vs) i
+  unfolding bytesAfter
   heard-out [] e good own frames i = refl
   heard-out (v ∷ vs) e good own frames i =
       heard-out vs (after v e) (good-after-one v e good (own .0)) (own .1) (frames .1) i
@@ -106,7 +104,7 @@ module _ (t : Table) (rises : RisingLinks t) (p : ℕ) where
   -- maps go as their bytes do
   maps-by-bytes : (vs : List Event) (m : Maps) → GoodMaps t p m → AllOwn t p vs
       → mapsAfter t p vs m ≡ mapsOf (t .links) (bytesAfter t p vs (bytesOf (t .links) m))
-  unfolding mapsAfter
+  unfolding mapsAfter bytesAfter
   maps-by-bytes [] m good own = sym (maps-bytes (t .links) m (good .sound))
   maps-by-bytes (v ∷ vs) m good own =
       let e = bytesOf (t .links) m in

@@ -14,7 +14,7 @@ use Rattle.table.specs.Slices.{Slices, tableOf}
 use Rattle.wake_log.specs.declared.Entry.{Entry}
 use Rattle.probe_frame.specs.Frame.{frameOf}
 use Rattle.probe_rules.specs.declared.Event.{Event}
-use Rattle.probe_rules.specs.Rules.{entryOf}
+use Rattle.probe_rules.specs.Rules.{befalls, alter, entryOf}
 use Rattle.probe_rules.specs.Frames.{heardOf}
 use Rattle.probe_maps.specs.Maps.{Maps, stateFault}
 use Rattle.probe_maps.specs.MapRules.{befallsMaps, alterMaps}
@@ -40,6 +40,15 @@ mapsAfter t p (v ∷ vs) m = mapsAfter t p vs (alterMaps (t .links) (befallsMaps
 unfoldable pub entriesAfter : Table → ℕ → List Event → Maps → List Entry
 entriesAfter t p [] m = []
 entriesAfter t p (v ∷ vs) m = entryOf t p (befallsMaps t p v m) ∷ entriesAfter t p vs (alterMaps (t .links) (befallsMaps t p v m) m)
+
+-- the same on the bytes of the record, by 01's rules
+unfoldable pub bytesAfter : Table → ℕ → List Event → List ℕ → List ℕ
+bytesAfter t p [] e = e
+bytesAfter t p (v ∷ vs) e = bytesAfter t p vs (alter (befalls t p v e) e)
+
+unfoldable pub entriesByBytes : Table → ℕ → List Event → List ℕ → List Entry
+entriesByBytes t p [] e = []
+entriesByBytes t p (v ∷ vs) e = entryOf t p (befalls t p v e) ∷ entriesByBytes t p vs (alter (befalls t p v e) e)
 
 -- "If a frame of the bag is refused, the whole bag is, by the number of its first bad frame."
 unfoldable pub framesFault : Table → ℕ → List (List ℕ) → ℕ

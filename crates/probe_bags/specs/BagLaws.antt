@@ -11,11 +11,12 @@ use Rattle.wake_log.specs.declared.Entry.{Entry}
 use Rattle.wake_log.specs.declared.Answer.{Answer}
 use Rattle.wake_log.specs.declared.Answer.the-variants.{Logged, Refused as Unlogged}
 use Rattle.probe_maps.specs.Maps.{Maps, AllWords, stateFault}
+use Rattle.probe_maps.specs.SameRecords.{SameRecord}
 use Rattle.probe_checks.specs.Checks.{heardFault}
 use Rattle.probe.specs.Answers.{Hears}
 use Rattle.probe_bags.specs.declared.Hearing.{Hearing}
 use Rattle.probe_bags.specs.declared.Hearing.the-variants.{Heard, Refused}
-use Rattle.probe_bags.specs.Bag.{framesOf, HearsBag}
+use Rattle.probe_bags.specs.Bag.{framesOf, eventsOf, bytesAfter, entriesByBytes, HearsBag}
 
 -- no line feed stands in it
 abbrev pub NoFeed : List ℕ → Type 0
@@ -40,10 +41,10 @@ firstRefusal [] = 0
 firstRefusal (Logged e ∷ rs) = firstRefusal rs
 firstRefusal (Unlogged n ∷ rs) = n
 
--- of the end p: calls on the maps m, of 64-bit words, with the log's first entries used
+-- of the end p: calls on the maps m, with the log's first entries used; `AllWords` is what a slice of 64-bit words has
 pub record BagLaws (x : Slices) (p : ℕ) : Type 0 where
   -- "The record afterwards is the one that hearing them singly would give", and so are the entries, "in the bag's order"
-  pub as-singly : (bag : List ℕ) (n : ℕ) (m m′ : Maps) (used : ℕ) (log log′ : List Entry) → AllWords m → HearsBag x p bag (Heard n) m m′ used log log′
+  pub as-singly : (bag : List ℕ) (n : ℕ) (m m′ : Maps) (used : ℕ) (log log′ : List Entry) → HearsBag x p bag (Heard n) m m′ used log log′
       → (rs : List Answer) (m″ : Maps) → Singly x p (framesOf bag) m rs m″
       → (m″ ≡ m′) × ((es : List Entry) × (rs ≡ map Logged es) × (log′ ≡ sets log used es) × (length es ≡ n))
   -- "and is the same in every order of the bag": an order of a bag that is heard is heard, and leaves the same record
@@ -54,6 +55,11 @@ pub record BagLaws (x : Slices) (p : ℕ) : Type 0 where
   pub same-frames : (bag bag′ : List ℕ) (n n′ : ℕ) (m m′ m″ : Maps) (used used′ : ℕ) (log log′ other other′ : List Entry) → AllWords m
       → ((l : List ℕ) → List·Mem l (framesOf bag) ↔ List·Mem l (framesOf bag′))
       → HearsBag x p bag (Heard n) m m′ used log log′ → HearsBag x p bag′ (Heard n′) m m″ used′ other other′ → m″ ≡ m′
+  -- on the bytes behind the maps: the maps left stand for the bytes that 01's rules leave, frame after frame, and the entries are theirs
+  pub on-bytes : (bag : List ℕ) (n : ℕ) (m m′ : Maps) (e : List ℕ) (used : ℕ) (log log′ : List Entry) → SameRecord (x .links) m e
+      → HearsBag x p bag (Heard n) m m′ used log log′
+      → (let vs = eventsOf (tableOf x) (framesOf bag) in
+      SameRecord (x .links) m′ (bytesAfter (tableOf x) p vs e) × (log′ ≡ sets log used (entriesByBytes (tableOf x) p vs e)))
   -- "An empty bag changes nothing."
   pub empty-bag : (r : Hearing) (m m′ : Maps) (used : ℕ) (log log′ : List Entry) → HearsBag x p [] r m m′ used log log′ → (m′ ≡ m) × (log′ ≡ log)
   -- "If a frame of the bag is refused, the whole bag is, by the number of its first bad frame": that which its call alone would answer

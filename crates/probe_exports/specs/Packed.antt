@@ -3,8 +3,10 @@
 use Prim.Native.Nat.{ℕ, _-_}
 use mathlib.Core.Path.{_≡_}
 use mathlib.Core.Bool.{cond}
-use mathlib.Core.List.{List, [], _∷_}
+use mathlib.Core.List.{List, [], _∷_, map}
+use lib.Dec.{eqb}
 use lib.ListN.{length}
+use lib.Seq.{sets}
 use Rattle.range.specs.Reply.{replyOf}
 use Rattle.table.specs.Table.{Table}
 use Rattle.table.specs.Slices.{Slices, tableOf}
@@ -19,7 +21,8 @@ use Rattle.probe_maps.specs.MapRules.{befallsMaps}
 use Rattle.probe.specs.Answers.{Befallen, askedEvent, askedOut, opensFault, hearsFault, askFault}
 use Rattle.probe.specs.declared.Kind.{Kind}
 use Rattle.probe_turning.specs.Turned.{toMapsFault, toBytesFault, turnedMaps, turnedBytes}
-use Rattle.packed_answers.specs.Packed.{packedValue, packedAnswer, packedAfter}
+use Rattle.probe_bags.specs.Bag.{framesOf, eventsOf, mapsAfter, entriesAfter, hearsBagFault}
+use Rattle.packed_answers.specs.Packed.{packedValue, packedEntry, packedAnswer, packedAfter}
 
 pub record BefallenPacked (fault : ℕ) (t : Table) (p : ℕ) (event : Event) (r : ℕ) (before after : Maps) : Type 0 where
   pub answer : r ≡ packedAnswer (answerOf fault (entryOf t p (befallsMaps t p event before)))
@@ -33,6 +36,12 @@ pub record AsksPacked (fault : ℕ) (t : Table) (p : ℕ) (k : Kind) (i : ℕ) (
 pub record LogsAtEndPacked (fault : ℕ) (t : Table) (p : ℕ) (event : Event) (r : ℕ) (before after : Maps) (used : ℕ) (log log′ : List ℕ) : Type 0 where
   pub befallen : BefallenPacked fault t p event r before after
   pub log-after : log′ ≡ packedAfter log used (answerOf fault (entryOf t p (befallsMaps t p event before)))
+
+-- a bag with a log: the entries stand behind its used ones, or it is unchanged
+pub record HeardBagPacked (fault : ℕ) (t : Table) (p : ℕ) (ls : List (List ℕ)) (r : ℕ) (before after : Maps) (used : ℕ) (log log′ : List ℕ) : Type 0 where
+  pub answer : r ≡ packedValue (replyOf fault (length ls ∷ []))
+  pub maps-after : after ≡ cond (eqb fault 0) (mapsAfter t p (eventsOf t ls) before) before
+  pub log-after : log′ ≡ cond (eqb fault 0) (sets log used (map packedEntry (entriesAfter t p (eventsOf t ls) before))) log
 
 -- The calls of the end p, over the table in its slices: as `Opens`, `Hears` and `AsksFor`, the answer packed.
 
@@ -53,6 +62,11 @@ OpensLoggedPacked x p r before after used log log′ =
 abbrev pub HearsLoggedPacked : Slices → ℕ → List ℕ → ℕ → Maps → Maps → ℕ → List ℕ → List ℕ → Type 0
 HearsLoggedPacked x p frame r before after used log log′ =
     LogsAtEndPacked (hearsFault x p before frame (length log - used)) (tableOf x) p (heardOf (tableOf x) (frameOf frame)) r before after used log log′
+
+-- as `HearsBag`
+abbrev pub HearsBagPacked : Slices → ℕ → List ℕ → ℕ → Maps → Maps → ℕ → List ℕ → List ℕ → Type 0
+HearsBagPacked x p bag r before after used log log′ =
+    HeardBagPacked (hearsBagFault x p before bag (length log - used)) (tableOf x) p (framesOf bag) r before after used log log′
 
 -- Turning: as `TurnsToMaps` and `TurnsToBytes`, the answer packed.
 

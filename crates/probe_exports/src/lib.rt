@@ -1,18 +1,22 @@
-// The library of one end for C and Rust: open and hear, without a log and with one; ask, rests; its record turned from bytes into maps and back.
+// The library of one end for C and Rust: open and hear, without a log and with one; a bag of frames; ask, rests; its record turned from bytes into maps and back.
 ghost use mathlib.Core.Path.{_≡_};
+ghost use Prim.Native.Nat.{ℕ, _≤_};
 ghost use Rattle.table.specs.Slices.{slicesOf};
 ghost use Rattle.probe_maps.specs.Maps.{rows};
 ghost use Rattle.probe.specs.declared.Kind.the-variants.{Offer, Refusal};
 ghost use Rattle.probe.specs.Answers.{askedReply, restingReply, whetherRests};
 ghost use Rattle.probe_turning.specs.Turned.{turningReply};
+ghost use Rattle.probe_bags.specs.declared.Hearing.the-variants.{Heard};
+ghost use Rattle.probe_bags.specs.Bag.{hearingReply};
 ghost use Rattle.packed_answers.specs.Packed.{packedValue};
-ghost use Rattle.probe_exports.specs.Packed.{OpensPacked, HearsPacked, AsksForPacked, OpensLoggedPacked, HearsLoggedPacked, TurnsToMapsPacked, TurnsToBytesPacked};
+ghost use Rattle.probe_exports.specs.Packed.{OpensPacked, HearsPacked, AsksForPacked, OpensLoggedPacked, HearsLoggedPacked, HearsBagPacked, TurnsToMapsPacked, TurnsToBytesPacked};
 use packed_answers::ANSWER_BASE;
 use packed_answers::logs;
 use packed_answers::packed_answer;
 use probe::Asked;
 use probe::Kind;
 use probe::Resting;
+use probe_bags::Hearing;
 use probe_turning::Turning;
 
 fn packed_asked(r: Asked) -> u64
@@ -45,6 +49,16 @@ fn packed_turning(r: Turning) -> u64
     match r {
         Turning::Turned => ANSWER_BASE,
         Turning::Refused(refusal) => refusal as u64,
+    }
+}
+
+fn packed_hearing(r: Hearing) -> u64
+    requires { ⌜ ((n : ℕ) → r ≡ Heard n → n ≤ 64) ⌝ }
+    ensures { λ n. ⌜ n ≡ packedValue (hearingReply r) ⌝ }
+{
+    match r {
+        Hearing::Heard(count) => ANSWER_BASE + count as u64,
+        Hearing::Refused(refusal) => refusal as u64,
     }
 }
 
@@ -210,6 +224,53 @@ pub extern "C" fn planner_probe_hear_logged(
         wake_log::storing::free(used, log.len()),
     );
     logs::store(log, used, answer)
+}
+
+// A bag heard with a log of packed entries, the first of them used; its answer packed.
+#[no_mangle]
+pub extern "C" fn planner_probe_hear_bag(
+    number: u16,
+    probes: u16,
+    links: u16,
+    needs: &[u16],
+    lows: &[u16],
+    highs: &[u16],
+    costs: &[u16],
+    probe: u16,
+    standing: &mut [u64],
+    refused_out: &mut [u64],
+    held: &mut [u64],
+    refused_in: &mut [u64],
+    bag: &[u8],
+    log: &mut [u64],
+    used: usize,
+) -> u64
+    ensures { λ r. let x = slicesOf number probes links (now (needs .entry)) (now (lows .entry)) (now (highs .entry)) (now (costs .entry)) in
+        let before = rows (now (standing .entry)) (now («refused_out» .entry)) (now (held .entry)) (now («refused_in» .entry)) in
+        let after = rows (now (standing .exit)) (now («refused_out» .exit)) (now (held .exit)) (now («refused_in» .exit)) in
+        ⌜ HearsBagPacked x probe (now (bag .entry)) r before after used (now (log .entry)) (now (log .exit)) ⌝ }
+{
+    let told = probe_hearing::tell_bag(
+        number,
+        probes,
+        links,
+        needs,
+        lows,
+        highs,
+        costs,
+        probe,
+        standing,
+        refused_out,
+        held,
+        refused_in,
+        bag,
+        used,
+        log.len(),
+    );
+    let entries = told.entries;
+    bag_entries::logs::store_all(log, used, entries);
+    let answer = told.answer;
+    packed_hearing(answer)
 }
 
 // `probe::ask` for an offer, its answer packed.

@@ -2,18 +2,19 @@
 use Prim.Native.Nat.{ℕ, _≤_}
 use mathlib.Core.Path.{_≡_, refl, sym, _∙_, ap}
 use mathlib.Core.Bool.{Bool, true, false, cond}
-use mathlib.Core.List.{List, []}
+use mathlib.Core.List.{List, [], _∷_}
 use native.Mathlib.Omega.{arith}
 use lib.Dec.{eqb}
 use lib.ListN.{length, take}
 use borrow.Author.Tests.{eqb-true}
+use Rattle.range.specs.Reply.{refusal, values, replyOf}
 use Rattle.table.specs.Table.{Table}
 use Rattle.wake_log.specs.declared.Entry.{Entry}
 use Rattle.probe_maps.specs.Maps.{Maps}
 use Rattle.bag_entries.specs.Entries.{entriesOf}
 use Rattle.bag_entries.proofs.EntriesLaws.{of-entries}
 use Rattle.probe_bags.specs.declared.Hearing.the-variants.{Heard, Refused}
-use Rattle.probe_bags.specs.Bag.{eventsOf, entriesAfter, bagFault}
+use Rattle.probe_bags.specs.Bag.{eventsOf, entriesAfter, bagFault, hearingReply}
 use Rattle.probe_bags.proofs.Faults.{none-many, none-short, no-fault}
 use Rattle.probe_bags.proofs.Steps.{length-events, length-entries}
 use Rattle.probe_hearing.specs.declared.ToldBag.{ToldBag}
@@ -57,6 +58,13 @@ module _ (state : ℕ) (t : Table) (p : ℕ) (ls : List (List ℕ)) (free : ℕ)
       go true f is =
           ap (λ (x : ToldBag). take (x .entries .count) (x .entries .entries)) is ∙ of-entries es (let m = as-many in omega (arith, m, f refl .0))
       go false f is = ap (λ (x : ToldBag). take (x .entries .count) (x .entries .entries)) is
+
+  pub bag-reply : hearingReply (r .answer) ≡ replyOf fault (length ls ∷ [])
+  bag-reply = ap (λ (x : ToldBag). hearingReply (x .answer)) (c .told) ∙ go (eqb fault 0)
+    where
+      go : (b : Bool) → hearingReply (cond b (Heard (length ls)) (Refused fault)) ≡ cond b (values (length ls ∷ [])) (refusal fault)
+      go true = refl
+      go false = refl
 
   -- the count that is answered
   pub bag-count : (n : ℕ) → r .answer ≡ Heard n → n ≤ 64

@@ -58,7 +58,7 @@ use Rattle.probe_log.proofs.hear_logged as hear-logged
 use Rattle.probe_log.proofs.hear_logged.Symbol as hear-logged-def
 use Rattle.probe_log.proofs.hear_logged.Symbol.{name as #probe-log·hear-logged}
 use Rattle.probe_log.proofs.hear_logged.Met as hear-logged-thm
-use Rattle.script_m11.proofs.Lent.{Entries, entriesTy, entriesVal, room-16, cells-in, cells-out}
+use Rattle.probe_log.proofs.Lent.{Entries, entriesTy, entriesVal, room-16, cells-in, cells-out}
 use Rattle.script_m11.proofs.keep_frame.Key.{name as #script-m11·keep-frame}
 use Rattle.script_m11.proofs.keep_frame as keep-frame
 use Rattle.script_m11.proofs.keep_frame.Statement as stated

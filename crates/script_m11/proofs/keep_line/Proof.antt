@@ -57,7 +57,7 @@ use Rattle.fleet_log.proofs.event_logged as event-logged
 use Rattle.fleet_log.proofs.event_logged.Symbol as event-logged-def
 use Rattle.fleet_log.proofs.event_logged.Symbol.{name as #fleet-log·event-logged}
 use Rattle.fleet_log.proofs.event_logged.Met as event-logged-thm
-use Rattle.script_m11.proofs.Lent.{Entries, entriesTy, entriesVal, room-16, cells-in, cells-out}
+use Rattle.probe_log.proofs.Lent.{Entries, entriesTy, entriesVal, room-16, cells-in, cells-out}
 use Rattle.script_m11.proofs.keep_line.Key.{name as #script-m11·keep-line}
 use Rattle.script_m11.proofs.keep_line as keep-line
 use Rattle.script_m11.proofs.keep_line.Statement as stated

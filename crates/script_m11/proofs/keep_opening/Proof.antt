@@ -58,7 +58,7 @@ use Rattle.probe_log.proofs.open_logged as open-logged
 use Rattle.probe_log.proofs.open_logged.Symbol as open-logged-def
 use Rattle.probe_log.proofs.open_logged.Symbol.{name as #probe-log·open-logged}
 use Rattle.probe_log.proofs.open_logged.Met as open-logged-thm
-use Rattle.script_m11.proofs.Lent.{Entries, entriesTy, entriesVal, room-16, cells-in, cells-out}
+use Rattle.probe_log.proofs.Lent.{Entries, entriesTy, entriesVal, room-16, cells-in, cells-out}
 use Rattle.script_m11.proofs.keep_opening.Key.{name as #script-m11·keep-opening}
 use Rattle.script_m11.proofs.keep_opening as keep-opening
 use Rattle.script_m11.proofs.keep_opening.Statement as stated

@@ -56,7 +56,7 @@ use Rattle.wake_log.proofs.entry_at as entry-at
 use Rattle.wake_log.proofs.entry_at.Symbol as entry-at-def
 use Rattle.wake_log.proofs.entry_at.Symbol.{name as #wake-log·entry-at}
 use Rattle.wake_log.proofs.entry_at.Met as entry-at-thm
-use Rattle.script_m11.proofs.Lent.{Entries, entriesTy, entriesVal, room-16, parts-in, parts-out, shared-back}
+use Rattle.probe_log.proofs.Lent.{Entries, entriesTy, entriesVal, room-16, parts-in, parts-out, shared-back}
 use Rattle.script_m11.proofs.read_back.Key.{name as #script-m11·read-back}
 use Rattle.script_m11.proofs.read_back as read-back
 use Rattle.script_m11.proofs.read_back.Statement as stated
