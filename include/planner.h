@@ -25,7 +25,7 @@
  *    3 probes 0 or over 256, or links over 2,048       22 a probe with more standing or held than its spare
  *    4 low not below high, or high not below probes    23 a frame of another table number
  *    5 a link not after the one before it              24 no such probe or link, or a frame for another probe
- *    6 the closing line absent, different or followed  26 the log is full
+ *    6 the closing line absent, different or followed  26 the log has too few free entries
  *    8 slices of unequal length, or one too short      27 a frame that could never yet have been sent
  *    9 a frame kind with no meaning here               32 a bag of more than 64 frames
  * A wrong bit of a map is on another probe's link, past the last link, or on a link that is set in both maps of a

@@ -1,7 +1,7 @@
 //! An end's opening and hearing as plain Rust, apart from the second implementation, to time the library
 //! against: on maps with all checks, and on bytes, as a yardstick, for a legal table.
 
-use crate::ends::{Entry, Frame, Kind, What, MOST_FRAMES};
+use crate::ends::{Entry, Frame, Kind, What, LINE, MOST_FRAMES};
 use crate::events::shuffled;
 use crate::ffi;
 use crate::maps::{words, LentMaps};
@@ -25,6 +25,31 @@ fn spare(given: Slices, probe: u16, degree: usize) -> usize {
     degree - counted_need(need.copied().unwrap_or(0), degree)
 }
 
+/// A frame's line, each digit read once.
+fn read(line: &[u8]) -> Result<Frame, u8> {
+    let [digits @ .., b'\n'] = line else {
+        return Err(1);
+    };
+    if digits.len() != LINE - 1 || digits.contains(&b'\n') {
+        return Err(1);
+    }
+    let mut all = 0u64;
+    for &byte in digits {
+        let digit = match byte {
+            b'0'..=b'9' => byte - b'0',
+            b'a'..=b'f' => byte - b'a' + 10,
+            _ => return Err(2),
+        };
+        all = all << 4 | u64::from(digit);
+    }
+    Ok(Frame {
+        kind: (all >> 48) as u8,
+        number: (all >> 32) as u16,
+        from: (all >> 16) as u16,
+        to: all as u16,
+    })
+}
+
 /// The frame's kind and sender: 1, 2, 9, 23, then 24 where it is for another probe.
 fn heard(given: Slices, probe: u16, line: &[u8]) -> Result<(Kind, u16), u8> {
     let Frame {
@@ -32,7 +57,7 @@ fn heard(given: Slices, probe: u16, line: &[u8]) -> Result<(Kind, u16), u8> {
         number,
         from,
         to,
-    } = Frame::of_line(line)?;
+    } = read(line)?;
     let kind = match kind {
         1 => Kind::Offer,
         2 => Kind::Refusal,

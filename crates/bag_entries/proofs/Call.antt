@@ -33,15 +33,13 @@ use denote.Triple.Walked.{says}
 use Rattle.wake_log.specs.declared.Entry.{Entry}
 use Rattle.wake_log.proofs.Entry as T
 use Rattle.bag_entries.specs.declared.Entries.{Entries}
+use Rattle.wake_log.proofs.Call.{lentLog}
 use Rattle.bag_entries.proofs.Entries as B
 use Rattle.bag_entries.proofs.Entries.Laws as B′
 use Rattle.bag_entries.proofs.logs.append_all as append-all
 
 abbrev pub AppendAll : {M : Type 1} (𝓤 : URA M) (H : Heap 𝓤) → Atoms 𝓤 → (Memory → SProp 𝓤) → (Routine → Fun 𝓤) → Contract 𝓤
 AppendAll 𝓤 H A mem run = tripleOf 𝓤 H A append-all.signature (append-all.spec 𝓤 H A mem run)
-
-abbrev pub lentLog : RefT (List Entry) → Val
-lentLog x = sliceVal (ptr x) (length (now x))
 
 abbrev pub spelled : Entries → Val
 spelled = LL.val B.the-type B′.the-laws

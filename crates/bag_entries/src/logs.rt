@@ -9,7 +9,7 @@ ghost use Rattle.wake_log.specs.Log.{noEntry};
 ghost use Rattle.packed_answers.specs.Packed.{packedEntry};
 
 // The entry at a place.
-pub fn entry_in(all: Entries, k: usize) -> wake_log::Entry
+fn entry_in(all: Entries, k: usize) -> wake_log::Entry
     requires { ⌜ k < 64 ⌝ }
     ensures { λ r. ⌜ r ≡ getD (all .entries) k noEntry ⌝ }
 {

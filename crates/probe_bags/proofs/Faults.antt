@@ -61,6 +61,16 @@ module _ (state : ℕ) (t : Table) (p : ℕ) (ls : List (List ℕ)) (free : ℕ)
   frame-fault z l bad =
       or-none state (orElse (manyFault ls) late) z ∙ or-none (manyFault ls) late (few-pass ls l) ∙ or-some (framesFault t p ls) last bad
 
+  -- where the frames pass, what is left
+  pub behind-frames : state ≡ 0 → length ls ≤ 64 → framesFault t p ls ≡ 0 → bagFault state t p ls free ≡ last
+  unfolding bagFault
+  behind-frames z l fine =
+      or-none state (orElse (manyFault ls) late) z ∙ or-none (manyFault ls) late (few-pass ls l) ∙ or-none (framesFault t p ls) last fine
+
+  -- and behind the probe
+  pub room-last : state ≡ 0 → length ls ≤ 64 → framesFault t p ls ≡ 0 → p < t .probes → bagFault state t p ls free ≡ roomFault ls free
+  room-last z l fine k = behind-frames z l fine ∙ or-none (probeFault t p) (roomFault ls free) (rw (lt-ltb p (t .probes) k))
+
   pub no-fault : bagFault state t p ls free ≡ 0 → NoFault state t p ls free
   unfolding bagFault
   no-fault z =

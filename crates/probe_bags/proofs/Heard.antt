@@ -17,7 +17,7 @@ use Rattle.probe_record.specs.Record.{outbound, inbound, ownWith, held}
 use Rattle.probe_rules.specs.declared.Event.{Event}
 use Rattle.probe_rules.specs.declared.Outcome.{Outcome}
 use Rattle.probe_rules.specs.Rules.{alter}
-use Rattle.probe_rules.specs.Within.{IsFrame, OwnLink, OwnEvent}
+use Rattle.probe_rules.specs.Within.{IsHeard, OwnLink, OwnEvent}
 use Rattle.probe_rules.proofs.Befalls.{Befell, opened, enough, all-tried, taken, displacing, refused, seen, learnt, known}
 use Rattle.probe_theory.proofs.Stores.{out-here, out-else, out-kept, in-here, in-else, in-kept}
 use Rattle.probe_bags.proofs.Settled.{offers, refuses, candidate, above, inAfter, outAfter, keep, lose}
@@ -166,27 +166,27 @@ module _ (t : Table) (o : Order (t .links) (dearer t)) (p : ℕ) (e : List ℕ) 
   in-step (known k y) own offered i l = refl
 
   -- a refusal of k is there, or is learnt
-  out-refused : (b′ : ℕ → ℕ) (turned : ℕ → Bool) (k i : ℕ) → b′ k ≡ 2 → ((j : ℕ) → (j ≡ k → ⊥) → b′ j ≡ outbound e j)
-      → outAfter b′ turned i ≡ outAfter (outbound e) (λ j. eqb j k || turned j) i
-  out-refused b′ turned k i two off = go (ℕ-discrete i k)
+  out-refused : (b′ : ℕ → ℕ) (refusing : ℕ → Bool) (k i : ℕ) → b′ k ≡ 2 → ((j : ℕ) → (j ≡ k → ⊥) → b′ j ≡ outbound e j)
+      → outAfter b′ refusing i ≡ outAfter (outbound e) (λ j. eqb j k || refusing j) i
+  out-refused b′ refusing k i two off = go (ℕ-discrete i k)
     where
       either : (x : Bool) → _≡_ {A = ℕ} (cond x 2 2) 2
       either true = refl
       either false = refl
 
-      go : Dec (i ≡ k) → outAfter b′ turned i ≡ outAfter (outbound e) (λ j. eqb j k || turned j) i
-      go (yes s) = rw (s, two, eq-eqb k k refl) (either (turned k))
+      go : Dec (i ≡ k) → outAfter b′ refusing i ≡ outAfter (outbound e) (λ j. eqb j k || refusing j) i
+      go (yes s) = rw (s, two, eq-eqb k k refl) (either (refusing k))
       go (no d) = rw (off i d, ne-eqb i k d)
 
-  pub out-step : {v : Event} {c : Outcome} → Befell t p e v c → OwnEvent t p v → IsFrame v → (turned : ℕ → Bool) (i : ℕ)
-      → outAfter (outbound (alter c e)) turned i ≡ outAfter (outbound e) (λ j. refuses v j || turned j) i
-  out-step (opened k a z m h) own frame turned i = absurd frame
-  out-step (enough m) own frame turned i = absurd frame
-  out-step (all-tried m h) own frame turned i = absurd frame
-  out-step (taken k z m) own frame turned i = rw (out-kept e k 1 i)
-  out-step (displacing k c z m a y d h) own frame turned i = rw (out-kept (set e (2 * k + 1) 1) c 2 i, out-kept e k 1 i)
-  out-step (refused k z m h) own frame turned i = rw (out-kept e k 2 i)
-  out-step (seen k d) own frame turned i = refl
-  out-step (learnt k d) own frame turned i =
-      out-refused (outbound (set e (2 * k) 2)) turned k i (out-here e k 2 (let l = own .0 in omega arith)) (λ j f. out-else e k 2 j f)
-  out-step (known k y) own frame turned i = out-refused (outbound e) turned k i y (λ j f. refl)
+  pub out-step : {v : Event} {c : Outcome} → Befell t p e v c → OwnEvent t p v → IsHeard v → (refusing : ℕ → Bool) (i : ℕ)
+      → outAfter (outbound (alter c e)) refusing i ≡ outAfter (outbound e) (λ j. refuses v j || refusing j) i
+  out-step (opened k a z m h) own frame refusing i = absurd frame
+  out-step (enough m) own frame refusing i = absurd frame
+  out-step (all-tried m h) own frame refusing i = absurd frame
+  out-step (taken k z m) own frame refusing i = rw (out-kept e k 1 i)
+  out-step (displacing k c z m a y d h) own frame refusing i = rw (out-kept (set e (2 * k + 1) 1) c 2 i, out-kept e k 1 i)
+  out-step (refused k z m h) own frame refusing i = rw (out-kept e k 2 i)
+  out-step (seen k d) own frame refusing i = refl
+  out-step (learnt k d) own frame refusing i =
+      out-refused (outbound (set e (2 * k) 2)) refusing k i (out-here e k 2 (let l = own .0 in omega arith)) (λ j f. out-else e k 2 j f)
+  out-step (known k y) own frame refusing i = out-refused (outbound e) refusing k i y (λ j f. refl)

@@ -2,8 +2,8 @@ pub mod Steps
 pub mod Frames
 pub mod Settled
 pub mod Heard
-pub mod Records
 pub mod Bytes
+pub mod Records
 pub mod Members
 pub mod Faults
 pub mod Passing

@@ -18,25 +18,25 @@ use Rattle.probe_record.specs.Record.{outbound, inbound, ownWith}
 use Rattle.probe_record.proofs.Bytes.{GoodRecord}
 use Rattle.probe_rules.specs.declared.Event.{Event}
 use Rattle.probe_rules.specs.Rules.{befalls, alter}
-use Rattle.probe_rules.specs.Within.{IsFrame, OwnEvent}
+use Rattle.probe_rules.specs.Within.{IsHeard, OwnEvent}
 use Rattle.probe_rules.proofs.Befalls.{Befell, befell-rising, own-within}
 use Rattle.probe_maps.specs.Maps.{Maps, bytesOf, mapsOf}
 use Rattle.probe_maps.specs.GoodMaps.{GoodMaps}
-use Rattle.probe_maps.specs.MapRules.{befallsMaps, alterMaps}
-use Rattle.probe_maps.proofs.Rounds.{pairs-equal, maps-bytes, bytes-maps}
+use Rattle.probe_maps.proofs.Rounds.{pairs-equal, maps-bytes}
 use Rattle.probe_maps.proofs.Faults.{maps-good-record}
 use Rattle.probe_theory.proofs.Usable.{befell-good}
-use Rattle.probe_bags.specs.Bag.{eventsOf, mapsAfter, bytesAfter}
-use Rattle.probe_bags.proofs.Steps.{AllOwn, all-frames, good-step}
+use Rattle.probe_bags.specs.Bag.{eventsOf, mapsAfter, bytesByRules}
+use Rattle.probe_bags.proofs.Steps.{AllOwn, all-frames}
 use Rattle.probe_bags.proofs.Settled.{offers, refuses, some, candidate, inAfter, outAfter, few}
 use Rattle.probe_bags.proofs.Heard.{in-step, out-step}
+use Rattle.probe_bags.proofs.Bytes.{on-bytes}
 
 -- no event is an opening
-abbrev pub AllFrames : List Event → Type 0
-AllFrames [] = Unit
-AllFrames (v ∷ vs) = IsFrame v × AllFrames vs
+abbrev pub AllHeard : List Event → Type 0
+AllHeard [] = Unit
+AllHeard (v ∷ vs) = IsHeard v × AllHeard vs
 
-pub events-frames : (t : Table) (ls : List (List ℕ)) → AllFrames (eventsOf t ls)
+pub events-frames : (t : Table) (ls : List (List ℕ)) → AllHeard (eventsOf t ls)
 unfolding eventsOf
 events-frames t [] = tt
 events-frames t (l ∷ ls) = (all-frames t (frameOf l), events-frames t ls)
@@ -54,8 +54,8 @@ module _ (t : Table) (rises : RisingLinks t) (p : ℕ) where
   good-after-one : (v : Event) (e : List ℕ) → GoodRecord t p e → OwnEvent t p v → GoodRecord t p (after v e)
   good-after-one v e good own = befell-good t p e good (fell e v own) own
 
-  good-after : (vs : List Event) (e : List ℕ) → GoodRecord t p e → AllOwn t p vs → GoodRecord t p (bytesAfter t p vs e)
-  unfolding bytesAfter
+  good-after : (vs : List Event) (e : List ℕ) → GoodRecord t p e → AllOwn t p vs → GoodRecord t p (bytesByRules t p vs e)
+  unfolding bytesByRules
   good-after [] e good own = good
   good-after (v ∷ vs) e good own = good-after vs (after v e) (good-after-one v e good (own .0)) (own .1)
 
@@ -76,26 +76,26 @@ module _ (t : Table) (rises : RisingLinks t) (p : ℕ) where
       ones j h = eqb-true (inbound e j) 1 (and-right (touches t p j) (eqb (inbound e j) 1) (sym (plain j) ∙ h))
 
   heard-in : (vs : List Event) (e : List ℕ) → GoodRecord t p e → AllOwn t p vs → (i : ℕ) → i < t .links
-      → inbound (bytesAfter t p vs e) i ≡ inAfter t p (inbound e) (some offers vs) i
-  unfolding bytesAfter
+      → inbound (bytesByRules t p vs e) i ≡ inAfter t p (inbound e) (some offers vs) i
+  unfolding bytesByRules
   heard-in [] e good own i l = sym (at-rest e good i l)
   heard-in (v ∷ vs) e good own i l =
       heard-in vs (after v e) (good-after-one v e good (own .0)) (own .1) i l
       ∙ in-step t order p e (good .size) (fell e v (own .0)) (own .0) (some offers vs) i l
 
-  heard-out : (vs : List Event) (e : List ℕ) → GoodRecord t p e → AllOwn t p vs → AllFrames vs → (i : ℕ)
-      → outbound (bytesAfter t p vs e) i ≡ outAfter (outbound e) (some refuses vs) i
-  unfolding bytesAfter
+  heard-out : (vs : List Event) (e : List ℕ) → GoodRecord t p e → AllOwn t p vs → AllHeard vs → (i : ℕ)
+      → outbound (bytesByRules t p vs e) i ≡ outAfter (outbound e) (some refuses vs) i
+  unfolding bytesByRules
   heard-out [] e good own frames i = refl
   heard-out (v ∷ vs) e good own frames i =
       heard-out vs (after v e) (good-after-one v e good (own .0)) (own .1) (frames .1) i
       ∙ out-step t order p e (good .size) (fell e v (own .0)) (own .0) (frames .0) (some refuses vs) i
 
   module _ (vs ws : List Event) (own : AllOwn t p vs) (own′ : AllOwn t p ws) where
-    pub same-bytes : AllFrames vs → AllFrames ws → ((i : ℕ) → some offers vs i ≡ some offers ws i) → ((i : ℕ) → some refuses vs i ≡ some refuses ws i)
-        → (e : List ℕ) → GoodRecord t p e → bytesAfter t p vs e ≡ bytesAfter t p ws e
+    pub same-bytes : AllHeard vs → AllHeard ws → ((i : ℕ) → some offers vs i ≡ some offers ws i) → ((i : ℕ) → some refuses vs i ≡ some refuses ws i)
+        → (e : List ℕ) → GoodRecord t p e → bytesByRules t p vs e ≡ bytesByRules t p ws e
     same-bytes frames frames′ same-offers same-refuses e good =
-        pairs-equal (t .links) (bytesAfter t p vs e) (bytesAfter t p ws e) (good-after vs e good own .size) (good-after ws e good own′ .size)
+        pairs-equal (t .links) (bytesByRules t p vs e) (bytesByRules t p ws e) (good-after vs e good own .size) (good-after ws e good own′ .size)
         (λ i l.
         heard-out vs e good own frames i ∙ ap (λ (f : ℕ → Bool). outAfter (outbound e) f i) (fun-ext same-refuses) ∙ sym (heard-out ws e good own′ frames′ i))
         (λ i l.
@@ -103,17 +103,11 @@ module _ (t : Table) (rises : RisingLinks t) (p : ℕ) where
 
   -- maps go as their bytes do
   maps-by-bytes : (vs : List Event) (m : Maps) → GoodMaps t p m → AllOwn t p vs
-      → mapsAfter t p vs m ≡ mapsOf (t .links) (bytesAfter t p vs (bytesOf (t .links) m))
-  unfolding mapsAfter bytesAfter
-  maps-by-bytes [] m good own = sym (maps-bytes (t .links) m (good .sound))
-  maps-by-bytes (v ∷ vs) m good own =
-      let e = bytesOf (t .links) m in
-      let left = good-after-one v e (maps-good-record t p m good) (own .0) in
-      let bytes = bytes-maps (t .links) (after v e) (left .size) (λ i l. (left .bytes i l .out-small, left .bytes i l .in-small)) in
-      maps-by-bytes vs (alterMaps (t .links) (befallsMaps t p v m) m) (good-step t rises p m good v (own .0)) (own .1)
-      ∙ ap (λ (f : List ℕ). mapsOf (t .links) (bytesAfter t p vs f)) bytes
+      → mapsAfter t p vs m ≡ mapsOf (t .links) (bytesByRules t p vs (bytesOf (t .links) m))
+  maps-by-bytes vs m good own =
+      on-bytes t p vs own m (bytesOf (t .links) m) (record { maps-are = sym (maps-bytes (t .links) m (good .sound)); bytes-are = refl }) .0 .maps-are
 
-  pub same-maps : (vs ws : List Event) → AllOwn t p vs → AllOwn t p ws → AllFrames vs → AllFrames ws → ((i : ℕ) → some offers vs i ≡ some offers ws i)
+  pub same-maps : (vs ws : List Event) → AllOwn t p vs → AllOwn t p ws → AllHeard vs → AllHeard ws → ((i : ℕ) → some offers vs i ≡ some offers ws i)
       → ((i : ℕ) → some refuses vs i ≡ some refuses ws i) → (m : Maps) → GoodMaps t p m → mapsAfter t p vs m ≡ mapsAfter t p ws m
   same-maps vs ws own own′ frames frames′ same-offers same-refuses m good =
       maps-by-bytes vs m good own

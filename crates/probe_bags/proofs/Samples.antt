@@ -21,11 +21,11 @@ unfolding sum first lowest best joined wordBit bit mapOf valueOf numberAt untilF
 bag-samples =
     record {
       heard = refl;
-      heard-turned = refl;
+      heard-reversed = refl;
       displaces = refl;
       refused = refl;
       left = refl;
-      left-turned = refl;
+      left-reversed = refl;
       again = refl;
       full = refl;
       empty-with-full-log = refl;

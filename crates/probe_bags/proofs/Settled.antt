@@ -59,7 +59,7 @@ module _ (t : Table) (p : ℕ) (a a′ : ℕ → Bool) (b b′ : ℕ → ℕ) wh
       go (inl h) = rw h
       go (inr h) = rw h (off i h)
 
-  -- The heart: a link x with enough dearer ones in the set is refused, now or in the end.
+  -- a link x with enough dearer ones in the set is refused, now or in the end.
   -- Those cheaper than x are refused with it or without it, and for the others x does not count.
   module _ (o : Order (t .links) (dearer t)) (x : ℕ) (lx : x < t .links) (into : a x ≡ true) (out : a′ x ≡ false)
       (same : (j : ℕ) → (j ≡ x → ⊥) → a′ j ≡ a j) (many : spare t p ≤ above t a x) where

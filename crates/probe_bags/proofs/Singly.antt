@@ -30,7 +30,8 @@ use Rattle.probe.specs.Answers.{hearsFault, Hears}
 use Rattle.probe.proofs.Answers.{befallen-answer}
 use Rattle.probe_bags.specs.Bag.{eventsOf, mapsAfter, entriesAfter, framesFault}
 use Rattle.probe_bags.specs.BagLaws.{Singly, no-call, one-call, firstRefusal}
-use Rattle.probe_bags.proofs.Steps.{heard-own, bad-first, good-first, frames-parts}
+use Rattle.probe_theory.proofs.EndLaws.{heard-own}
+use Rattle.probe_bags.proofs.Steps.{bad-first, good-first, frames-parts}
 use Rattle.probe_bags.proofs.Passing.{Passing, passing-step}
 
 pub rising-slices : (x : Slices) → slicesFault x ≡ 0 → RisingLinks (tableOf x)

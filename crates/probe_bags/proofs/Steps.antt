@@ -1,26 +1,21 @@
 -- The steps of a bag: frames that pass say events on own links, maps stay usable through them, and only what a table is read for counts.
-use Prim.Native.Nat.{ℕ, zero, suc, _<_}
+use Prim.Native.Nat.{ℕ, suc}
 use mathlib.Core.Path.{_≡_, refl, sym, _∙_, ap}
-use mathlib.Core.Logic.{_⊎_, inl, inr}
 use mathlib.Core.Bool.{Bool, true, false, cond}
 use mathlib.Core.List.{List, [], _∷_}
-use native.Mathlib.Omega.{arith}
 use lib.Dec.{eqb}
-use lib.ListN.{length, getD}
-use Rattle.range.proofs.Bools.{decided}
+use lib.ListN.{length}
 use Rattle.range.proofs.Faults.{or-none, or-some, or-left, or-right, or-same}
 use Rattle.table.specs.Table.{Table, ofSlices, between}
 use Rattle.table.specs.Legal.{RisingLinks}
-use Rattle.plan_theory.proofs.Settled.{near, back}
 use Rattle.wake_log.specs.declared.Entry.{Entry}
 use Rattle.probe_frame.specs.Frame.{Frame, frameOf}
 use Rattle.probe_rules.specs.declared.Event.{Event}
-use Rattle.probe_rules.specs.declared.Event.the-variants.{Opening, Offer, Refusal}
+use Rattle.probe_rules.specs.declared.Event.the-variants.{Offer, Refusal}
 use Rattle.probe_rules.specs.declared.Outcome.{Outcome}
 use Rattle.probe_rules.specs.Rules.{entryOf}
 use Rattle.probe_rules.specs.Frames.{heardOf}
-use Rattle.probe_rules.specs.Within.{IsFrame, OwnLink, OwnEvent}
-use Rattle.probe_rules.proofs.Frames.{between-across}
+use Rattle.probe_rules.specs.Within.{IsHeard, OwnEvent}
 use Rattle.probe_rules.proofs.Befalls.{befell-rising, own-within}
 use Rattle.probe_rules.proofs.OutcomeLaws.{entry-same, befalls-same}
 use Rattle.probe_maps.specs.Maps.{Maps, bytesOf}
@@ -28,8 +23,8 @@ use Rattle.probe_maps.specs.GoodMaps.{GoodMaps}
 use Rattle.probe_maps.specs.MapRules.{befallsMaps, alterMaps}
 use Rattle.probe_maps.proofs.Faults.{record-good-maps, maps-good-record}
 use Rattle.probe_checks.specs.Checks.{heardFault}
-use Rattle.probe_checks.proofs.Accepted.{heard-link, heard-to}
 use Rattle.probe_theory.proofs.Usable.{befell-good}
+use Rattle.probe_theory.proofs.EndLaws.{heard-own}
 use Rattle.probe_bags.specs.Bag.{eventsOf, mapsAfter, entriesAfter, framesFault}
 
 -- what befalls good maps leaves good ones
@@ -39,28 +34,14 @@ good-step t rises p m good v own =
     let e = bytesOf (t .links) m in
     record-good-maps t p _ (befell-good t p e (maps-good-record t p m good) (befell-rising t rises p e v (own-within t p v own)) own)
 
--- a frame that passes says an event on an own link
-pub heard-own : (t : Table) (p : ℕ) (l : List ℕ) → heardFault t p l ≡ 0 → OwnEvent t p (heardOf t (frameOf l))
-heard-own t p l e = go (decided (eqb (f .kind) 1))
-  where
-    f : Frame
-    f = frameOf l
-
-    own-link : OwnLink t p (between t (f .from) (f .to))
-    own-link = (heard-link t p l e, rw (← heard-to t p l e) (near (back (between-across t (f .from) (f .to) (heard-link t p l e)))))
-
-    go : (eqb (f .kind) 1 ≡ true) ⊎ (eqb (f .kind) 1 ≡ false) → OwnEvent t p (heardOf t f)
-    go (inl k) = rw k own-link
-    go (inr k) = rw k own-link
-
 -- a frame is no opening
-pub all-frames : (t : Table) (f : Frame) → IsFrame (heardOf t f)
+pub all-frames : (t : Table) (f : Frame) → IsHeard (heardOf t f)
 all-frames t f = go (eqb (f .kind) 1)
   where
     i : ℕ
     i = between t (f .from) (f .to)
 
-    go : (b : Bool) → IsFrame (cond b (Offer i) (Refusal i))
+    go : (b : Bool) → IsHeard (cond b (Offer i) (Refusal i))
     go true = tt
     go false = tt
 
@@ -113,14 +94,6 @@ all-own t p [] z = tt
 all-own t p (l ∷ ls) z =
     let a = frames-parts t p l ls z in
     (heard-own t p l (a .0), all-own t p ls (a .1))
-
-pub own-at : (t : Table) (p : ℕ) (vs : List Event) → AllOwn t p vs → (k : ℕ) → k < length vs → OwnEvent t p (getD vs k Opening)
-own-at t p [] own k l = absurd (omega arith)
-own-at t p (v ∷ vs) own zero l = own .0
-own-at t p (v ∷ vs) own (suc k) l = own-at t p vs (own .1) k (omega arith)
-
-pub own-frames : (t : Table) (p : ℕ) (ls : List (List ℕ)) → framesFault t p ls ≡ 0 → (k : ℕ) → k < length ls → OwnEvent t p (getD (eventsOf t ls) k Opening)
-own-frames t p ls z k l = own-at t p (eventsOf t ls) (all-own t p ls z) k (rw (length-events t ls) l)
 
 -- Maps and entries do not read the table's number and its probe count.
 module _ (number probes links : ℕ) (needs lows highs costs : List ℕ) (p : ℕ) where

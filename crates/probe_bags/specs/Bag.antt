@@ -42,13 +42,13 @@ entriesAfter t p [] m = []
 entriesAfter t p (v ∷ vs) m = entryOf t p (befallsMaps t p v m) ∷ entriesAfter t p vs (alterMaps (t .links) (befallsMaps t p v m) m)
 
 -- the same on the bytes of the record, by 01's rules
-unfoldable pub bytesAfter : Table → ℕ → List Event → List ℕ → List ℕ
-bytesAfter t p [] e = e
-bytesAfter t p (v ∷ vs) e = bytesAfter t p vs (alter (befalls t p v e) e)
+unfoldable pub bytesByRules : Table → ℕ → List Event → List ℕ → List ℕ
+bytesByRules t p [] e = e
+bytesByRules t p (v ∷ vs) e = bytesByRules t p vs (alter (befalls t p v e) e)
 
-unfoldable pub entriesByBytes : Table → ℕ → List Event → List ℕ → List Entry
-entriesByBytes t p [] e = []
-entriesByBytes t p (v ∷ vs) e = entryOf t p (befalls t p v e) ∷ entriesByBytes t p vs (alter (befalls t p v e) e)
+unfoldable pub entriesByRules : Table → ℕ → List Event → List ℕ → List Entry
+entriesByRules t p [] e = []
+entriesByRules t p (v ∷ vs) e = entryOf t p (befalls t p v e) ∷ entriesByRules t p vs (alter (befalls t p v e) e)
 
 -- "If a frame of the bag is refused, the whole bag is, by the number of its first bad frame."
 unfoldable pub framesFault : Table → ℕ → List (List ℕ) → ℕ

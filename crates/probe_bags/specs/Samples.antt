@@ -3,7 +3,6 @@ use Prim.Native.Nat.{ℕ}
 use mathlib.Core.Path.{_≡_}
 use mathlib.Core.List.{List, [], _∷_, _++_}
 use lib.ListN.{replicate}
-use Rattle.table.specs.Slices.{Slices}
 use Rattle.table_laws.specs.Samples.{bytes, m2Slices, m2}
 use Rattle.wake_log.specs.declared.Entry.{Entry}
 use Rattle.wake_log.specs.declared.What.the-variants.{Taken, TakenDisplacing, Refused, RefusalLearnt, NoChange}
@@ -36,11 +35,11 @@ faultWith bag free = hearsBagFault m2Slices 1 freshMaps bag free
 pub record BagSamples : Type 0 where
   -- in both orders the bag is heard; the entries differ, and the record is the same: the dearer offer held, the other refused
   pub heard : faultWith (offerOf0 ++ offerOf2) 2 ≡ 0
-  pub heard-turned : faultWith (offerOf2 ++ offerOf0) 2 ≡ 0
+  pub heard-reversed : faultWith (offerOf2 ++ offerOf0) 2 ≡ 0
   pub displaces : entriesIn (offerOf0 ++ offerOf2) ≡ record { probe = 1; what = Taken 0 } ∷ record { probe = 1; what = TakenDisplacing 1 0 } ∷ []
   pub refused : entriesIn (offerOf2 ++ offerOf0) ≡ record { probe = 1; what = Taken 1 } ∷ record { probe = 1; what = Refused 0 } ∷ []
   pub left : mapsLeft (offerOf0 ++ offerOf2) ≡ rows (0 ∷ []) (0 ∷ []) (2 ∷ []) (1 ∷ [])
-  pub left-turned : mapsLeft (offerOf2 ++ offerOf0) ≡ mapsLeft (offerOf0 ++ offerOf2)
+  pub left-reversed : mapsLeft (offerOf2 ++ offerOf0) ≡ mapsLeft (offerOf0 ++ offerOf2)
   -- a frame twice, and a refusal
   pub again : entriesIn (offerOf0 ++ offerOf0 ++ refusalOf2) ≡ record { probe = 1; what = Taken 0 } ∷ record { probe = 1; what = NoChange 0 } ∷ record { probe = 1; what = RefusalLearnt 1 } ∷ []
   -- 26: an entry too few; an empty bag needs none

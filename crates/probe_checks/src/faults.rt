@@ -32,7 +32,7 @@ fn event_of(kind: usize, link: usize) -> probe_rules::Event
     probe_rules::Event::Refusal(link)
 }
 
-// 1, 2, 9, 23, 24 of a frame's line, or what it says.
+// 1, 2, 9, 23, 24 of a frame's line, or what it says. A bag's frames are read by this one by one.
 pub fn check_frame(
     number: u16,
     links: usize,

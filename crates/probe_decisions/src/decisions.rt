@@ -9,7 +9,7 @@ ghost use mathlib.Core.List.{List};
 ghost use Prim.Native.Nat.{ℕ, _<_};
 ghost use Rattle.table.specs.Table.{Table};
 ghost use Rattle.probe_rules.specs.Rules.{opening, offer};
-ghost use Rattle.probe_rules.specs.Within.{EventWithin, IsFrame};
+ghost use Rattle.probe_rules.specs.Within.{EventWithin, IsHeard};
 ghost use Rattle.probe_maps.specs.Maps.{rows, bytesOf};
 ghost use Rattle.probe_maps.specs.MapRules.{befallsMaps};
 ghost use Rattle.probe_decisions.specs.EndOf.{EndRoom, EndOf};
@@ -82,7 +82,7 @@ pub fn decide(
     requires { ⌜ EndRoom links (now costs) (now own) (rows (now standing) (now «refused_out») (now held) (now «refused_in»)) × EventWithin links event ⌝ }
     ensures { λ r. let m = rows (now (standing .entry)) (now («refused_out» .entry)) (now (held .entry)) (now («refused_in» .entry)) in
         ⌜ ((t : Table) → EndOf t probe links (now (needs .entry)) (now (costs .entry)) (now (own .entry)) m → r ≡ befallsMaps t probe event m)
-        × (IsFrame event → now (own .exit) ≡ now (own .entry)) ⌝ }
+        × (IsHeard event → now (own .exit) ≡ now (own .entry)) ⌝ }
 {
     match event {
         Event::Opening => decide_opening(own, links, needs, costs, probe, standing, refused_out),

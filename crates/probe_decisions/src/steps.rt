@@ -7,7 +7,7 @@ ghost use Rattle.table.specs.Table.{ofSlices};
 ghost use Rattle.table_links.specs.OrderedLinks.{OrderedLinks};
 ghost use Rattle.bit_maps.specs.BitMap.{mapOf};
 ghost use Rattle.probe_rules.specs.Rules.{entryOf};
-ghost use Rattle.probe_rules.specs.Within.{Within, EventWithin, IsFrame};
+ghost use Rattle.probe_rules.specs.Within.{Within, EventWithin, IsHeard};
 ghost use Rattle.probe_maps.specs.Maps.{rows, isOwn};
 ghost use Rattle.probe_maps.specs.GoodMaps.{Sound, GoodMaps};
 ghost use Rattle.probe_maps.specs.MapRules.{befallsMaps, alterMaps};
@@ -70,7 +70,7 @@ pub fn apply(
         let before = rows (now (standing .entry)) (now («refused_out» .entry)) (now (held .entry)) (now («refused_in» .entry)) in
         let after = rows (now (standing .exit)) (now («refused_out» .exit)) (now (held .exit)) (now («refused_in» .exit)) in
         let o = befallsMaps t probe event before in
-        ⌜ (r ≡ entryOf t probe o) × (after ≡ alterMaps links o before) × (IsFrame event → now (own .exit) ≡ now (own .entry)) ⌝ }
+        ⌜ (r ≡ entryOf t probe o) × (after ≡ alterMaps links o before) × (IsHeard event → now (own .exit) ≡ now (own .entry)) ⌝ }
 {
     let outcome = super::decisions::decide(
         event,

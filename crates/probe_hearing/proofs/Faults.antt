@@ -3,13 +3,13 @@ use Prim.Native.Nat.{ℕ, _≤_, _<_}
 use mathlib.Core.Path.{_≡_, sym, _∙_}
 use mathlib.Core.List.{List, []}
 use lib.ListN.{length}
-use borrow.Author.Tests.{lt-ltb, le-ltb}
+use borrow.Author.Tests.{le-ltb}
 use Rattle.range.specs.First.{orElse}
-use Rattle.range.proofs.Faults.{or-here, or-none}
+use Rattle.range.proofs.Faults.{or-here}
 use Rattle.table.specs.Table.{Table, ofSlices}
 use Rattle.probe_checks.specs.Checks.{probeFault}
 use Rattle.probe_bags.specs.Bag.{framesFault, manyFault, roomFault, bagFault}
-use Rattle.probe_bags.proofs.Faults.{few-pass, room-short, room-enough, many-first, frame-fault, fault-none}
+use Rattle.probe_bags.proofs.Faults.{room-short, room-enough, many-first, frame-fault, behind-frames, room-last}
 use Rattle.probe_bags.proofs.Steps.{faults-same}
 
 module _ (state : ℕ) (t : Table) (p : ℕ) (ls : List (List ℕ)) (free : ℕ) where
@@ -26,27 +26,15 @@ module _ (state : ℕ) (t : Table) (p : ℕ) (ls : List (List ℕ)) (free : ℕ)
       fault-of-frames r is some = is ∙ sym (frame-fault state t p ls free none few (λ z. some (is ∙ z)))
 
       module _ (fine : framesFault t p ls ≡ 0) where
-        -- the frames pass
-        behind : bagFault state t p ls free ≡ orElse (probeFault t p) (roomFault ls free)
-        unfolding bagFault
-        behind =
-            let last = orElse (probeFault t p) (roomFault ls free) in
-            or-none state (orElse (manyFault ls) (orElse (framesFault t p ls) last)) none
-            ∙ or-none (manyFault ls) (orElse (framesFault t p ls) last) (few-pass ls few) ∙ or-none (framesFault t p ls) last fine
-
         pub fault-of-probe : t .probes ≤ p → 24 ≡ bagFault state t p ls free
-        fault-of-probe l = sym (behind ∙ rw (le-ltb p (t .probes) l))
+        fault-of-probe l = sym (behind-frames state t p ls free none few fine ∙ rw (le-ltb p (t .probes) l))
 
         module _ (l : p < t .probes) where
-          passes : probeFault t p ≡ 0
-          passes = rw (lt-ltb p (t .probes) l)
-
           pub fault-of-room : free < length ls → 26 ≡ bagFault state t p ls free
-          fault-of-room k = sym (behind ∙ or-none (probeFault t p) (roomFault ls free) passes ∙ room-short ls free k)
+          fault-of-room k = sym (room-last state t p ls free none few fine l ∙ room-short ls free k)
 
           pub fault-of-none : length ls ≤ free → 0 ≡ bagFault state t p ls free
-          fault-of-none k =
-              sym (fault-none state t p ls free (record { state-none = none; few = few-pass ls few; frames = fine; probe = passes; room = room-enough ls free k }))
+          fault-of-none k = sym (room-last state t p ls free none few fine l ∙ room-enough ls free k)
 
 -- needs and costs do not matter to it
 pub bag-same : (state number probes links : ℕ) (needs lows highs costs : List ℕ) (p : ℕ) (ls : List (List ℕ)) (free : ℕ)

@@ -1,38 +1,37 @@
 -- Laws of a bag's frames as they are counted, read and heard: each step by what is left of the bag.
-use Prim.Native.Nat.{ℕ, suc, _+_, _-_, _*_, _/_, _%_, _≤_, _<_}
-use mathlib.Core.Path.{_≡_, refl, sym, _∙_, ap}
+use Prim.Native.Nat.{ℕ, suc, _+_, _*_, _/_, _%_, _≤_, _<_}
+use mathlib.Core.Path.{_≡_, _∙_, ap}
 use mathlib.Core.Bool.{Bool, true, false, cond}
-use mathlib.Core.List.{List, [], _∷_, map}
+use mathlib.Core.List.{List, []}
 use native.Mathlib.Omega.{arith}
 use native.Mathlib.Decide.{decLt}
 use lib.Dec.{ltb, eqb}
-use lib.ListN.{length, take, drop, drop-of-length-le}
-use borrow.Author.Tests.{lt-ltb, le-ltb, eq-eqb, ne-eqb}
+use lib.ListN.{length, drop, drop-of-length-le}
+use borrow.Author.Tests.{lt-ltb, le-ltb}
 use Rattle.lines.specs.Line.{lineAt, linesFrom}
-use Rattle.lines.specs.Fields.{lineBytes}
-use Rattle.lines.proofs.Split.{next-after, next-line}
+use Rattle.lines.proofs.Split.{next-line}
 use Rattle.probe_rules.specs.declared.Event.{Event}
 use Rattle.probe_rules.specs.declared.Event.the-variants.{Opening, Offer, Refusal}
-use Rattle.probe_rules.specs.Within.{IsFrame}
-use Rattle.probe_hearing.specs.Numbers.{numberOf, eventOf}
+use Rattle.probe_rules.specs.Within.{IsHeard}
+use Rattle.probe_hearing.specs.PackedEvents.{packedEvent, unpackedEvent}
 
 -- a frame's event is told by its number
-pub event-number : (v : Event) → IsFrame v → eventOf (numberOf v) ≡ v
-event-number Opening f = absurd f
-event-number (Offer i) f =
+pub unpacked-same : (v : Event) → IsHeard v → unpackedEvent (packedEvent v) ≡ v
+unpacked-same Opening f = absurd f
+unpacked-same (Offer i) f =
     let even : 2 * i % 2 ≡ 0 = omega arith in
     let half : 2 * i / 2 ≡ i = omega arith in
     rw (even, half)
-event-number (Refusal i) f =
+unpacked-same (Refusal i) f =
     let odd : (2 * i + 1) % 2 ≡ 1 = omega arith in
     let half : (2 * i + 1) / 2 ≡ i = omega arith in
     rw (odd, half)
 
 -- and a number tells a frame
-pub is-frame : (n : ℕ) → IsFrame (eventOf n)
+pub is-frame : (n : ℕ) → IsHeard (unpackedEvent n)
 is-frame n = go (eqb (n % 2) 0)
   where
-    go : (b : Bool) → IsFrame (cond b (Offer (n / 2)) (Refusal (n / 2)))
+    go : (b : Bool) → IsHeard (cond b (Offer (n / 2)) (Refusal (n / 2)))
     go true = tt
     go false = tt
 

@@ -1,34 +1,33 @@
 -- A bag read frame by frame: what the frames so far said is stored, and fault and events of the whole bag are those of what is left.
-use Prim.Native.Nat.{ℕ, suc, _+_, _≤_, _<_}
+use Prim.Native.Nat.{ℕ, _+_, _≤_, _<_}
 use mathlib.Core.Path.{_≡_, refl, sym, _∙_, ap}
-use mathlib.Core.List.{List, [], _∷_, map}
+use mathlib.Core.List.{List, _∷_, map}
 use native.Mathlib.Omega.{arith}
 use native.Mathlib.Numerals.{add-one}
-use lib.ListN.{length, set, drop, length-set}
+use lib.ListN.{length, set, length-set}
 use lib.Seq.{sets}
 use Rattle.range.specs.First.{orElse}
 use Rattle.range.proofs.Faults.{or-here, or-none}
-use Rattle.lines.specs.Line.{lineAt, linesFrom}
+use Rattle.lines.specs.Line.{lineAt}
 use Rattle.lines.specs.Fields.{lineBytes}
 use Rattle.lines.proofs.Split.{next-after, next-line}
 use Rattle.table.specs.Table.{Table}
 use Rattle.probe_frame.specs.Frame.{frameOf}
-use Rattle.probe_rules.specs.declared.Event.{Event}
 use Rattle.probe_rules.specs.Frames.{heardOf}
 use Rattle.probe_checks.specs.Checks.{heardFault}
 use Rattle.probe_bags.specs.Bag.{framesOf, eventsOf, framesFault}
-use Rattle.probe_hearing.specs.Numbers.{numberOf}
+use Rattle.probe_hearing.specs.PackedEvents.{packedEvent}
 use Rattle.probe_hearing.proofs.Laws.{left, none-left, fewer-left}
 
 module _ (t : Table) (p : ℕ) (bag : List ℕ) where
   -- what the frames from an offset on say, as numbers
-  abbrev numbersLeft : ℕ → List ℕ
-  numbersLeft at = map numberOf (eventsOf t (left bag at))
+  abbrev packedLeft : ℕ → List ℕ
+  packedLeft at = map packedEvent (eventsOf t (left bag at))
 
   pub record ReadSoFar (said₀ said : List ℕ) (n at : ℕ) : Type 0 where
     pub within : at ≤ length bag
     pub fault : framesFault t p (framesOf bag) ≡ framesFault t p (left bag at)
-    pub stored : sets said n (numbersLeft at) ≡ sets said₀ 0 (map numberOf (eventsOf t (framesOf bag)))
+    pub stored : sets said n (packedLeft at) ≡ sets said₀ 0 (map packedEvent (eventsOf t (framesOf bag)))
     pub count : n + length (left bag at) ≡ length (framesOf bag)
     pub long : length said ≡ length said₀
 
@@ -45,9 +44,9 @@ module _ (t : Table) (p : ℕ) (bag : List ℕ) where
       unfolding framesFault
       fault-here = ap (framesFault t p) (next-line bag at l)
 
-      events-here : numbersLeft at ≡ numberOf (heardOf t (frameOf line)) ∷ numbersLeft (lineAt bag at .next)
+      events-here : packedLeft at ≡ packedEvent (heardOf t (frameOf line)) ∷ packedLeft (lineAt bag at .next)
       unfolding eventsOf
-      events-here = ap (λ (ls : List (List ℕ)). map numberOf (eventsOf t ls)) (next-line bag at l)
+      events-here = ap (λ (ls : List (List ℕ)). map packedEvent (eventsOf t ls)) (next-line bag at l)
 
       pub read-room : length (framesOf bag) ≤ length said₀ → n < length said
       read-room room =
@@ -60,7 +59,7 @@ module _ (t : Table) (p : ℕ) (bag : List ℕ) where
       pub read-bad : (fault : ℕ) → fault ≡ heardFault t p line → (fault ≡ 0 → ⊥) → fault ≡ framesFault t p (framesOf bag)
       read-bad fault is some = or-here fault (heardFault t p line) (framesFault t p (left bag (lineAt bag at .next))) is some ∙ sym (r .fault ∙ fault-here)
 
-      pub read-next : (number : ℕ) → heardFault t p line ≡ 0 → number ≡ numberOf (heardOf t (frameOf line))
+      pub read-next : (number : ℕ) → heardFault t p line ≡ 0 → number ≡ packedEvent (heardOf t (frameOf line))
           → ReadSoFar said₀ (set said n number) (n + 1) (lineAt bag at .next)
       read-next number none is =
           record {
@@ -77,6 +76,6 @@ module _ (t : Table) (p : ℕ) (bag : List ℕ) where
       unfolding framesFault
       read-fault = r .fault ∙ ap (framesFault t p) (none-left bag at l)
 
-      pub read-said : said ≡ sets said₀ 0 (map numberOf (eventsOf t (framesOf bag)))
+      pub read-said : said ≡ sets said₀ 0 (map packedEvent (eventsOf t (framesOf bag)))
       unfolding eventsOf
-      read-said = sym (ap (λ (ls : List (List ℕ)). sets said n (map numberOf (eventsOf t ls))) (none-left bag at l)) ∙ r .stored
+      read-said = sym (ap (λ (ls : List (List ℕ)). sets said n (map packedEvent (eventsOf t ls))) (none-left bag at l)) ∙ r .stored

@@ -1,20 +1,17 @@
 -- A bag that is refused, and one that is heard.
 use Prim.Native.Nat.{ℕ}
-use mathlib.Core.Path.{_≡_, refl, sym, _∙_, ap}
+use mathlib.Core.Path.{_≡_, _∙_, ap}
 use mathlib.Core.List.{List, []}
 use lib.ListN.{length}
 use borrow.Author.Tests.{ne-eqb}
 use Rattle.table.specs.Table.{Table, ofSlices}
-use Rattle.wake_log.specs.declared.Entry.{Entry}
 use Rattle.probe_rules.specs.declared.Event.{Event}
 use Rattle.probe_maps.specs.Maps.{Maps}
 use Rattle.bag_entries.specs.declared.Entries.{Entries}
 use Rattle.bag_entries.specs.Entries.{entriesOf}
-use Rattle.probe_bags.specs.declared.Hearing.{Hearing}
 use Rattle.probe_bags.specs.declared.Hearing.the-variants.{Heard, Refused}
 use Rattle.probe_bags.specs.Bag.{eventsOf, mapsAfter, entriesAfter}
 use Rattle.probe_bags.proofs.Steps.{maps-same, entries-same, events-same}
-use Rattle.probe_hearing.specs.declared.ToldBag.{ToldBag}
 use Rattle.probe_hearing.specs.Told.{ToldBagCall}
 
 pub refused-bag : (fault : ℕ) (t : Table) (p : ℕ) (ls : List (List ℕ)) (r : ℕ) (all : Entries) (m : Maps) → r ≡ fault → (r ≡ 0 → ⊥) → all ≡ entriesOf []

@@ -1,2 +1,2 @@
-pub mod Numbers
+pub mod PackedEvents
 pub mod Told

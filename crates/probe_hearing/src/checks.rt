@@ -7,7 +7,7 @@ ghost use lib.Seq.{sets};
 ghost use Rattle.table.specs.Table.{ofSlices};
 ghost use Rattle.table_links.specs.RisingSlices.{RisingSlices};
 ghost use Rattle.probe_bags.specs.Bag.{framesOf, eventsOf, bagFault};
-ghost use Rattle.probe_hearing.specs.Numbers.{numberOf};
+ghost use Rattle.probe_hearing.specs.PackedEvents.{packedEvent};
 
 // A bag's fault, 0 for none, and where there is none how many frames it has.
 pub struct Checked {
@@ -32,7 +32,7 @@ pub fn check_bag(
     ensures { λ r. let t = ofSlices number probes links [] (now (lows .entry)) (now (highs .entry)) [] in
         let ls = framesOf (now (bag .entry)) in
         ⌜ (r .fault ≡ bagFault state t probe ls free)
-        × (r .fault ≡ 0 → (r .count ≡ length ls) × (now (said .exit) ≡ sets (now (said .entry)) 0 (map numberOf (eventsOf t ls)))) ⌝ }
+        × (r .fault ≡ 0 → (r .count ≡ length ls) × (now (said .exit) ≡ sets (now (said .entry)) 0 (map packedEvent (eventsOf t ls)))) ⌝ }
 {
     if state != 0 {
         return refused(state);

@@ -2,11 +2,11 @@
 use probe_rules::Event;
 ghost use mathlib.Core.Path.{_≡_};
 ghost use Rattle.probe_rules.specs.Within.{EventWithin};
-ghost use Rattle.probe_hearing.specs.Numbers.{numberOf, eventOf};
+ghost use Rattle.probe_hearing.specs.PackedEvents.{packedEvent, unpackedEvent};
 
-pub fn number_of(event: Event) -> u16
+pub fn packed_event(event: Event) -> u16
     requires { ⌜ EventWithin 2048 event ⌝ }
-    ensures { λ r. ⌜ r ≡ numberOf event ⌝ }
+    ensures { λ r. ⌜ r ≡ packedEvent event ⌝ }
 {
     match event {
         Event::Opening => 0,
@@ -15,11 +15,11 @@ pub fn number_of(event: Event) -> u16
     }
 }
 
-pub fn event_of(number: u16) -> Event
-    ensures { λ r. ⌜ r ≡ eventOf number ⌝ }
+pub fn unpacked_event(packed: u16) -> Event
+    ensures { λ r. ⌜ r ≡ unpackedEvent packed ⌝ }
 {
-    let link = (number / 2) as usize;
-    if number % 2 == 0 {
+    let link = (packed / 2) as usize;
+    if packed % 2 == 0 {
         return Event::Offer(link);
     }
     Event::Refusal(link)

@@ -9,7 +9,7 @@ ghost use lib.Seq.{sets};
 ghost use Rattle.table.specs.Table.{ofSlices};
 ghost use Rattle.table_links.specs.RisingSlices.{RisingSlices};
 ghost use Rattle.probe_bags.specs.Bag.{framesOf, eventsOf, framesFault};
-ghost use Rattle.probe_hearing.specs.Numbers.{numberOf};
+ghost use Rattle.probe_hearing.specs.PackedEvents.{packedEvent};
 
 // How many frames a bag has; 65 where it has more.
 pub fn count_frames(bag: &[u8]) -> usize
@@ -41,7 +41,7 @@ pub fn read_frames(
     requires { ⌜ RisingSlices links (now lows) (now highs) × (links ≤ 2048) × (length (framesOf (now bag)) ≤ 64) × (length (now said) ≡ 64) ⌝ }
     ensures { λ r. let t = ofSlices number 0 links [] (now (lows .entry)) (now (highs .entry)) [] in
         let ls = framesOf (now (bag .entry)) in
-        ⌜ (r ≡ framesFault t probe ls) × (r ≡ 0 → now (said .exit) ≡ sets (now (said .entry)) 0 (map numberOf (eventsOf t ls))) ⌝ }
+        ⌜ (r ≡ framesFault t probe ls) × (r ≡ 0 → now (said .exit) ≡ sets (now (said .entry)) 0 (map packedEvent (eventsOf t ls))) ⌝ }
 {
     let mut n = 0;
     let mut at = 0;
@@ -60,7 +60,7 @@ pub fn read_frames(
             return heard.fault;
         }
         let event = heard.event;
-        said[n] = super::events::number_of(event);
+        said[n] = super::events::packed_event(event);
         n += 1;
         at = next;
     }

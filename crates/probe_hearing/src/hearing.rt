@@ -14,7 +14,7 @@ ghost use Rattle.probe_maps.specs.Maps.{rows, isOwn};
 ghost use Rattle.probe_maps.specs.GoodMaps.{GoodMaps};
 ghost use Rattle.bag_entries.specs.Entries.{entriesOf};
 ghost use Rattle.probe_bags.specs.Bag.{mapsAfter, entriesAfter};
-ghost use Rattle.probe_hearing.specs.Numbers.{eventOf};
+ghost use Rattle.probe_hearing.specs.PackedEvents.{unpackedEvent};
 
 pub fn no_entries() -> Entries
     ensures { λ r. ⌜ r ≡ entriesOf [] ⌝ }
@@ -47,11 +47,11 @@ pub fn hear_frames(
     requires { let t = ofSlices 0 0 links (now needs) (now lows) (now highs) (now costs) in
         ⌜ OrderedLinks links (now lows) (now highs) (now costs) × (now own ≡ mapOf (isOwn t probe) 32)
         × GoodMaps t probe (rows (now standing) (now «refused_out») (now held) (now «refused_in»)) × (count ≤ 64) × (count ≤ length (now said))
-        × ((k : ℕ) → k < count → OwnEvent t probe (eventOf (getD (now said) k 0))) ⌝ }
+        × ((k : ℕ) → k < count → OwnEvent t probe (unpackedEvent (getD (now said) k 0))) ⌝ }
     ensures { λ r. let t = ofSlices 0 0 links (now (needs .entry)) (now (lows .entry)) (now (highs .entry)) (now (costs .entry)) in
         let before = rows (now (standing .entry)) (now («refused_out» .entry)) (now (held .entry)) (now («refused_in» .entry)) in
         let after = rows (now (standing .exit)) (now («refused_out» .exit)) (now (held .exit)) (now («refused_in» .exit)) in
-        let vs = map eventOf (take count (now (said .entry))) in
+        let vs = map unpackedEvent (take count (now (said .entry))) in
         ⌜ (r ≡ entriesOf (entriesAfter t probe vs before)) × (after ≡ mapsAfter t probe vs before) ⌝ }
 {
     let mut entries = [Entry {
@@ -60,7 +60,7 @@ pub fn hear_frames(
     }; 64];
     let mut n = 0;
     while n < count {
-        let event = super::events::event_of(said[n]);
+        let event = super::events::unpacked_event(said[n]);
         entries[n] = probe_decisions::steps::apply(
             event,
             own,

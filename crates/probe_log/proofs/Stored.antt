@@ -2,11 +2,10 @@
 use Prim.Native.Nat.{ℕ, _-_}
 use mathlib.Core.Path.{_≡_, refl, ap, _∙_}
 use mathlib.Core.Bool.{Bool, true, false, cond}
-use mathlib.Core.List.{List, [], _∷_}
+use mathlib.Core.List.{List, []}
 use lib.Dec.{eqb}
 use lib.ListN.{length, set, take}
 use lib.Seq.{sets}
-use Rattle.range.specs.Reply.{values, refusal}
 use Rattle.table.specs.Table.{Table}
 use Rattle.wake_log.specs.declared.Entry.{Entry}
 use Rattle.probe_rules.specs.declared.Event.{Event}
@@ -16,8 +15,7 @@ use Rattle.probe_maps.specs.MapRules.{befallsMaps}
 use Rattle.wake_log.specs.declared.storing.Told.{Told}
 use Rattle.wake_log.proofs.Stored as wake
 use Rattle.wake_log.proofs.Answers.{answer-reply}
-use Rattle.probe_bags.specs.declared.Hearing.the-variants.{Heard, Refused}
-use Rattle.probe_bags.specs.Bag.{eventsOf, entriesAfter, bagFault, hearingReply, HeardBag}
+use Rattle.probe_bags.specs.Bag.{eventsOf, entriesAfter, bagFault, HeardBag}
 use Rattle.probe_hearing.specs.declared.ToldBag.{ToldBag}
 use Rattle.probe_hearing.specs.Told.{ToldBagCall}
 use Rattle.probe_hearing.proofs.Stored.{bag-entries, bag-reply}

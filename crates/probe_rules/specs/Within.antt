@@ -15,10 +15,10 @@ EventWithin n (Offer i) = i < n
 EventWithin n (Refusal i) = i < n
 
 -- the event is a frame heard
-abbrev pub IsFrame : Event → Type 0
-IsFrame Opening = ⊥
-IsFrame (Offer i) = Unit
-IsFrame (Refusal i) = Unit
+abbrev pub IsHeard : Event → Type 0
+IsHeard Opening = ⊥
+IsHeard (Offer i) = Unit
+IsHeard (Refusal i) = Unit
 
 abbrev pub Within : ℕ → Outcome → Type 0
 Within n (Opened i) = i < n

@@ -27,7 +27,7 @@ use Rattle.probe_theory.proofs.Usable.{fresh-good, befell-good}
 use Rattle.probe_theory.proofs.OpensNothing.{opens-nothing}
 use Rattle.probe_theory.proofs.Asking.{asks-again, asked-says, asked-passes, asked-heard}
 
-heard-own : (t : Table) (p : ℕ) (l : List ℕ) → heardFault t p l ≡ 0 → OwnEvent t p (heardOf t (frameOf l))
+pub heard-own : (t : Table) (p : ℕ) (l : List ℕ) → heardFault t p l ≡ 0 → OwnEvent t p (heardOf t (frameOf l))
 heard-own t p l e = go (decided (eqb (f .kind) 1))
   where
     f : Frame

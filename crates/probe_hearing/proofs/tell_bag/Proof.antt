@@ -1,3 +1,4 @@
+-- `probe_hearing::tell_bag` meets its contract.
 use borrow.Author.Needs.{needs}
 use Rattle.probe_hearing.proofs.tell_bag.Statement.{statement}
 use Rattle.probe_hearing.proofs.tell_bag.Tie as tie
@@ -17,7 +18,7 @@ use Rattle.probe_maps.specs.GoodMaps.{GoodMaps}
 use Rattle.probe_maps.proofs.Faults.{good-maps}
 use Rattle.probe_checks.proofs.Accepted.{state-parts}
 use Rattle.probe_bags.specs.Bag.{framesOf, eventsOf, bagFault, hearsBagFault}
-use Rattle.probe_hearing.specs.Numbers.{numberOf}
+use Rattle.probe_hearing.specs.PackedEvents.{packedEvent}
 use Rattle.probe_bags.proofs.Faults.{NoFault, no-fault, none-many}
 use Rattle.probe_hearing.proofs.Faults.{bag-same}
 use Rattle.probe_hearing.proofs.Said.{said-events, said-plain}
@@ -137,7 +138,7 @@ hear-frames-requires c κs =
     let s = at-start (at-state at) in
     let a = s .args in
     let none = state-none at z in
-    (ordered-links (x (at-state at)) (legal-slices 256 2048 (x (at-state at)) (parts (at-state at) none .0)), at-state at .check-state .ensures .1 none, good (at-state at) none, few-count at z, (let n = ap length (at .check-bag .ensures .1 z .1) ∙ length-sets (replicate {A = ℕ} 64 0) 0 (map numberOf (eventsOf (part-table at) (ls at))) ∙ length-replicate {A = ℕ} 64 0 in let f = few-count at z in omega (arith, n, f)), said-plain (a .number) (a .probes) (a .links) (a .needs .now) (a .lows .now) (a .highs .now) (a .costs .now) (a .probe) (ls at) _ _ _ (at .check-bag .ensures .1 z .0) (room at z) (at .check-bag .ensures .1 z .1) (passes at z .frames))
+    (ordered-links (x (at-state at)) (legal-slices 256 2048 (x (at-state at)) (parts (at-state at) none .0)), at-state at .check-state .ensures .1 none, good (at-state at) none, few-count at z, (let n = ap length (at .check-bag .ensures .1 z .1) ∙ length-sets (replicate {A = ℕ} 64 0) 0 (map packedEvent (eventsOf (part-table at) (ls at))) ∙ length-replicate {A = ℕ} 64 0 in let f = few-count at z in omega (arith, n, f)), said-plain (a .number) (a .probes) (a .links) (a .needs .now) (a .lows .now) (a .highs .now) (a .costs .now) (a .probe) (ls at) _ _ _ (at .check-bag .ensures .1 z .0) (room at z) (at .check-bag .ensures .1 z .1) (passes at z .frames))
 
 same-length-5 : tie.Need-same-length-5
 same-length-5 c = search needs

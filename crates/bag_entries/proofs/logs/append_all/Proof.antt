@@ -104,7 +104,7 @@ module _ {M : Type 1} (𝓤 : URA M) (H : Heap 𝓤) (A : Atoms 𝓤) (W : Given
   abbrev Post : Val → SProp 𝓤
   Post = walkOf 𝓤 H A append-all.ended stayed (append-all.clauses 𝓤 H A mem run) .post bound
 
-  -- at a last list, which is the list with the all's entries at their places
+  -- at a last list, which is the list with the entries stored behind the used ones
   exits : (zs : List Entry) → zs ≡ stored n → length zs ≡ length ys → ent 𝓤 (⋆ 𝓤 H A (‵ (fobs γ (codedHoleys T.the-row .code (heres T.the-row zs))) ∷ ‵ (fbor κ (Held T.the-row (length zs) b o γ)) ∷ ‵ (flft κ q) ∷ [])) (Post vunit)
   exits zs is l =
       qed W (‵ (fobs γ (codedHoleys T.the-row .code (heres T.the-row zs))) ∷ ‵ (fbor κ (Held T.the-row (length zs) b o γ)) ∷ ‵ (flft κ q) ∷ []) ∵

@@ -1,3 +1,4 @@
+-- `probe_hearing::checks::check_bag` meets its contract.
 use borrow.Author.Needs.{needs}
 use Rattle.probe_hearing.proofs.checks.check_bag.Statement.{statement}
 use Rattle.probe_hearing.proofs.checks.check_bag.Tie as tie
@@ -11,7 +12,7 @@ use Rattle.table.specs.Table.{Table, ofSlices}
 use Rattle.probe_rules.specs.declared.Event.{Event}
 use Rattle.probe_bags.specs.Bag.{framesOf, framesFault}
 use Rattle.probe_bags.proofs.Steps.{faults-same, events-same}
-use Rattle.probe_hearing.specs.Numbers.{numberOf}
+use Rattle.probe_hearing.specs.PackedEvents.{packedEvent}
 use Rattle.probe_hearing.proofs.Laws.{count-many, count-few}
 use Rattle.probe_hearing.proofs.Faults.{fault-of-state, fault-of-many, fault-of-frames, fault-of-probe, fault-of-room, fault-of-none}
 
@@ -129,7 +130,7 @@ returns-6 c =
     let a = s .args in
     let z = c .before .before .if3 .left in
     let n = count-is at in
-    (fault-of-none (a .state) (whole s) (a .probe) (ls s) (a .free) (none at) (few-read at) (sym (fault-is at) ∙ z) (c .before .if4 .left) (omega (arith, n, c .if5 .left)), (λ f. (n, at .read-frames .ensures .1 z ∙ ap (λ (vs : List Event). sets (a .said .now) 0 (map numberOf vs)) (events-same (a .number) (a .links) (a .lows .now) (a .highs .now) 0 (a .probes) [] [] [] [] (ls s)))))
+    (fault-of-none (a .state) (whole s) (a .probe) (ls s) (a .free) (none at) (few-read at) (sym (fault-is at) ∙ z) (c .before .if4 .left) (omega (arith, n, c .if5 .left)), (λ f. (n, at .read-frames .ensures .1 z ∙ ap (λ (vs : List Event). sets (a .said .now) 0 (map packedEvent vs)) (events-same (a .number) (a .links) (a .lows .now) (a .highs .now) 0 (a .probes) [] [] [] [] (ls s)))))
 
 pub check-bag-spec : {M : Type 1} → statement M
 check-bag-spec =

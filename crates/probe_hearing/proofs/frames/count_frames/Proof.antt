@@ -1,11 +1,13 @@
+-- `probe_hearing::frames::count_frames` meets its contract.
+-- Invariant: the frames counted and those left are all of them, and at most 64 are counted. Measure: the bytes left.
 use borrow.Author.Needs.{needs}
 use Rattle.probe_hearing.proofs.frames.count_frames.Statement.{statement}
 use Rattle.probe_hearing.proofs.frames.count_frames.Tie as tie
 use Prim.Native.Nat.{_+_, _-_, _≤_}
-use mathlib.Core.Path.{_≡_, refl, sym, ap, _∙_}
+use mathlib.Core.Path.{_≡_, ap}
 use mathlib.Core.List.{[]}
 use native.Mathlib.Omega.{arith}
-use lib.ListN.{length, drop}
+use lib.ListN.{length}
 use Rattle.lines.specs.Line.{linesFrom}
 use Rattle.lines.specs.declared.Found.{Found}
 use Rattle.lines.proofs.Split.{next-after}

@@ -1,3 +1,5 @@
+-- `probe_hearing::frames::read_frames` meets its contract.
+-- Invariant: the frames read so far passed and are stored; fault and events of the bag are those of what is left. Measure: the bytes left.
 use borrow.Author.Needs.{needs}
 use Rattle.probe_hearing.proofs.frames.read_frames.Statement.{statement}
 use Rattle.probe_hearing.proofs.frames.read_frames.Tie as tie
@@ -6,7 +8,6 @@ use mathlib.Core.Path.{_≡_, sym, ap, _∙_}
 use mathlib.Core.List.{List, []}
 use native.Mathlib.Omega.{arith}
 use lib.ListN.{length, take, drop}
-use Rattle.lines.specs.Line.{lineAt}
 use Rattle.lines.specs.Fields.{lineBytes}
 use Rattle.lines.specs.declared.Found.{Found}
 use Rattle.lines.proofs.Split.{next-after, line-part}
@@ -15,10 +16,9 @@ use Rattle.probe_frame.specs.Frame.{frameOf}
 use Rattle.probe_rules.proofs.OutcomeLaws.{event-wider}
 use Rattle.probe_rules.specs.Frames.{heardOf}
 use Rattle.probe_checks.specs.Checks.{HearsFrame}
-use Rattle.probe_checks.specs.declared.Heard.{Heard}
 use Rattle.probe_checks.proofs.Accepted.{heard-within}
 use Rattle.probe_bags.specs.Bag.{framesOf}
-use Rattle.probe_hearing.specs.Numbers.{numberOf}
+use Rattle.probe_hearing.specs.PackedEvents.{packedEvent}
 use Rattle.probe_hearing.proofs.Reading.{ReadSoFar, read-none, read-room, read-bad, read-next, read-fault, read-said}
 
 abbrev Inv-loop : tie.InvT-loop
@@ -87,8 +87,8 @@ returns c =
     let a = at-start at .args in
     (read-bad (table at) (a .probe) (a .bag .now) (a .said .now) (l .said) (l .n) (l .at) (l .inv) (test at) _ (says at .0) (c .if1 .taken), (λ z. absurd (c .if1 .taken z)))
 
-number-of-requires : tie.Need-number-of-requires Inv-loop μ-loop
-number-of-requires c κs =
+packed-event-requires : tie.Need-packed-event-requires Inv-loop μ-loop
+packed-event-requires c κs =
     let at = c .before .before in
     let a = at-start at .args in
     let z = c .if1 .left in
@@ -131,7 +131,7 @@ loop-again c =
     let a = at-start at .args in
     let z = c .before .if1 .left in
     let e = ap (λ (f : Found). f .next) (at .before .before .find-line .ensures) in
-    rw e (read-next (table at) (a .probe) (a .bag .now) (a .said .now) (l .said) (l .n) (l .at) (l .inv) (test at) _ (sym (says at .0) ∙ z) (c .number-of .ensures ∙ ap numberOf (says at .1 z)))
+    rw e (read-next (table at) (a .probe) (a .bag .now) (a .said .now) (l .said) (l .n) (l .at) (l .inv) (test at) _ (sym (says at .0) ∙ z) (c .packed-event .ensures ∙ ap packedEvent (says at .1 z)))
 
 same-length-2 : tie.Need-same-length-2 Inv-loop μ-loop
 same-length-2 c = c .before .loop .inv .long
@@ -160,7 +160,7 @@ read-frames-spec =
     check-frame-requires
     same-length
     returns
-    number-of-requires
+    packed-event-requires
     mul-said
     slice-write-said
     add-n

@@ -1,6 +1,7 @@
+-- `probe_hearing::events::packed_event` meets its contract.
 use borrow.Author.Needs.{needs}
-use Rattle.probe_hearing.proofs.events.number_of.Statement.{statement}
-use Rattle.probe_hearing.proofs.events.number_of.Tie as tie
+use Rattle.probe_hearing.proofs.events.packed_event.Statement.{statement}
+use Rattle.probe_hearing.proofs.events.packed_event.Tie as tie
 use native.Mathlib.Omega.{arith}
 
 enum-told : tie.Need-enum-told
@@ -36,8 +37,8 @@ returns-2 c = rw (c .before .event .given .1)
 returns-3 : tie.Need-returns-3
 returns-3 c = rw (c .before .event2 .given .1)
 
-pub number-of-spec : {M : Type 1} → statement M
-number-of-spec =
+pub packed-event-spec : {M : Type 1} → statement M
+packed-event-spec =
     tie.close
     (tie.spec
     enum-told
