@@ -267,8 +267,7 @@ pub extern "C" fn planner_probe_hear_bag(
         used,
         log.len(),
     );
-    let entries = told.entries;
-    bag_entries::logs::store_all(log, used, entries);
+    bag_entries::logs::store_all(log, used, told.entries);
     let answer = told.answer;
     packed_hearing(answer)
 }

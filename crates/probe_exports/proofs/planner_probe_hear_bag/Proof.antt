@@ -9,10 +9,10 @@ tell-bag-requires : tie.Need-tell-bag-requires
 tell-bag-requires c κs = search needs
 
 store-all-requires : tie.Need-store-all-requires
-store-all-requires c κs = bag-fits _ _ _ _ _ _ _ _ (c .before .before .before .before .before .before .before .before .before .before .tell-bag .ensures)
+store-all-requires c κs = bag-fits _ _ _ _ _ _ _ _ (c .before .before .before .before .before .before .before .before .before .tell-bag .ensures)
 
 packed-hearing-requires : tie.Need-packed-hearing-requires
-packed-hearing-requires c κs = bag-count _ _ _ _ _ _ _ _ (c .before .before .before .before .before .before .before .before .before .before .before .before .before .tell-bag .ensures)
+packed-hearing-requires c κs = bag-count _ _ _ _ _ _ _ _ (c .before .before .before .before .before .before .before .before .before .before .before .before .tell-bag .ensures)
 
 same-length : tie.Need-same-length
 same-length c = search needs
@@ -30,7 +30,7 @@ same-length-5 : tie.Need-same-length-5
 same-length-5 c = search needs
 
 returns : tie.Need-returns
-returns c = bag-packed _ _ _ _ _ _ _ _ _ _ _ (c .before .before .before .before .before .before .before .before .before .before .before .before .before .before .tell-bag .ensures) (c .packed-hearing .ensures) (c .before .before .before .store-all .ensures)
+returns c = bag-packed _ _ _ _ _ _ _ _ _ _ _ (c .before .before .before .before .before .before .before .before .before .before .before .before .before .tell-bag .ensures) (c .packed-hearing .ensures) (c .before .before .before .store-all .ensures)
 
 pub planner-probe-hear-bag-spec : {M : Type 1} → statement M
 planner-probe-hear-bag-spec =
