@@ -1,4 +1,6 @@
 // A fleet of ends: its record, driven by lines. Links go by their place in the table. Beside the calls, laws on any record: it stays usable, and a line makes as many changes as its entry says.
+#![tactic(auto)]
+
 ghost use Rattle.std.specs.Prelude.{◌≡◌};
 ghost use Rattle.table.specs.Slices.{slices_of};
 ghost use Rattle.fleet.specs.Answers.{Handled, finishingReply, whetherFinished, changesOf};
@@ -7,7 +9,7 @@ pub mod line_checks;
 pub mod steps;
 
 // Whether the fleet is finished, or the number of the refusal.
-#[derive(Drop)]
+#[derive(Clone, Copy)]
 pub enum Finishing {
     Says(bool),
     Refused(u8),
@@ -120,7 +122,7 @@ pub fn changes_of(what: wake_log::What) -> u8
 }
 
 // A refusal of a line's ends, 0 for none, and for a frame the link between them.
-#[derive(Drop)]
+#[derive(Clone, Copy)]
 pub struct LineEnds {
     pub fault: u8,
     pub link: usize,

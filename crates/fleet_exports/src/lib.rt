@@ -1,4 +1,6 @@
 // The library of a fleet for C and Rust: one line, without a log and with one; finished.
+#![tactic(auto)]
+
 ghost use Rattle.std.specs.Prelude.{◌≡◌};
 ghost use Rattle.table.specs.Slices.{slices_of};
 ghost use Rattle.fleet.specs.Answers.{finishingReply, whetherFinished};

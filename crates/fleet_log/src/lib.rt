@@ -1,4 +1,6 @@
 // A fleet's lines with its wake log: a lent slice of entries, and the count of its used ones.
+#![tactic(auto)]
+
 ghost use Rattle.table.specs.Slices.{slices_of};
 ghost use Rattle.fleet_log.specs.Logged.{ToldLine, LogsInFleet};
 

@@ -4,7 +4,7 @@ ghost use Rattle.std.proofs.lemmas.List.Edits.{sets};
 ghost use Rattle.hex_digits.specs.Digits.{value_of, digit_of, number_at, are_digits, digits};
 
 // Bytes that were read: the number that they write as digits, and whether each is a digit.
-#[derive(Drop)]
+#[derive(Clone, Copy)]
 pub struct Digits {
     pub number: usize,
     pub good: bool,

@@ -1,16 +1,18 @@
 // Lines of a lent text.
+#![tactic(auto)]
+
 ghost use Rattle.std.specs.Prelude.{◌≡◌, length, leb};
 ghost use Rattle.lines.specs.Line.{line_at};
 
 // A line by its place in the text, without its line feed. `Missing`: no line feed closes one.
-#[derive(Drop)]
+#[derive(Clone, Copy)]
 pub enum Line {
     Here { start: usize, len: usize },
     Missing,
 }
 
 // A line, and the offset behind its line feed, or the text's end where the line is missing.
-#[derive(Drop)]
+#[derive(Clone, Copy)]
 pub struct Found {
     pub line: Line,
     pub next: usize,

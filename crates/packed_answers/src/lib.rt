@@ -1,4 +1,6 @@
 // Answers as one number, for callers in other languages.
+#![tactic(auto)]
+
 ghost use Rattle.std.specs.Prelude.{◌≡◌};
 ghost use Rattle.packed_answers.specs.Packed.{packed_entry, packed_answer};
 

@@ -1,4 +1,6 @@
 // The plan program: reads a table's text and prints its plan, or the text's refusal.
+#![tactic(auto)]
+
 ghost use Rattle.std.specs.Prelude.{◌≤◌, length};
 ghost use Rattle.output.specs.Output.{Prints};
 ghost use Rattle.output.specs.declared.Output.TheVariants.{Length};

@@ -1,4 +1,6 @@
 // The plans of the well-head display: at most 16 probes and 40 links, by the same planner as the full ones, in slices of their size.
+#![tactic(auto)]
+
 ghost use Rattle.table.specs.Slices.{slices_of};
 ghost use Rattle.plan_methods.specs.Planning.{PlansBySlse, PlansByTurns};
 ghost use Rattle.plan_output.specs.Output.{PrintsText};

@@ -1,4 +1,6 @@
 // The library of plans for C and Rust: both methods, and the plan program's output, each for all and for the display.
+#![tactic(auto)]
+
 ghost use Rattle.std.specs.Prelude.{◌≡◌, length};
 ghost use Rattle.table.specs.Slices.{slices_of};
 ghost use Rattle.plan_methods.specs.Planning.{planning_reply};

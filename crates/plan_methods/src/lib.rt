@@ -1,4 +1,6 @@
 // The plan of a table in slices, by two methods.
+#![tactic(auto)]
+
 ghost use Rattle.table.specs.Slices.{slices_of};
 ghost use Rattle.plan_methods.specs.Planning.{PlansBySlse, PlansByTurns};
 
@@ -6,7 +8,7 @@ pub mod counts;
 pub mod limited;
 
 // The answer: the count of kept links and their total cost, or the number of the refusal.
-#[derive(Drop)]
+#[derive(Clone, Copy)]
 pub enum Planning {
     Plan { kept: u16, cost: u32 },
     Refused(u8),

@@ -1,4 +1,6 @@
 // The plan of a table's text, as the plan program prints it.
+#![tactic(auto)]
+
 ghost use Rattle.plan_output.specs.Output.{PrintsText};
 
 use output::Output;

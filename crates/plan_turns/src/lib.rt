@@ -1,4 +1,5 @@
 // Offers by turn: the plan by the b-Suitor method.
+#![tactic(auto)]
 
 pub mod method;
 pub mod offers;

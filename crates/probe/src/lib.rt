@@ -1,4 +1,6 @@
 // One end of the bargaining, alone: it opens, hears frames, is asked for frames, and rests links. Links go by their place in the table.
+#![tactic(auto)]
+
 ghost use Rattle.std.specs.Prelude.{◌≡◌};
 ghost use Rattle.table.specs.Slices.{slices_of};
 ghost use Rattle.probe_maps.specs.Maps.{rows};
@@ -7,14 +9,14 @@ ghost use Rattle.probe.specs.Answers.{Opens, Hears, AsksFor, restingReply, wheth
 pub mod steps;
 
 // A kind of frame to ask for.
-#[derive(Drop)]
+#[derive(Clone, Copy)]
 pub enum Kind {
     Offer,
     Refusal,
 }
 
 // The answer to asking: the line is written, or the frame may not be sent now, or the number of the refusal.
-#[derive(Drop)]
+#[derive(Clone, Copy)]
 pub enum Asked {
     Written,
     NotNow,
@@ -22,7 +24,7 @@ pub enum Asked {
 }
 
 // Whether a link rests, or the number of the refusal.
-#[derive(Drop)]
+#[derive(Clone, Copy)]
 pub enum Resting {
     Rests(bool),
     Refused(u8),

@@ -1,4 +1,6 @@
 // The library of one end for C and Rust: open and hear, without a log and with one; a bag of frames; ask, rests; its record turned from bytes into maps and back.
+#![tactic(auto)]
+
 ghost use Rattle.std.specs.Prelude.{◌≡◌, ℕ, ◌≤◌};
 ghost use Rattle.table.specs.Slices.{slices_of};
 ghost use Rattle.probe_maps.specs.Maps.{rows};

@@ -7,7 +7,7 @@ ghost use Rattle.probe_bags.specs.Bag.{frames_of, events_of, bag_fault};
 ghost use Rattle.probe_hearing.specs.PackedEvents.{packed_event};
 
 // A bag's fault, 0 for none, and where there is none how many frames it has.
-#[derive(Drop)]
+#[derive(Clone, Copy)]
 pub struct Checked {
     pub fault: u8,
     pub count: usize,

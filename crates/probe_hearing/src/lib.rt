@@ -1,4 +1,6 @@
 // A bag of frames heard by one end: its frames counted, read and heard, each once; the entries told by value.
+#![tactic(auto)]
+
 ghost use Rattle.table.specs.Slices.{slices_of};
 ghost use Rattle.probe_maps.specs.Maps.{rows};
 ghost use Rattle.probe_hearing.specs.Told.{HearsBagTold};
@@ -12,7 +14,7 @@ mod frames;
 mod hearing;
 
 // The answer to a bag, with the entries that go to the log: none where it is refused.
-#[derive(Drop)]
+#[derive(Clone, Copy)]
 pub struct ToldBag {
     pub entries: Entries,
     pub answer: Hearing,

@@ -1,4 +1,6 @@
 // The events of one end, and the bags of frames that it hears, with its wake log: a lent slice of entries, and the count of its used ones.
+#![tactic(auto)]
+
 ghost use Rattle.table.specs.Slices.{slices_of};
 ghost use Rattle.probe_maps.specs.Maps.{rows};
 ghost use Rattle.probe_bags.specs.Bag.{HearsBag};

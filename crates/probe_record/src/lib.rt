@@ -1,4 +1,5 @@
 // The record of an end: its bytes counted and checked.
+#![tactic(auto)]
 
 pub mod checks;
 pub mod counts;

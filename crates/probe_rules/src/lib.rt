@@ -1,9 +1,10 @@
 // The rules of an end: what an opening, an offer heard and a refusal heard do. Links go by their place in the table.
+#![tactic(auto)]
 
 pub mod outcomes;
 
 // What reaches an end.
-#[derive(Drop)]
+#[derive(Clone, Copy)]
 pub enum Event {
     Opening,
     Offer(usize),
@@ -11,7 +12,7 @@ pub enum Event {
 }
 
 // What befalls it.
-#[derive(Drop)]
+#[derive(Clone, Copy)]
 pub enum Outcome {
     Opened(usize),
     Enough,

@@ -1,1 +1,2 @@
 // Laws of one end; no code.
+#![tactic(auto)]

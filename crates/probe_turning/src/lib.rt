@@ -1,4 +1,6 @@
 // The record of an end turned from bytes into maps, and back.
+#![tactic(auto)]
+
 ghost use Rattle.table.specs.Slices.{slices_of};
 ghost use Rattle.probe_maps.specs.Maps.{rows};
 ghost use Rattle.probe_turning.specs.Turned.{TurnsToMaps, TurnsToBytes};
@@ -8,7 +10,7 @@ mod records;
 mod words;
 
 // The record is turned, or the number of the refusal.
-#[derive(Drop)]
+#[derive(Clone, Copy)]
 pub enum Turning {
     Turned,
     Refused(u8),

@@ -1,4 +1,6 @@
 // The reader that keeps a lent text beside the offset of its next line.
+#![tactic(auto)]
+
 ghost use Rattle.std.specs.Prelude.{◌≡◌, length, leb};
 ghost use Rattle.lines.specs.Line.{line_at};
 
@@ -6,14 +8,14 @@ use lines::{Found, Line};
 
 pub mod numbers;
 
-#[derive(Drop)]
+#[derive(Clone, Copy)]
 pub struct Reader<'a> {
     pub text: &'a [u8],
     pub at: usize,
 }
 
 // A line, and the reader that goes on behind it.
-#[derive(Drop)]
+#[derive(Clone, Copy)]
 pub struct Taken<'a> {
     pub line: Line,
     pub rest: Reader<'a>,

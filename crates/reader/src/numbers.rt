@@ -7,14 +7,14 @@ ghost use Rattle.lines.specs.Fields.{need_fields, triple_fields, ReadsLine};
 use lines::Line;
 
 // A line that was read: its fault, 0 for none, and where there is none the number that its digits write.
-#[derive(Drop)]
+#[derive(Clone, Copy)]
 pub struct Number {
     pub fault: u8,
     pub number: usize,
 }
 
 // A line of three numbers, of four digits each: its fault, 0 for none, and where there is none the numbers.
-#[derive(Drop)]
+#[derive(Clone, Copy)]
 pub struct Triple {
     pub fault: u8,
     pub first: usize,

@@ -1,4 +1,6 @@
 // The script program: reads a table and the script lines behind it, and prints their answers as they come. It keeps the table, the record and at most 16 bytes of an unfinished line.
+#![tactic(auto)]
+
 ghost use Rattle.std.specs.Prelude.{◌≡◌, ◌≤◌, length};
 ghost use Rattle.table.specs.Slices.{slices_of, slices_fault};
 ghost use Rattle.output.specs.Output.{refusal_line, Prints};
@@ -13,7 +15,7 @@ use standard_io::Filling;
 use table::degrees::count_degrees;
 
 // What is left to write: what the text's end printed; nothing where a read or write failed.
-#[derive(Drop)]
+#[derive(Clone, Copy)]
 enum Ending {
     Printed(usize),
     Failed,

@@ -1,4 +1,6 @@
 // Document 02, No. 7, with a lent wake log, a program for the gate: probe 1 of M2 hears a bag with the offers of its two neighbours, and, fresh again, one with the same in the other order. The entries are printed as they stand in the log.
+#![tactic(auto)]
+
 ghost use Rattle.table.specs.Slices.{slices_of};
 ghost use Rattle.probe_maps.specs.Maps.{rows};
 ghost use Rattle.script_bag.specs.Kept.{KeepsBag};

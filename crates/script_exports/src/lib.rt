@@ -1,4 +1,6 @@
 // The library of scripts for C and Rust: whole, in pieces, and the end.
+#![tactic(auto)]
+
 ghost use Rattle.std.specs.Prelude.{length};
 ghost use Rattle.table.specs.Slices.{slices_of};
 ghost use Rattle.output.specs.Output.{output_fault};

@@ -1,3 +1,4 @@
 // The lines that the script program prints.
+#![tactic(auto)]
 
 pub mod answers;

@@ -1,4 +1,6 @@
 // Document 01's M11 with lent wake logs, a program for the gate: the fleet's ten lines, then the three events of probe 1 alone. Each entry is printed as it is read back from its log.
+#![tactic(auto)]
+
 ghost use Rattle.std.specs.Prelude.{◌≡◌};
 ghost use Rattle.table.specs.Slices.{slices_of};
 ghost use Rattle.wake_log.specs.Log.{slot_of};

@@ -1,4 +1,6 @@
 // The script program's whole behaviour: a text handled whole, or in pieces one after the other.
+#![tactic(auto)]
+
 ghost use Rattle.std.specs.Prelude.{◌≡◌, ℕ, ◌≤◌, ◌<◌, length, get_or};
 ghost use Rattle.output.specs.Output.{output_fault, Prints};
 ghost use Rattle.table.specs.Table.{Degrees};
@@ -13,7 +15,7 @@ use script_steps::Progress;
 pub mod checked;
 
 // A piece's answer: the length printed and how far the script has come, or the number of the refusal.
-#[derive(Drop)]
+#[derive(Clone, Copy)]
 pub enum Handling {
     Printed { length: usize, progress: Progress },
     Refused(u8),

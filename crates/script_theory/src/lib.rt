@@ -1,1 +1,2 @@
 // The script program's behaviour: its definition, and that it can be had in pieces. It has no code.
+#![tactic(auto)]

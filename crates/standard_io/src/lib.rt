@@ -1,9 +1,11 @@
 // Standard input, output and error for the programs. A failed read is told from the end of the input, and a failed write from one that is done.
+#![tactic(auto)]
+
 ghost use Rattle.std.specs.Prelude.{◌≡◌, true, length};
 ghost use Rattle.standard_io.specs.Reading.{GotWithin, Fills};
 
 // What a read gave: so many bytes at the buffer's start, the end of the input, or nothing because it failed.
-#[derive(Drop)]
+#[derive(Clone, Copy)]
 pub enum Got {
     Bytes(usize),
     End,
@@ -11,7 +13,7 @@ pub enum Got {
 }
 
 // Where the bytes end that fill a buffer, or that a read failed.
-#[derive(Drop)]
+#[derive(Clone, Copy)]
 pub enum Filling {
     Until(usize),
     Failed,

@@ -1,4 +1,6 @@
 // A table in slices: whether it is legal.
+#![tactic(auto)]
+
 ghost use Rattle.table.specs.Slices.{slices_of};
 ghost use Rattle.table.specs.Checking.{ChecksTable};
 
@@ -20,7 +22,7 @@ pub const LINK_BYTES: usize = 13;
 pub const CLOSING_BYTES: usize = 5;
 
 // A table's answer: fine, or the number of its refusal.
-#[derive(Drop)]
+#[derive(Clone, Copy)]
 pub enum Checking {
     Fine,
     Refused(u8),

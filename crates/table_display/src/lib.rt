@@ -1,4 +1,6 @@
 // The tables of the well-head display: at most 16 probes and 40 links, by the same checks, reading and writing as the full tables.
+#![tactic(auto)]
+
 ghost use Rattle.std.specs.Prelude.{false};
 ghost use Rattle.table.specs.Slices.{slices_of};
 ghost use Rattle.table.specs.Checking.{ChecksTable};

@@ -1,4 +1,6 @@
 // The library of tables for C and Rust: check, read, write; the same for the well-head display.
+#![tactic(auto)]
+
 ghost use Rattle.std.specs.Prelude.{◌≡◌, true, false, ◌+◌, ◌*◌, ℕ, ◌<◌, length};
 ghost use Rattle.table.specs.Slices.{slice_fault, slices_fault, slices_of};
 ghost use Rattle.table.specs.Checking.{checking_reply};

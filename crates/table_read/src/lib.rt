@@ -1,11 +1,13 @@
 // Reading a table's text into lent slices.
+#![tactic(auto)]
+
 ghost use Rattle.std.specs.Prelude.{true, false};
 ghost use Rattle.table_read.specs.Reading.{lent_of, ReadsTable};
 
 pub mod limited;
 
 // The answer: the table's number, probe count and link count and where the rest of the text starts, or the number of the refusal.
-#[derive(Drop)]
+#[derive(Clone, Copy)]
 pub enum Reading {
     Table {
         number: u16,

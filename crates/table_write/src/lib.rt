@@ -1,4 +1,6 @@
 // A table in slices, written as text.
+#![tactic(auto)]
+
 ghost use Rattle.table.specs.Slices.{slices_of};
 ghost use Rattle.table_write.specs.Writing.{WritesTable};
 
@@ -7,7 +9,7 @@ pub mod line;
 pub mod text;
 
 // The answer of writing: the text's length, or the number of the refusal.
-#[derive(Drop)]
+#[derive(Clone, Copy)]
 pub enum Writing {
     Length(usize),
     Refused(u8),

@@ -1,4 +1,6 @@
 // The entries of the wake log, the answer to an event, and the log in a lent slice. The count of used entries goes beside it.
+#![tactic(auto)]
+
 ghost use Rattle.std.specs.Prelude.{◌≡◌, set};
 ghost use Rattle.range.specs.Reply.{values};
 ghost use Rattle.wake_log.specs.Log.{slot_reply, slot_values};
@@ -7,7 +9,7 @@ pub mod codes;
 pub mod storing;
 
 // What befell a probe, with the link where there is one, by its place in the table.
-#[derive(Drop)]
+#[derive(Clone, Copy)]
 pub enum What {
     Opened(u16),
     Enough,
@@ -20,21 +22,21 @@ pub enum What {
     Restarted,
 }
 
-#[derive(Drop)]
+#[derive(Clone, Copy)]
 pub struct Entry {
     pub probe: u16,
     pub what: What,
 }
 
 // The entry of an accepted event, or the number of the refusal.
-#[derive(Drop)]
+#[derive(Clone, Copy)]
 pub enum Answer {
     Logged(Entry),
     Refused(u8),
 }
 
 // What a place of the log holds.
-#[derive(Drop)]
+#[derive(Clone, Copy)]
 pub enum Slot {
     Used(Entry),
     Unused,

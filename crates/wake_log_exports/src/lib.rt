@@ -1,4 +1,6 @@
 // The library of the wake log for C and Rust: reading a log of packed entries.
+#![tactic(auto)]
+
 ghost use Rattle.std.specs.Prelude.{◌≡◌};
 ghost use Rattle.packed_answers.specs.Packed.{packed_at};
 
