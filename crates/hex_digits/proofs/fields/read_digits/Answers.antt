@@ -1,7 +1,4 @@
--- `hex_digits::fields::read_digits` meets its contract.
 use borrow.Author.Rules.{rules}
-use Rattle.hex_digits.proofs.fields.read_digits.Statement.{statement}
-use Rattle.hex_digits.proofs.fields.read_digits.Tie as tie
 use mathlib.Core.Path.{◌≡◌, refl}
 use mathlib.Core.List.{List, [], ◌∷◌}
 use mathlib.Core.Bool.{Bool}
@@ -10,6 +7,7 @@ use lib.Dec.{eqb, eqb→eq}
 use lib.ListN.{get_or}
 use Rattle.hex_digits.specs.Digits.{value_of}
 use Rattle.hex_digits.proofs.Table.{at}
+use Rattle.hex_digits.proofs.fields.read_digits.Goals as goal
 
 values : List ℕ
 values =
@@ -38,15 +36,6 @@ rule : (b : ℕ) → b < 256 → get_or values b 0 ≡ value_of b
 unfolding values right value_of
 rule b l = eqb→eq (get_or values b 0) (value_of b) (at right values tt b l)
 
-slice-aggregate-read-by : tie.Need-slice-aggregate-read-by
-slice-aggregate-read-by c = search rules
-
-read-by-requires : tie.Need-read-by-requires
+pub read_by-requires : goal.read_by-requires
 unfolding values
-read-by-requires c κs = (rule, refl, c.before.before.requires.0, c.before.before.requires.1)
-
-returns : tie.Need-returns
-returns c = search rules
-
-pub read-digits-spec : {M : Type 1} → statement M
-read-digits-spec = tie.close (tie.spec slice-aggregate-read-by read-by-requires returns)
+read_by-requires c = (rule, refl, c.requires.0, c.requires.1)

@@ -1,0 +1,18 @@
+-- Invariant: n is the number of ones in the words before k. Measure: the words that are left.
+use borrow.Author.Rules.{rules}
+use Prim.Native.Nat.{◌*◌, ◌-◌, ◌≤◌}
+use mathlib.Core.Path.{◌≡◌, refl}
+use native.Mathlib.Omega.{arith}
+use lib.ListN.{length}
+use lib.Count.{ones-le}
+use Rattle.range.specs.Sum.{sum, count}
+use Rattle.range.proofs.Sums.{count_le}
+use Rattle.bit_maps.specs.BitMap.{bit}
+use Rattle.bit_maps.proofs.Maps.{count_word}
+use Rattle.bit_maps.proofs.counts.ones.Given as goal
+
+abbrev pub invariant-loop-k : goal.invariant-loop-k
+invariant-loop-k l = (l.k ≤ length l.map) × (l.n ≡ count (64 * l.k) (bit l.map))
+
+abbrev pub decreases-loop-k : goal.decreases-loop-k
+decreases-loop-k l = length l.map - l.k
