@@ -1,0 +1,16 @@
+-- Invariant: no link before i has a fault. Measure: the links that are left.
+use borrow.Author.Rules.{rules}
+use Prim.Native.Nat.{◌-◌, ◌≤◌}
+use mathlib.Core.Path.{◌≡◌, refl, sym, ◌∙◌}
+use native.Mathlib.Omega.{arith}
+use Rattle.range.specs.First.{first}
+use Rattle.range.proofs.Faults.{first_none, first_some}
+use Rattle.table.specs.Table.{item}
+use Rattle.table.specs.Legal.{link_fault}
+use Rattle.table.proofs.checks.links_fault.Given as goal
+
+abbrev pub invariant-loop-i : goal.invariant-loop-i
+invariant-loop-i l = (l.i ≤ l.links) × (first (link_fault l.probes (item l.lows) (item l.highs)) l.i ≡ 0)
+
+abbrev pub decreases-loop-i : goal.decreases-loop-i
+decreases-loop-i l = l.links - l.i
