@@ -1,0 +1,16 @@
+-- Invariant: need line v starts at `at`, and none before it has a fault. Measure: the need lines that are left.
+use borrow.Author.Rules.{rules}
+use Prim.Native.Nat.{ℕ, ◌-◌, ◌≤◌}
+use mathlib.Core.Path.{◌≡◌, refl, sym, ◌∙◌, ap}
+use native.Mathlib.Omega.{arith}
+use Rattle.range.specs.First.{first}
+use Rattle.range.proofs.Faults.{first_none, first_some}
+use Rattle.lines.specs.Digits.{line_fault}
+use Rattle.table.specs.Text.{need_start, need_line_fault}
+use Rattle.table_text.proofs.line_checks.need_lines_fault.Given as goal
+
+abbrev pub invariant-loop-v : goal.invariant-loop-v
+invariant-loop-v l = (l.v ≤ l.probes) × (l.at ≡ need_start l.v) × (first (need_line_fault l.text) l.v ≡ 0)
+
+abbrev pub decreases-loop-v : goal.decreases-loop-v
+decreases-loop-v l = l.probes - l.v
