@@ -1,0 +1,21 @@
+-- Invariant: n is the number of the probe's links before i. Measure: the links that are left.
+use borrow.Author.Rules.{rules}
+use Prim.Native.Nat.{ℕ, ◌-◌, ◌≤◌}
+use mathlib.Core.Path.{◌≡◌, refl, sym, ◌∙◌}
+use mathlib.Core.List.{List, []}
+use mathlib.Core.Bool.{Bool}
+use native.Mathlib.Omega.{arith}
+use borrow.Author.Tests.{not-true, not-false}
+use Rattle.range.specs.Sum.{sum, count}
+use Rattle.range.proofs.Sums.{count_hit, count_miss}
+use Rattle.table.specs.Table.{of_slices, touches}
+use Rattle.table_links.proofs.spares.degree.Given as goal
+
+abbrev pub own : List ℕ → List ℕ → ℕ → ℕ → Bool
+own lows highs = touches (of_slices 0 0 0 [] lows highs [])
+
+abbrev pub invariant-loop-i : goal.invariant-loop-i
+invariant-loop-i l = (l.i ≤ l.links) × (l.n ≡ count l.i (own l.lows l.highs l.probe)) × (l.n ≤ l.i)
+
+abbrev pub decreases-loop-i : goal.decreases-loop-i
+decreases-loop-i l = l.links - l.i
