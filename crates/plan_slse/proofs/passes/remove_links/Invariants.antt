@@ -1,0 +1,26 @@
+-- Invariant: for every legal table of these links in this order, from what it adds, k turns of the way down are done. Measure: the turns left.
+use borrow.Author.Rules.{rules}
+use Prim.Native.Nat.{ℕ, ◌-◌, ◌≤◌, ◌<◌}
+use mathlib.Core.Path.{◌≡◌, refl, ◌∙◌}
+use mathlib.Core.List.{List}
+use native.Mathlib.Omega.{arith}
+use lib.ListN.{length, get_or}
+use Rattle.table.specs.Table.{of_slices, dearer}
+use Rattle.table.specs.Legal.{Ends}
+use Rattle.plan_theory.specs.Pass.{place}
+use Rattle.plan_theory.specs.Plan.{links_at, added, plan_byte}
+use Rattle.plan_slse.specs.FromDearest.{InOrder}
+use Rattle.plan_slse.proofs.Turns.{Down, down_start, down_step, down_end, whole}
+use Rattle.plan_slse.proofs.passes.remove_links.Given as goal
+
+abbrev pub invariant-loop-k : goal.invariant-loop-k
+invariant-loop-k l =
+    (l.k ≤ l.links)
+    × ((probes : ℕ) (costs : List ℕ) → probes ≤ length l.initial.counts → InOrder (of_slices 0 probes l.links l.needs l.lows l.highs costs) l.order
+    → ((j : ℕ) → j < l.links → get_or l.initial.plan j 0 ≡ plan_byte (added (of_slices 0 probes l.links l.needs l.lows l.highs costs) j))
+    → ((v : ℕ) → v < probes → get_or l.initial.counts v 0 ≡ links_at (of_slices 0 probes l.links l.needs l.lows l.highs costs) (added (of_slices 0 probes l.links l.needs l.lows l.highs costs)) v)
+    → Down probes l.links l.needs l.lows l.highs costs l.k l.initial.plan l.plan l.counts)
+    × (length l.plan ≡ length l.initial.plan) × (length l.counts ≡ length l.initial.counts)
+
+abbrev pub decreases-loop-k : goal.decreases-loop-k
+decreases-loop-k l = l.links - l.k
