@@ -58,4 +58,4 @@ of_entries es few = let room = length-replicate 64 no_entry in stored_first es (
 
 -- there are 64 places
 pub places : (all : Entries) (vs : List Val) → Is B.the_row all vs → length all.entries ≡ 64
-places all vs is = sym (length-map all.entries _) ∙ (LL.owed B.the_type B'.the_laws all vs is).1.0.1.0.1
+places all vs is = (LL.owed B.the_type B'.the_laws all vs is).1.0.1.0.1

@@ -1,3 +1,1 @@
-pub mod Call
 pub mod EntriesLaws
-mod Loop

@@ -1,0 +1,17 @@
+use borrow.Author.Rules.{rules}
+use Prim.Native.Nat.{◌-◌, ◌≤◌}
+use mathlib.Core.Path.{◌≡◌}
+use native.Mathlib.Omega.{arith}
+use mathlib.Core.List.{map}
+use lib.ListN.{length, take, length-set}
+use lib.Seq.{sets}
+use Rattle.packed_answers.specs.Packed.{packed_entry}
+use Rattle.wake_log.specs.Log.{no_entry}
+use Rattle.bag_entries.proofs.EntriesLaws.{packed_next}
+use Rattle.bag_entries.proofs.logs.store_all.Given as goal
+
+abbrev pub invariant-loop-k : goal.invariant-loop-k
+invariant-loop-k l = (l.k ≤ l.count) × (l.log ≡ sets l.initial.log l.used (map packed_entry (take l.k l.all.entries))) × (length l.log ≡ length l.initial.log)
+
+abbrev pub decreases-loop-k : goal.decreases-loop-k
+decreases-loop-k l = l.count - l.k
