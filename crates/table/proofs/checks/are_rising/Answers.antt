@@ -1,12 +1,10 @@
 use borrow.Author.Rules.{rules}
-use Prim.Native.Nat.{◌+◌, ◌-◌, ◌≤◌}
+use Prim.Native.Nat.{◌+◌, ◌-◌}
 use mathlib.Core.Path.{◌≡◌, refl, sym, ap}
-use mathlib.Core.Bool.{false}
 use native.Mathlib.Omega.{arith}
 use borrow.Author.Tests.{not-true}
 use Rattle.range.specs.First.{first}
 use Rattle.table.specs.Table.{item}
-use Rattle.table.specs.Legal.{link_fault}
 use Rattle.table.proofs.Faults.{links_pass}
 use Rattle.table.proofs.checks.are_rising.Goals as goal
 

@@ -1,14 +1,10 @@
 -- Invariant: where no link before i was found bad, none of them has a fault; low0 and high0 are the ends of the link before i, if there is one. Measure: the links that are left.
-use borrow.Author.Rules.{rules}
-use Prim.Native.Nat.{◌+◌, ◌-◌, ◌≤◌}
-use mathlib.Core.Path.{◌≡◌, refl, sym, ap}
+use Prim.Native.Nat.{◌-◌, ◌≤◌}
+use mathlib.Core.Path.{◌≡◌}
 use mathlib.Core.Bool.{false}
-use native.Mathlib.Omega.{arith}
-use borrow.Author.Tests.{not-true}
 use Rattle.range.specs.First.{first}
 use Rattle.table.specs.Table.{item}
 use Rattle.table.specs.Legal.{link_fault}
-use Rattle.table.proofs.Faults.{links_pass}
 use Rattle.table.proofs.checks.are_rising.Given as goal
 
 abbrev pub invariant-loop-i : goal.invariant-loop-i

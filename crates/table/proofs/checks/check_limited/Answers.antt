@@ -1,4 +1,3 @@
-use borrow.Author.Rules.{rules}
 use Rattle.table.proofs.Answers.{checking-fine, checking-refused}
 use Rattle.table.proofs.checks.check_limited.Goals as goal
 

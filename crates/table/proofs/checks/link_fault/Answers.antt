@@ -1,4 +1,3 @@
-use borrow.Author.Rules.{rules}
 use Rattle.table.specs.Table.{item}
 use Rattle.table.proofs.Faults.{link_not_ends, link_alone, link_after}
 use Rattle.table.proofs.checks.link_fault.Goals as goal

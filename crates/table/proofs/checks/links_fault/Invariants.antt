@@ -1,10 +1,7 @@
 -- Invariant: no link before i has a fault. Measure: the links that are left.
-use borrow.Author.Rules.{rules}
 use Prim.Native.Nat.{◌-◌, ◌≤◌}
-use mathlib.Core.Path.{◌≡◌, refl, sym, ◌∙◌}
-use native.Mathlib.Omega.{arith}
+use mathlib.Core.Path.{◌≡◌}
 use Rattle.range.specs.First.{first}
-use Rattle.range.proofs.Faults.{first_none, first_some}
 use Rattle.table.specs.Table.{item}
 use Rattle.table.specs.Legal.{link_fault}
 use Rattle.table.proofs.checks.links_fault.Given as goal

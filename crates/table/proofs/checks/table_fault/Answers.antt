@@ -1,4 +1,3 @@
-use borrow.Author.Rules.{rules}
 use Rattle.range.proofs.Faults.{or_here, or_next}
 use Rattle.table.proofs.checks.table_fault.Goals as goal
 

@@ -1,11 +1,8 @@
 -- Invariant: the counts before v are 0. Measure: the counts that are left.
-use borrow.Author.Rules.{rules}
 use Prim.Native.Nat.{ℕ, ◌-◌, ◌≤◌}
-use mathlib.Core.Path.{◌≡◌, refl, sym, ◌∙◌}
-use native.Mathlib.Omega.{arith}
-use lib.ListN.{length, length-set}
+use mathlib.Core.Path.{◌≡◌}
+use lib.ListN.{length}
 use Rattle.range.specs.Lists.{stored}
-use Rattle.range.proofs.Lists.{stored_next, stored_zeros}
 use Rattle.table.proofs.degrees.clear_counts.Given as goal
 
 abbrev pub invariant-loop-v : goal.invariant-loop-v

@@ -1,5 +1,4 @@
 use borrow.Author.Rules.{rules}
-use Prim.Native.Nat.{ℕ, ◌-◌, ◌≤◌}
 use mathlib.Core.Path.{◌≡◌, refl, ◌∙◌, ap}
 use native.Mathlib.Omega.{arith}
 use lib.ListN.{length, get_or, length-set}
@@ -7,7 +6,7 @@ use lib.Seq.{get_or-set_other}
 use Rattle.range.specs.Sum.{sum}
 use Rattle.range.proofs.Sums.{count_le}
 use Rattle.table.specs.Table.{item, of_slices, touches}
-use Rattle.table.proofs.DegreeLaws.{touched, counted_next}
+use Rattle.table.proofs.DegreeLaws.{counted_next}
 use mathlib.Core.List.{[]}
 use Rattle.table.proofs.degrees.count_degrees.Goals as goal
 
