@@ -14,6 +14,7 @@ use Rattle.table.specs.Table.{item, dearer_by_place}
 use Rattle.probe_decisions.proofs.SearchLaws.{next_is, lesser, found_to, found_before, found_behind}
 use Rattle.probe_decisions.proofs.search.best_in.Invariants.{order}
 use Rattle.probe_decisions.proofs.search.best_in.Goals as goal
+use Rattle.probe_decisions.proofs.search.best_in.Goals.{else-goes_before, then-goes_before}
 
 pub loop-i-init : goal.loop-i-init
 loop-i-init c =
@@ -61,8 +62,5 @@ loop-i-preserved c =
       n.within,
       n.here,
       found_to o (bit a.map.now) a.links (l.i + 1) (next_bit a.map.now (l.i + 1)) _ (omega arith) (omega (arith, n.after)) n.between
-          (⊎_elim
-          (λ w. rw w.1 (found_before o (bit a.map.now) a.links l.i l.best (search rules) here (sym asked ∙ w.0.taken) before))
-          (λ w. rw w.1 (found_behind o (bit a.map.now) a.links l.i l.best here (sym asked ∙ w.0.left) before))
-          c.if-goes_before.branch),
+          (elim c.if-goes_before.branch [ then-goes_before w ↦ rw w.best-is (found_before o (bit a.map.now) a.links l.i l.best (search rules) here (sym asked ∙ w.if-goes_before.true) before) | else-goes_before w ↦ rw w.best-is (found_behind o (bit a.map.now) a.links l.i l.best here (sym asked ∙ w.if-goes_before.false) before) ]),
     )

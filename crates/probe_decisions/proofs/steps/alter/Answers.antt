@@ -86,9 +86,3 @@ returns-in-AllTried c =
     λ links sound within.
     rw c.in-AllTried.is (leaves_same links a.standing.now a.refused_out.now a.held.now a.refused_in.now sound)
 
-pub move_bit-requires-in-TakenDisplacing-2 : goal.move_bit-requires-in-TakenDisplacing-2
-move_bit-requires-in-TakenDisplacing-2 c =
-    let p = c.requires in
-    let w = rw c.in-TakenDisplacing.is at p.2 in
-    let m = c.move_bit-in-TakenDisplacing.auto in
-    (omega (arith, p.1.refused_in_lem.size, w.1, m.1.0), omega (arith, p.1.held.size, w.1, m.0))

@@ -10,6 +10,7 @@ use Rattle.range.proofs.Sums.{weigh_rest}
 use Rattle.bit_maps.proofs.Words.{bit_hit, bit_miss, bit_fits}
 use Rattle.probe_turning.proofs.Laws.{has_value, past_none}
 use Rattle.probe_turning.proofs.words.word_with.Goals as goal
+use Rattle.probe_turning.proofs.words.word_with.Goals.{else-rec-i-2, then-rec-i-2}
 
 pub loop-k-init : goal.loop-k-init
 unfolding sum
@@ -45,6 +46,5 @@ loop-k-preserved c =
     let a = c.args in
     let p : ℕ → Bool = λ j. has_value a.rec.now a.at a.value (64 * a.w + j) in (
       search rules,
-      ⊎_elim (λ z. z.1 ∙ bit_hit p l.k l.word c.loop-k-test.true l.invariant.1 (eq-eqb _ _ z.0.taken))
-          (λ z. z.1 ∙ bit_miss p l.k l.word l.invariant.1 (ne_eqb _ _ z.0.left)) c.if-rec-i-2.branch,
+      elim c.if-rec-i-2.branch [ then-rec-i-2 w ↦ w.word-is ∙ bit_hit p l.k l.word c.loop-k-test.true l.invariant.1 (eq-eqb _ _ w.if-rec-i-2.true) | else-rec-i-2 w ↦ w.word-is ∙ bit_miss p l.k l.word l.invariant.1 (ne_eqb _ _ w.if-rec-i-2.false) ],
     )
