@@ -165,7 +165,7 @@ fn fleet<W: Write>(output: &mut W) {
     let mut rec = [0u8; 24];
     let mut entries = fresh();
     for k in 0..10 {
-        entries = keep_line(
+        let after = keep_line(
             1,
             4,
             3,
@@ -178,6 +178,7 @@ fn fleet<W: Write>(output: &mut W) {
             entries,
             k,
         );
+        entries = after;
     }
     print(output, entries, 10);
 }
