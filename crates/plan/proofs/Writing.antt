@@ -1,8 +1,8 @@
 -- The first 27,923 bytes of an input print what all of it prints, in the program's own slice.
-use Rattle.std.proofs.Common.{◌≡◌, ℕ, ◌≤◌, ◌<◌, List, ◌++◌, Some, None, IfSome, Option, length, take, drop, sym, ◌∙◌, ap, subst, arith, append-nil, take_all, take_at, length-take-le}
+use Rattle.std.proofs.Common.{◌≡◌, ℕ, ◌≤◌, ◌<◌, List, ◌++◌, Some, None, IfSome, Option, length, take, drop, sym, ◌∙◌, ap, subst, arith, take_all, length-take-le}
 use Rattle.std.proofs.Math.Seq.{take-append_seam}
 use Rattle.std.proofs.lemmas.Slice.{between_from_start}
-use Rattle.std.specs.Io.KnownBytes.{Appends}
+use Rattle.std.specs.Io.KnownBytes.{Consumes, Appends}
 use native.Mathlib.Decide.{dec_lt}
 use Rattle.output.specs.Output.{output_reply, Prints}
 use Rattle.output.specs.declared.Output.{Output}
@@ -15,6 +15,7 @@ use Rattle.plan_output.proofs.Claims.{printed_plan}
 use Rattle.standard_io.specs.Reading.{FilledOf}
 use Rattle.standard_io.specs.declared.Filling.TheVariants.{Until}
 use Rattle.standard_io.specs.Writing.{Wrote}
+use Rattle.standard_io.proofs.Known.{first_known}
 use Rattle.standard_io.proofs.Writing.{wrote_is}
 use Rattle.plan.specs.Writing.{PlanWrites}
 
@@ -45,25 +46,6 @@ module _ (s : List ℕ) (r : Output) (out out' : List ℕ) (long : 28950 ≤ len
       let z : ◌≡◌ {A = ℕ} 0 1 = cc in
       omega arith
 
--- what a slice was filled with, of known bytes, is as much of them as it holds
-filled_first : (before after : Option (List ℕ)) (text : List ℕ) (n : ℕ) → n ≤ length text → FilledOf before after 0 text (Until n)
-    → IfSome before (λ xs. take (length text) xs ≡ take n text)
-filled_first None after text n l f = tt
-filled_first (Some xs) None text n l f = absurd f.0
-filled_first (Some xs) (Some ys) text n l f = go (dec_lt n (length text))
-  where
-    whole : xs ≡ take n text ++ ys
-    whole = f.0 ∙ ap (λ l. l ++ ys) (between_from_start text n)
-
-    long : length (take n text) ≡ n
-    long = length-take-le n text l
-
-    go : Dec (n < length text) → take (length text) xs ≡ take n text
-    go (yes some) =
-        let e : xs ≡ take n text = whole ∙ ap (λ l. take n text ++ l) (f.1 some) ∙ append-nil (take n text) in
-        ap (take (length text)) e ∙ take_all (length text) (take n text) (omega (arith, long))
-    go (no full) = ap (take (length text)) whole ∙ take_at (take n text) ys (length text) (omega (arith, long))
-
 -- the start of the slice, as long as was answered, is all that was printed
 printed_start : (printed : List ℕ) (n : ℕ) (out out' : List ℕ) → Prints 0 printed (Length n) out out' → take n out' ≡ printed
 printed_start printed n out out' p =
@@ -77,6 +59,8 @@ pub whole_input : (input rest before after : Option (List ℕ)) (text : List ℕ
     → IfSome input (λ xs. Appends before after (output_of 256 2048 xs))
 whole_input None rest before after text n out out' k long l f p w = tt
 whole_input (Some xs) rest before after text n out out' k long l f p w =
-    let first : take 27923 xs ≡ take n text = ap (λ m. take m xs) (sym long) ∙ filled_first (Some xs) rest text n l f in
+    let m = length-take-le n text l in
+    let read : Consumes (Some xs) rest (take n text) = subst (Consumes (Some xs) rest) (between_from_start text n) f.0 in
+    let first : take 27923 xs ≡ take n text = first_known (Some xs) rest (take n text) 27923 (omega (arith, m, l, long)) read (λ some. f.1 (omega (arith, some, m, long))) in
     let e : take k out' ≡ output_of 256 2048 xs = printed_start (output_of 256 2048 (take n text)) k out out' p ∙ ap (output_of 256 2048) (sym first) ∙ same_output xs in
     subst (Appends before after) e w
