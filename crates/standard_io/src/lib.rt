@@ -7,6 +7,9 @@ ghost use Rattle.standard_io.specs.Reading.{GotWithin, GotOf, Fills, FilledOf};
 
 use std::io::{Read, Write};
 
+#[cfg(test)]
+mod tests;
+
 // What a read gave: so many bytes at the buffer's start, the end of the input, or nothing because it failed.
 #[derive(Clone, Copy)]
 pub enum Got {
