@@ -1,4 +1,4 @@
--- What the plan program writes: of the whole input, though it looks at the first 27,923 bytes alone. What the system's read gave and its write took is assumed.
+-- What the plan program writes: of the whole input, though it looks at the first 27,923 bytes alone. Of known bytes the program's run is promised; what the system's read gave and its write took, no promise tells.
 use Rattle.std.specs.Prelude.{ℕ, ◌≡◌, false, List, take, IfSome, Option}
 use Rattle.std.specs.Io.KnownBytes.{Appends, Keeps}
 use Rattle.standard_io.specs.Writing.{Wrote}
@@ -13,8 +13,8 @@ pub record PlanWrites (input : List ℕ) : Type 0 where
   -- of a table that is not refused: its plan, in which no link is awake for nothing (02, No. 14)
   pub plan : (written : List ℕ) → Wrote (output_of 256 2048 (take 27923 input)) written → text_fault 256 2048 false input ≡ 0 → PrintedPlan input written
 
--- of a reader whose bytes are known: all that they print is written, or nothing
-abbrev pub Answers : Option (List ℕ) → Option (List ℕ) → Option (List ℕ) → Ending → Type 0
-Answers input before after Written = IfSome input (λ xs. Appends before after (output_of 256 2048 xs))
-Answers input before after Unread = Keeps before after
-Answers input before after Unwritten = Unit {0}
+-- of a reader and a writer whose bytes are known: what all that is read prints is written; where a read failed, nothing is
+abbrev pub WritesAll : Option (List ℕ) → Option (List ℕ) → Option (List ℕ) → Ending → Type 0
+WritesAll input before after Written = IfSome input (λ xs. Appends before after (output_of 256 2048 xs))
+WritesAll input before after Unread = Keeps before after
+WritesAll input before after Unwritten = Unit {0}

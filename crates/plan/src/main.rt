@@ -5,7 +5,7 @@ ghost use Rattle.std.specs.Prelude.{◌≤◌, length};
 ghost use Rattle.output.specs.Output.{Prints};
 ghost use Rattle.output.specs.declared.Output.TheVariants.{Length};
 ghost use Rattle.plan_output.specs.Output.{output_of};
-ghost use Rattle.plan.specs.Writing.{Answers};
+ghost use Rattle.plan.specs.Writing.{WritesAll};
 
 use output::Output;
 use standard_io::{Filling, Got};
@@ -29,7 +29,7 @@ fn skip_rest<R: Read>(input: &mut R) -> bool {
     true
 }
 
-// Prints what a text prints, in a slice that holds any output (law `always-printed`).
+// Prints what a text prints, in a slice that holds any output (law `always_printed`).
 fn print(text: &[u8], out: &mut [u8]) -> usize
     requires { 28950 ≤ length out.old }
     ensures { Prints 0 (output_of 256 2048 text.now) (Length result) out.old out.new }
@@ -48,9 +48,9 @@ enum Ending {
     Unwritten,
 }
 
-// Only the first 27,923 bytes of the input matter (law `long-output`). Nothing is printed before the input has ended.
+// Prints the plan of the table that the input gives. Only the first 27,923 bytes of the input matter (law `long_output`). Nothing is printed before the input has ended.
 fn answer<R: Read, W: Write>(input: &mut R, output: &mut W) -> Ending
-    ensures { Answers (R.remaining input.old) (W.contents output.old) (W.contents output.new) result }
+    ensures { WritesAll (R.remaining input.old) (W.contents output.old) (W.contents output.new) result }
 {
     let mut text = [0u8; 27923];
     let mut out = [0u8; 28950];

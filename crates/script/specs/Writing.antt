@@ -1,4 +1,4 @@
--- What the script program writes, over any list of reads that together give the input. What the system's read gave and its write took is assumed.
+-- What the script program writes, over any list of reads that together give the input. Of known bytes the program's run is promised; what the system's read gave and its write took, no promise tells.
 use Rattle.std.specs.Prelude.{ℕ, ◌≤◌, ◌<◌, ◌≡◌, true, List, ◌++◌, length, take, replicate, Option, IfSome}
 use Rattle.std.specs.Io.KnownBytes.{Consumes, Appends, IsAtEnd}
 use Rattle.table.specs.Slices.{Slices}
