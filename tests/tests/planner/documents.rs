@@ -7,7 +7,8 @@ use std::path::Path;
 
 /// Each crate with the crates of the repository that its line in crates.txt has.
 fn listed() -> BTreeMap<String, BTreeSet<String>> {
-    let text = document("crates.txt");
+    // A static library says so behind its name.
+    let text = document("crates.txt").replace(" staticlib:", ":");
     let lines: Vec<_> = text.lines().filter_map(|l| l.split_once(':')).collect();
     let own: BTreeSet<&str> = lines.iter().map(|line| line.0).collect();
     let words = |list: &str| {
@@ -27,7 +28,7 @@ fn crate_words(path: &Path) -> BTreeSet<String> {
     };
     let mut found = BTreeSet::new();
     found.extend(
-        text.split("Rattle·")
+        text.split("Rattle.")
             .skip(1)
             .map(|rest| words(rest).swap_remove(0)),
     );
