@@ -35,7 +35,7 @@ fn skip_rest() -> bool {
     true
 }
 
-// Prints what a text prints, in a slice that holds any output (law `always-printed`).
+// Prints what a text prints, in a slice that holds any output (law `always_printed`).
 fn print(text: &[u8], out: &mut [u8]) -> usize
     requires { 28950 ≤ length out.old }
     ensures { Prints 0 (output_of 256 2048 text.now) (Length result) out.old out.new }
@@ -47,7 +47,7 @@ fn print(text: &[u8], out: &mut [u8]) -> usize
     }
 }
 
-// Only the first 27,923 bytes of the input matter (law `long-output`). Nothing is printed before the input has ended.
+// Only the first 27,923 bytes of the input matter (law `long_output`). Nothing is printed before the input has ended.
 fn main() {
     let mut text = [0u8; 27923];
     let mut out = [0u8; 28950];
