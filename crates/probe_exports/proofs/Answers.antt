@@ -32,7 +32,7 @@ befallen-packed fault t p event a r before after g e =
     let entry = entry_of t p (befalls_maps t p event before) in
     record {
       answer = e ∙ ap packed_answer (befallen-answer g);
-      lent = record { answer = answer-reply (answer_of fault entry) fault entry refl; maps_after_lem = g.maps-after };
+      lent = record { answer = answer-reply (answer_of fault entry) fault entry refl; maps_after_lem = g.maps_after_lem };
     }
 
 pub asks-packed : (fault : ℕ) (t : Table) (p : ℕ) (k : Kind) (i : ℕ) (rec : List ℕ) (a : Asked) (r : ℕ) (before after : List ℕ) → Asks fault t p k i rec a before after → r ≡ packed_value (askedReply a)
@@ -54,7 +54,7 @@ bag-packed state t p ls told r before after used log log' c e s =
     let free = length log - used in
     record {
       answer = e ∙ ap packed_value (bag_reply state t p ls free told before after c);
-      maps_after_lem = c.maps-after;
+      maps_after_lem = c.maps_after_lem;
       log_after = s ∙ ap (λ (es : List Entry). sets log used (map packed_entry es)) (bag_entries state t p ls free told before after c) ∙ go (eqb (bag_fault state t p ls free) 0);
     }
   where

@@ -8,4 +8,4 @@ use Rattle.probe_exports.proofs.planner_probe_ask_refusal.Goals as goal
 pub returns : goal.returns
 returns c =
     let a = c.args in
-    asks-packed _ (of_slices a.number a.probes a.links a.needs.now a.lows.now a.highs.now a.costs.now) a.probe Refusal a.link (bytes_of a.links (rows a.standing.now a.refused_out_lem.now a.held.now a.refused_in_lem.now)) _ _ a.out.now _ c.ask.ensures c.packed_asked.ensures
+    asks-packed _ (of_slices a.number a.probes a.links a.needs.now a.lows.now a.highs.now a.costs.now) a.probe Refusal a.link (bytes_of a.links (rows a.standing.now a.refused_out.now a.held.now a.refused_in.now)) _ _ a.out.now _ c.ask.ensures c.packed_asked.ensures

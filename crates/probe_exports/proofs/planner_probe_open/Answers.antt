@@ -8,4 +8,4 @@ use Rattle.probe_exports.proofs.planner_probe_open.Goals as goal
 pub returns : goal.returns
 returns c =
     let a = c.args in
-    befallen-packed _ (of_slices a.number a.probes a.links a.needs.now a.lows.now a.highs.now a.costs.now) a.probe Opening _ _ (rows a.standing.now a.refused_out_lem.now a.held.now a.refused_in_lem.now) _ c.«open».ensures c.packed_answer.ensures
+    befallen-packed _ (of_slices a.number a.probes a.links a.needs.now a.lows.now a.highs.now a.costs.now) a.probe Opening _ _ (rows a.standing.now a.refused_out.now a.held.now a.refused_in.now) _ c.«open».ensures c.packed_answer.ensures
