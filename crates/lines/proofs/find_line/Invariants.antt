@@ -1,16 +1,9 @@
 -- Invariant: the first line feed from `at` is the first from `i`. Measure: the bytes that are left.
 -- the count from an offset where a line feed stands, where another byte does, and at the end
 use mathlib.Core.Path.{◌≡◌}
-use mathlib.Core.List.{List}
-use Prim.Native.Nat.{ℕ, ◌+◌, ◌-◌, ◌≤◌, ◌<◌}
-use native.Mathlib.Numerals.{add-one}
-use native.Mathlib.Omega.{arith}
-use lib.ListN.{length, get_or, drop, drop_of_length-le}
-use lib.Seq.{drop-cons}
-use borrow.Author.Rules.{rules}
-use borrow.Author.Tests.{lt-ltb, le-ltb, eq-eqb, ne_eqb}
-use Rattle.lines.specs.declared.Line.TheVariants.{Here, Missing}
-use Rattle.lines.specs.Line.{until_feed, line_at}
+use Prim.Native.Nat.{◌+◌, ◌-◌, ◌≤◌}
+use lib.ListN.{length, drop}
+use Rattle.lines.specs.Line.{until_feed}
 use Rattle.lines.proofs.find_line.Given as goal
 
 abbrev pub invariant-loop-i : goal.invariant-loop-i

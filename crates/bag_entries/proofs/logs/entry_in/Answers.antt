@@ -1,5 +1,4 @@
 -- src/logs.rt:16:5
-use borrow.Author.Rules.{rules}
 use native.Mathlib.Omega.{arith}
 use Rattle.wake_log.specs.Log.{no_entry}
 use Rattle.bag_entries.proofs.EntriesLaws.{any_default, places}

@@ -1,10 +1,7 @@
 use borrow.Author.Rules.{rules}
-use Prim.Native.Nat.{◌-◌, ◌≤◌}
 use mathlib.Core.Path.{◌≡◌}
 use native.Mathlib.Omega.{arith}
-use mathlib.Core.List.{map}
-use lib.ListN.{length, take, length-set}
-use lib.Seq.{sets}
+use lib.ListN.{length-set}
 use Rattle.packed_answers.specs.Packed.{packed_entry}
 use Rattle.wake_log.specs.Log.{no_entry}
 use Rattle.bag_entries.proofs.EntriesLaws.{packed_next, places}

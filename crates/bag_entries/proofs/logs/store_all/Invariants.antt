@@ -1,13 +1,9 @@
-use borrow.Author.Rules.{rules}
 use Prim.Native.Nat.{◌-◌, ◌≤◌}
 use mathlib.Core.Path.{◌≡◌}
-use native.Mathlib.Omega.{arith}
 use mathlib.Core.List.{map}
-use lib.ListN.{length, take, length-set}
+use lib.ListN.{length, take}
 use lib.Seq.{sets}
 use Rattle.packed_answers.specs.Packed.{packed_entry}
-use Rattle.wake_log.specs.Log.{no_entry}
-use Rattle.bag_entries.proofs.EntriesLaws.{packed_next}
 use Rattle.bag_entries.proofs.logs.store_all.Given as goal
 
 abbrev pub invariant-loop-k : goal.invariant-loop-k

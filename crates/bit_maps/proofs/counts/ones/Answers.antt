@@ -1,10 +1,10 @@
 use borrow.Author.Rules.{rules}
-use Prim.Native.Nat.{◌*◌, ◌-◌, ◌≤◌}
+use Prim.Native.Nat.{◌*◌}
 use mathlib.Core.Path.{◌≡◌, refl}
 use native.Mathlib.Omega.{arith}
 use lib.ListN.{length}
 use lib.Count.{ones-le}
-use Rattle.range.specs.Sum.{sum, count}
+use Rattle.range.specs.Sum.{sum}
 use Rattle.range.proofs.Sums.{count_le}
 use Rattle.bit_maps.specs.BitMap.{bit}
 use Rattle.bit_maps.proofs.Maps.{count_word}

@@ -1,14 +1,9 @@
 -- Invariant: n is the number of ones in the words before k. Measure: the words that are left.
-use borrow.Author.Rules.{rules}
 use Prim.Native.Nat.{◌*◌, ◌-◌, ◌≤◌}
-use mathlib.Core.Path.{◌≡◌, refl}
-use native.Mathlib.Omega.{arith}
+use mathlib.Core.Path.{◌≡◌}
 use lib.ListN.{length}
-use lib.Count.{ones-le}
-use Rattle.range.specs.Sum.{sum, count}
-use Rattle.range.proofs.Sums.{count_le}
+use Rattle.range.specs.Sum.{count}
 use Rattle.bit_maps.specs.BitMap.{bit}
-use Rattle.bit_maps.proofs.Maps.{count_word}
 use Rattle.bit_maps.proofs.counts.ones.Given as goal
 
 abbrev pub invariant-loop-k : goal.invariant-loop-k

@@ -1,13 +1,9 @@
 -- Invariant: no bit from the given place up to the word k is set. Measure: the words that are left.
-use borrow.Author.Rules.{rules}
-use Prim.Native.Nat.{ℕ, ◌*◌, ◌-◌, ◌/◌, ◌%◌, ◌^◌, ◌≤◌, ◌<◌}
+use Prim.Native.Nat.{ℕ, ◌*◌, ◌-◌, ◌≤◌, ◌<◌}
 use mathlib.Core.Path.{◌≡◌}
 use mathlib.Core.Bool.{false}
-use native.Mathlib.Omega.{arith}
-use lib.ListN.{length, get_or}
-use lib.Count.{trailing_le}
+use lib.ListN.{length}
 use Rattle.bit_maps.specs.BitMap.{bit}
-use Rattle.bit_maps.proofs.Maps.{clear_to, is_next_bit, word_clear, rest_clear, word_next, rest_next}
 use Rattle.bit_maps.proofs.walks.next.Given as goal
 
 abbrev pub invariant-loop-k : goal.invariant-loop-k

@@ -1,4 +1,3 @@
-use borrow.Author.Rules.{rules}
 use borrow.Author.Tests.{lt-ltb, le-ltb}
 use Rattle.hex_digits.specs.Digits.{digit_of}
 use Rattle.hex_digits.proofs.fields.digit.Goals as goal

@@ -1,12 +1,9 @@
 -- Invariant: storing the i digits of v that are left gives what is promised. Measure: the digits that are left.
-use borrow.Author.Rules.{rules}
 use Prim.Native.Nat.{◌≤◌}
-use mathlib.Core.Path.{◌≡◌, refl}
-use native.Mathlib.Omega.{arith}
-use lib.ListN.{length, length-set}
+use mathlib.Core.Path.{◌≡◌}
+use lib.ListN.{length}
 use lib.Seq.{sets}
 use Rattle.hex_digits.specs.Digits.{digits}
-use Rattle.hex_digits.proofs.Laws.{put_step}
 use Rattle.hex_digits.proofs.fields.put_number.Given as goal
 
 abbrev pub invariant-loop-i : goal.invariant-loop-i

@@ -1,10 +1,8 @@
 use borrow.Author.Rules.{rules}
-use Prim.Native.Nat.{ℕ, ◌+◌, ◌-◌, ◌≤◌}
+use Prim.Native.Nat.{ℕ, ◌+◌}
 use mathlib.Core.Path.{◌≡◌, refl, ◌∙◌}
 use native.Mathlib.Omega.{arith}
-use lib.ListN.{length}
-use lib.Seq.{sets}
-use Rattle.range.specs.Sum.{sum, count}
+use Rattle.range.specs.Sum.{sum}
 use Rattle.range.specs.Lists.{joined}
 use Rattle.range.proofs.Sums.{weigh_next}
 use Rattle.table.specs.Table.{item}

@@ -1,16 +1,13 @@
 -- Invariant: the lines of the kept links before i are stored, up to `at`. Measure: the links that are left.
-use borrow.Author.Rules.{rules}
-use Prim.Native.Nat.{ℕ, ◌+◌, ◌-◌, ◌≤◌}
-use mathlib.Core.Path.{◌≡◌, refl, ◌∙◌}
-use native.Mathlib.Omega.{arith}
+use Prim.Native.Nat.{◌-◌, ◌≤◌}
+use mathlib.Core.Path.{◌≡◌}
 use lib.ListN.{length}
 use lib.Seq.{sets}
-use Rattle.range.specs.Sum.{sum, count}
+use Rattle.range.specs.Sum.{count}
 use Rattle.range.specs.Lists.{joined}
-use Rattle.range.proofs.Sums.{weigh_next}
 use Rattle.table.specs.Table.{item}
 use Rattle.plan_lines.specs.Lines.{kept_start}
-use Rattle.plan_lines.proofs.Lengths.{length_kept_line, kept_line_at, count_part, lines_then}
+use Rattle.plan_lines.proofs.Lengths.{kept_line_at}
 use Rattle.plan_theory.specs.Plan.{is_kept}
 use Rattle.plan_lines.proofs.kept_lines.put_kept.Given as goal
 

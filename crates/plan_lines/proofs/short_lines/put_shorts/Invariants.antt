@@ -1,17 +1,13 @@
 -- Invariant: the lines of the short probes before v are stored, up to `at`. Measure: the probes that are left.
-use borrow.Author.Rules.{rules}
-use Prim.Native.Nat.{ℕ, ◌+◌, ◌-◌, ◌*◌, ◌≤◌}
-use mathlib.Core.Path.{◌≡◌, refl, ◌∙◌}
-use native.Mathlib.Omega.{arith}
+use Prim.Native.Nat.{◌+◌, ◌-◌, ◌*◌, ◌≤◌}
+use mathlib.Core.Path.{◌≡◌}
 use lib.Dec.{ltb}
 use lib.ListN.{length}
 use lib.Seq.{sets}
-use Rattle.range.specs.Sum.{sum, count}
+use Rattle.range.specs.Sum.{count}
 use Rattle.range.specs.Lists.{joined}
-use Rattle.range.proofs.Sums.{weigh_next}
 use Rattle.table.specs.Table.{item}
-use Rattle.plan_lines.proofs.Lengths.{length_short_line, short_line_at, count_part, lines_then}
-use mathlib.Core.Bool.{Bool, cond}
+use Rattle.plan_lines.proofs.Lengths.{short_line_at}
 use Rattle.plan_lines.proofs.short_lines.put_shorts.Given as goal
 
 abbrev pub invariant-loop-v : goal.invariant-loop-v

@@ -1,13 +1,12 @@
 use borrow.Author.Rules.{rules}
-use Prim.Native.Nat.{ℕ, ◌-◌, ◌≤◌}
+use Prim.Native.Nat.{ℕ}
 use mathlib.Core.Path.{◌≡◌, refl, sym, ◌∙◌}
 use native.Mathlib.Omega.{arith}
 use lib.Dec.{ltb}
-use Rattle.range.specs.Sum.{sum, count}
+use Rattle.range.specs.Sum.{sum}
 use Rattle.table.specs.Table.{item}
 use Rattle.range.proofs.Sums.{count_le, count_hit, count_miss}
 use mathlib.Core.Bool.{Bool}
-use mathlib.Core.Logic.{⊎_elim}
 use Rattle.plan_lines.proofs.short_lines.short_count.Goals as goal
 use Rattle.plan_lines.proofs.short_lines.short_count.Goals.{then-is_short, else-is_short}
 
@@ -35,6 +34,7 @@ loop-v-preserved c =
     let e = sym c.is_short.ensures in (
       search rules,
       elim c.if-is_short.branch [
-        then-is_short w ↦ (let h = count_hit p l.v (e ∙ w.if-is_short.true) in omega (arith, w, l.invariant))
-      | else-is_short w ↦ (let h = count_miss p l.v (e ∙ w.if-is_short.false) in omega (arith, w, l.invariant)) ],
+        | then-is_short w ↦ (let h = count_hit p l.v (e ∙ w.if-is_short.true) in omega (arith, w, l.invariant))
+        | else-is_short w ↦ (let h = count_miss p l.v (e ∙ w.if-is_short.false) in omega (arith, w, l.invariant))
+      ],
     )

@@ -1,14 +1,9 @@
 -- Invariant: n is the number of short probes before v. Measure: the probes that are left.
-use borrow.Author.Rules.{rules}
-use Prim.Native.Nat.{ℕ, ◌-◌, ◌≤◌}
-use mathlib.Core.Path.{◌≡◌, refl, sym, ◌∙◌}
-use native.Mathlib.Omega.{arith}
+use Prim.Native.Nat.{◌-◌, ◌≤◌}
+use mathlib.Core.Path.{◌≡◌}
 use lib.Dec.{ltb}
-use Rattle.range.specs.Sum.{sum, count}
+use Rattle.range.specs.Sum.{count}
 use Rattle.table.specs.Table.{item}
-use Rattle.range.proofs.Sums.{count_le, count_hit, count_miss}
-use mathlib.Core.Bool.{Bool}
-use mathlib.Core.Logic.{⊎_elim}
 use Rattle.plan_lines.proofs.short_lines.short_count.Given as goal
 
 abbrev pub invariant-loop-v : goal.invariant-loop-v

@@ -1,15 +1,13 @@
 use borrow.Author.Rules.{rules}
-use Prim.Native.Nat.{ℕ, ◌+◌, ◌-◌, ◌≤◌, ◌<◌}
+use Prim.Native.Nat.{◌+◌, ◌-◌, ◌≤◌, ◌<◌}
 use mathlib.Core.Path.{◌≡◌, refl, ◌∙◌}
-use mathlib.Core.List.{List}
 use native.Mathlib.Omega.{arith}
 use lib.ListN.{length}
 use Rattle.table.specs.Table.{item, of_slices, dearer}
 use Rattle.table.specs.Legal.{Ends}
 use Rattle.plan_theory.specs.Pass.{place}
-use Rattle.plan_slse.specs.FromDearest.{InOrder}
 use Rattle.plan_slse.specs.Steps.{either_below}
-use Rattle.plan_slse.proofs.Turns.{Up, up_start, up_step, up_end, up_place, one_more_most, whole}
+use Rattle.plan_slse.proofs.Turns.{up_start, up_step, up_end, up_place, one_more_most, whole}
 use Rattle.plan_slse.proofs.passes.add_links.Goals as goal
 
 pub loop-k-init : goal.loop-k-init

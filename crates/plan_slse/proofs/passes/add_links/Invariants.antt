@@ -1,16 +1,11 @@
 -- Invariant: for every legal table of these links in this order, links - k turns of the way up are done; a probe counts at most one link for each. Measure: k, the turns left.
-use borrow.Author.Rules.{rules}
-use Prim.Native.Nat.{ℕ, ◌+◌, ◌-◌, ◌≤◌, ◌<◌}
-use mathlib.Core.Path.{◌≡◌, refl, ◌∙◌}
+use Prim.Native.Nat.{ℕ, ◌-◌, ◌≤◌, ◌<◌}
+use mathlib.Core.Path.{◌≡◌}
 use mathlib.Core.List.{List}
-use native.Mathlib.Omega.{arith}
 use lib.ListN.{length}
-use Rattle.table.specs.Table.{item, of_slices, dearer}
-use Rattle.table.specs.Legal.{Ends}
-use Rattle.plan_theory.specs.Pass.{place}
+use Rattle.table.specs.Table.{item, of_slices}
 use Rattle.plan_slse.specs.FromDearest.{InOrder}
-use Rattle.plan_slse.specs.Steps.{either_below}
-use Rattle.plan_slse.proofs.Turns.{Up, up_start, up_step, up_end, up_place, one_more_most, whole}
+use Rattle.plan_slse.proofs.Turns.{Up}
 use Rattle.plan_slse.proofs.passes.add_links.Given as goal
 
 abbrev pub invariant-loop-k : goal.invariant-loop-k

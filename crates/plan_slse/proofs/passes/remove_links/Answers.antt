@@ -1,15 +1,12 @@
 use borrow.Author.Rules.{rules}
-use Prim.Native.Nat.{ℕ, ◌-◌, ◌≤◌, ◌<◌}
+use Prim.Native.Nat.{◌≤◌, ◌<◌}
 use mathlib.Core.Path.{◌≡◌, refl, ◌∙◌}
-use mathlib.Core.List.{List}
 use native.Mathlib.Omega.{arith}
-use lib.ListN.{length, get_or}
+use lib.ListN.{length}
 use Rattle.table.specs.Table.{of_slices, dearer}
 use Rattle.table.specs.Legal.{Ends}
 use Rattle.plan_theory.specs.Pass.{place}
-use Rattle.plan_theory.specs.Plan.{links_at, added, plan_byte}
-use Rattle.plan_slse.specs.FromDearest.{InOrder}
-use Rattle.plan_slse.proofs.Turns.{Down, down_start, down_step, down_end, whole}
+use Rattle.plan_slse.proofs.Turns.{down_start, down_step, down_end, whole}
 use Rattle.plan_slse.proofs.passes.remove_links.Goals as goal
 
 pub loop-k-init : goal.loop-k-init

@@ -1,16 +1,12 @@
 -- Invariant: for every legal table of these links in this order, from what it adds, k turns of the way down are done. Measure: the turns left.
-use borrow.Author.Rules.{rules}
 use Prim.Native.Nat.{ℕ, ◌-◌, ◌≤◌, ◌<◌}
-use mathlib.Core.Path.{◌≡◌, refl, ◌∙◌}
+use mathlib.Core.Path.{◌≡◌}
 use mathlib.Core.List.{List}
-use native.Mathlib.Omega.{arith}
 use lib.ListN.{length, get_or}
-use Rattle.table.specs.Table.{of_slices, dearer}
-use Rattle.table.specs.Legal.{Ends}
-use Rattle.plan_theory.specs.Pass.{place}
+use Rattle.table.specs.Table.{of_slices}
 use Rattle.plan_theory.specs.Plan.{links_at, added, plan_byte}
 use Rattle.plan_slse.specs.FromDearest.{InOrder}
-use Rattle.plan_slse.proofs.Turns.{Down, down_start, down_step, down_end, whole}
+use Rattle.plan_slse.proofs.Turns.{Down}
 use Rattle.plan_slse.proofs.passes.remove_links.Given as goal
 
 abbrev pub invariant-loop-k : goal.invariant-loop-k

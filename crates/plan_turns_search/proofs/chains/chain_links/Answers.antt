@@ -1,11 +1,10 @@
 use borrow.Author.Rules.{rules}
-use Prim.Native.Nat.{ℕ, ◌+◌, ◌-◌, ◌*◌, ◌/◌, ◌≤◌, ◌<◌}
+use Prim.Native.Nat.{◌+◌, ◌-◌, ◌/◌}
 use mathlib.Core.Path.{◌≡◌, refl, ◌∙◌}
 use native.Mathlib.Omega.{arith}
 use lib.ListN.{length}
 use Rattle.plan_turns_search.specs.Record.{of_direction, mark}
-use Rattle.plan_turns_search.specs.Chain.{ChainBelow, Directions, Falls}
-use Rattle.plan_turns_search.proofs.Build.{key_bound, chain_start, chain_next, chain_done}
+use Rattle.plan_turns_search.proofs.Build.{chain_start, chain_next, chain_done}
 use Rattle.plan_turns_search.proofs.Storing.{pushed, marks_stay, directions_stay}
 use Rattle.plan_turns_search.proofs.chains.chain_links.Goals as goal
 

@@ -1,13 +1,10 @@
 -- Invariant: the directions of the links from n on are in chains, and the other entries stay. Measure: the links that are left.
-use borrow.Author.Rules.{rules}
-use Prim.Native.Nat.{ℕ, ◌+◌, ◌-◌, ◌*◌, ◌/◌, ◌≤◌, ◌<◌}
-use mathlib.Core.Path.{◌≡◌, refl, ◌∙◌}
-use native.Mathlib.Omega.{arith}
+use Prim.Native.Nat.{ℕ, ◌*◌, ◌/◌, ◌≤◌, ◌<◌}
+use mathlib.Core.Path.{◌≡◌}
 use lib.ListN.{length}
 use Rattle.plan_turns_search.specs.Record.{of_direction, mark}
 use Rattle.plan_turns_search.specs.Chain.{ChainBelow, Directions, Falls}
-use Rattle.plan_turns_search.proofs.Build.{key_bound, chain_start, chain_next, chain_done}
-use Rattle.plan_turns_search.proofs.Storing.{pushed, marks_stay, directions_stay}
+use Rattle.plan_turns_search.proofs.Build.{key_bound}
 use Rattle.plan_turns_search.proofs.chains.chain_links.Given as goal
 
 abbrev pub invariant-loop-n : goal.invariant-loop-n

@@ -1,4 +1,3 @@
-use borrow.Author.Rules.{rules}
 use mathlib.Core.Path.{◌∙◌}
 use Rattle.plan_turns_search.proofs.Storing.{link_put}
 use Rattle.plan_turns_search.proofs.chains.put_link.Goals as goal

@@ -1,9 +1,6 @@
 use borrow.Author.Rules.{rules}
-use Prim.Native.Nat.{◌-◌, ◌≤◌}
 use mathlib.Core.Path.{◌≡◌, refl, ◌∙◌}
 use native.Mathlib.Omega.{arith}
-use lib.ListN.{length}
-use Rattle.plan_turns_search.specs.Record.{LinksPut}
 use Rattle.plan_turns_search.proofs.Storing.{links_start, links_next}
 use Rattle.plan_turns_search.proofs.chains.put_links.Goals as goal
 

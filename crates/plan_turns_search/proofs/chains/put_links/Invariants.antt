@@ -1,11 +1,8 @@
 -- Invariant: the links before i are put. Measure: the links that are left.
-use borrow.Author.Rules.{rules}
 use Prim.Native.Nat.{◌-◌, ◌≤◌}
-use mathlib.Core.Path.{◌≡◌, refl, ◌∙◌}
-use native.Mathlib.Omega.{arith}
+use mathlib.Core.Path.{◌≡◌}
 use lib.ListN.{length}
 use Rattle.plan_turns_search.specs.Record.{LinksPut}
-use Rattle.plan_turns_search.proofs.Storing.{links_start, links_next}
 use Rattle.plan_turns_search.proofs.chains.put_links.Given as goal
 
 abbrev pub invariant-loop-i : goal.invariant-loop-i

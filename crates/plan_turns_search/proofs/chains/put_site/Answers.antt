@@ -1,4 +1,3 @@
-use borrow.Author.Rules.{rules}
 use native.Mathlib.Omega.{arith}
 use Rattle.plan_turns_search.proofs.Storing.{site_of_links, chains_put}
 use Rattle.plan_turns_search.proofs.chains.put_site.Goals as goal

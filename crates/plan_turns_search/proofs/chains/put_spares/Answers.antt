@@ -1,9 +1,6 @@
 use borrow.Author.Rules.{rules}
-use Prim.Native.Nat.{◌-◌, ◌≤◌}
 use mathlib.Core.Path.{◌≡◌, refl, ◌∙◌}
 use native.Mathlib.Omega.{arith}
-use lib.ListN.{length}
-use Rattle.plan_turns_search.specs.Record.{SparesPut}
 use Rattle.plan_turns_search.proofs.Storing.{spares_start, spares_next}
 use Rattle.plan_turns_search.proofs.chains.put_spares.Goals as goal
 

@@ -1,11 +1,8 @@
 -- Invariant: the spares before v are put, and what is before them stays. Measure: the spares that are left.
-use borrow.Author.Rules.{rules}
 use Prim.Native.Nat.{◌-◌, ◌≤◌}
-use mathlib.Core.Path.{◌≡◌, refl, ◌∙◌}
-use native.Mathlib.Omega.{arith}
+use mathlib.Core.Path.{◌≡◌}
 use lib.ListN.{length}
 use Rattle.plan_turns_search.specs.Record.{SparesPut}
-use Rattle.plan_turns_search.proofs.Storing.{spares_start, spares_next}
 use Rattle.plan_turns_search.proofs.chains.put_spares.Given as goal
 
 abbrev pub invariant-loop-v : goal.invariant-loop-v

@@ -1,11 +1,8 @@
 -- Invariant: the entries before j are stored. Measure: the entries that are left.
-use borrow.Author.Rules.{rules}
-use Prim.Native.Nat.{ℕ, ◌-◌, ◌≤◌}
-use mathlib.Core.Path.{◌≡◌, refl, ◌∙◌, ap}
-use native.Mathlib.Omega.{arith}
-use lib.ListN.{length, length-set}
+use Prim.Native.Nat.{◌-◌, ◌≤◌}
+use mathlib.Core.Path.{◌≡◌}
+use lib.ListN.{length}
 use Rattle.range.specs.Lists.{stored}
-use Rattle.range.proofs.Lists.{stored_next}
 use Rattle.plan_turns_search.specs.Record.{first_mark}
 use Rattle.plan_turns_search.proofs.chains.start_marks.Given as goal
 

@@ -1,11 +1,8 @@
 -- Invariant: the entries before k are those from the end. Measure: the entries that are left.
-use borrow.Author.Rules.{rules}
 use Prim.Native.Nat.{◌-◌, ◌≤◌}
-use mathlib.Core.Path.{◌≡◌, refl, sym, ◌∙◌, ap}
-use native.Mathlib.Omega.{arith}
-use lib.ListN.{length, length-set}
+use mathlib.Core.Path.{◌≡◌}
+use lib.ListN.{length}
 use Rattle.range.specs.Lists.{stored}
-use Rattle.range.proofs.Lists.{stored_next}
 use Rattle.table.specs.Table.{item}
 use Rattle.plan_turns_search.proofs.chains.turn_round.Given as goal
 

@@ -1,4 +1,3 @@
-use borrow.Author.Rules.{rules}
 use mathlib.Core.Path.{sym, ◌∙◌}
 use Rattle.plan_turns_search.proofs.Record.{key_by_cost, key_by_place}
 use Rattle.plan_turns_search.proofs.directions.cheaper.Goals as goal

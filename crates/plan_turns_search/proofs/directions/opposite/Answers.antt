@@ -1,4 +1,3 @@
-use borrow.Author.Rules.{rules}
 use borrow.Author.Tests.{eq-eqb, ne_eqb}
 use Rattle.plan_turns_search.specs.Chain.{opposite}
 use Rattle.plan_turns_search.proofs.directions.opposite.Goals as goal

@@ -1,11 +1,10 @@
 use Prim.Native.Nat.{◌*◌}
 use mathlib.Core.Path.{sym, ◌∙◌, ap}
 use native.Mathlib.Omega.{arith}
-use Rattle.plan_turns_search.specs.Record.{at_source, at_target, links_of, of_direction, source_of, turned_key, site_of}
-use Rattle.plan_turns_search.specs.Offers.{HeldSearch}
+use Rattle.plan_turns_search.specs.Record.{at_source, at_target, links_of, of_direction, source_of, turned_key}
 use Rattle.plan_turns_search.specs.Chain.{opposite}
 use Rattle.plan_turns_search.proofs.Record.{opposite_below}
-use Rattle.plan_turns_search.proofs.Chain.{chain_measure, falls, held_at, held_cheapest, held_step}
+use Rattle.plan_turns_search.proofs.Chain.{falls, held_at, held_cheapest, held_step}
 use Rattle.plan_turns_search.proofs.search.cheapest.Goals as goal
 
 pub of_probe-f-requires : goal.of_probe-f-requires

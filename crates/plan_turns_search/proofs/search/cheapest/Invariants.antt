@@ -1,12 +1,8 @@
 -- Invariant: below f the end holds no offer. Measure: the directions dearer than f.
 use Prim.Native.Nat.{◌*◌}
-use mathlib.Core.Path.{sym, ◌∙◌, ap}
-use native.Mathlib.Omega.{arith}
-use Rattle.plan_turns_search.specs.Record.{at_source, at_target, links_of, of_direction, source_of, turned_key, site_of}
+use Rattle.plan_turns_search.specs.Record.{at_source, links_of, turned_key, site_of}
 use Rattle.plan_turns_search.specs.Offers.{HeldSearch}
-use Rattle.plan_turns_search.specs.Chain.{opposite}
-use Rattle.plan_turns_search.proofs.Record.{opposite_below}
-use Rattle.plan_turns_search.proofs.Chain.{chain_measure, falls, held_at, held_cheapest, held_step}
+use Rattle.plan_turns_search.proofs.Chain.{chain_measure}
 use Rattle.plan_turns_search.proofs.search.cheapest.Given as goal
 
 abbrev pub invariant-loop-f : goal.invariant-loop-f

@@ -1,14 +1,9 @@
 -- Invariant: above e nothing is left to offer; in the inner loop, below f the target holds no offer. Measure: the directions cheaper than e, and those dearer than f.
-use borrow.Author.Rules.{rules}
-use Prim.Native.Nat.{◌*◌, ◌<◌, ◌≤◌}
-use mathlib.Core.Path.{◌≡◌, sym, ◌∙◌, ap}
-use native.Mathlib.Omega.{arith}
-use borrow.Author.Tests.{ltb-true, ltb-false}
-use Rattle.plan_turns_search.specs.Record.{at_source, at_target, links_of, of_direction, source_of, spare_of, key_of, turned_key, site_of, mark}
-use Rattle.plan_turns_search.specs.Offers.{HeldSearch, OfferSearch, holds}
-use Rattle.plan_turns_search.specs.Chain.{opposite}
-use Rattle.plan_turns_search.proofs.Record.{opposite_below}
-use Rattle.plan_turns_search.proofs.Chain.{chain_measure, falls, walk_next, walk_found, walk_end, taken_free, held_wanted, held_refuses, held_next}
+use Prim.Native.Nat.{◌*◌}
+use mathlib.Core.Path.{◌≡◌}
+use Rattle.plan_turns_search.specs.Record.{at_source, links_of, key_of, turned_key, site_of}
+use Rattle.plan_turns_search.specs.Offers.{HeldSearch, OfferSearch}
+use Rattle.plan_turns_search.proofs.Chain.{chain_measure}
 use Rattle.plan_turns_search.proofs.search.next_offer.Given as goal
 
 abbrev pub invariant-loop-d : goal.invariant-loop-d

@@ -1,4 +1,3 @@
-use borrow.Author.Rules.{rules}
 use Rattle.probe_frame.proofs.Laws.{frame_short, frame_reads}
 use Rattle.probe_frame.proofs.frame_line.read_frame.Goals as goal
 

@@ -1,4 +1,3 @@
-use borrow.Author.Rules.{rules}
 use Rattle.probe_frame.specs.Frame.{frame_line}
 use native.Mathlib.Omega.{arith}
 use Rattle.hex_digits.specs.Digits.{digits}

@@ -1,11 +1,8 @@
 -- Invariant: no link before i has a bad byte. Measure: the links that are left.
-use borrow.Author.Rules.{rules}
 use Prim.Native.Nat.{ℕ, ◌-◌, ◌≤◌}
-use mathlib.Core.Path.{◌≡◌, refl, sym, ◌∙◌}
+use mathlib.Core.Path.{◌≡◌}
 use mathlib.Core.List.{List, []}
-use native.Mathlib.Omega.{arith}
 use Rattle.range.specs.First.{first}
-use Rattle.range.proofs.Faults.{first_none, first_some}
 use Rattle.table.specs.Table.{of_slices}
 use Rattle.probe_record.specs.Record.{byte_fault}
 use Rattle.probe_record.proofs.checks.bytes_fault.Given as goal

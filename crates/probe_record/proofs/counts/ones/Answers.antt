@@ -1,14 +1,9 @@
 use borrow.Author.Rules.{rules}
-use Prim.Native.Nat.{ℕ, ◌+◌, ◌*◌, ◌-◌, ◌≤◌}
 use mathlib.Core.Path.{◌≡◌, refl, sym, ◌∙◌}
-use mathlib.Core.List.{List}
-use mathlib.Core.Bool.{Bool}
 use native.Mathlib.Omega.{arith}
-use lib.Dec.{eqb}
 use borrow.Author.Tests.{eq-eqb, ne_eqb}
-use Rattle.range.specs.Sum.{sum, count}
+use Rattle.range.specs.Sum.{sum}
 use Rattle.range.proofs.Sums.{count_hit, count_miss}
-use Rattle.table.specs.Table.{item}
 use Rattle.probe_record.proofs.counts.ones.Invariants.{one}
 use Rattle.probe_record.proofs.counts.ones.Goals as goal
 

@@ -1,15 +1,11 @@
 -- Invariant: n is the number of bytes 1 before i. Measure: the links that are left.
 -- the byte of the link i is 1
-use borrow.Author.Rules.{rules}
 use Prim.Native.Nat.{ℕ, ◌+◌, ◌*◌, ◌-◌, ◌≤◌}
-use mathlib.Core.Path.{◌≡◌, refl, sym, ◌∙◌}
+use mathlib.Core.Path.{◌≡◌}
 use mathlib.Core.List.{List}
 use mathlib.Core.Bool.{Bool}
-use native.Mathlib.Omega.{arith}
 use lib.Dec.{eqb}
-use borrow.Author.Tests.{eq-eqb, ne_eqb}
-use Rattle.range.specs.Sum.{sum, count}
-use Rattle.range.proofs.Sums.{count_hit, count_miss}
+use Rattle.range.specs.Sum.{count}
 use Rattle.table.specs.Table.{item}
 use Rattle.probe_record.proofs.counts.ones.Given as goal
 

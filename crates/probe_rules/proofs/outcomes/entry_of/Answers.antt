@@ -1,4 +1,3 @@
-use borrow.Author.Rules.{rules}
 use Rattle.probe_rules.proofs.outcomes.entry_of.Goals as goal
 
 pub returns : goal.returns

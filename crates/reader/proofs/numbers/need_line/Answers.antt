@@ -1,4 +1,3 @@
-use borrow.Author.Rules.{rules}
 use Rattle.reader.proofs.Fields.{need_reads}
 use Rattle.reader.proofs.numbers.need_line.Goals as goal
 

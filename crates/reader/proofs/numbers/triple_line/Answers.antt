@@ -1,4 +1,3 @@
-use borrow.Author.Rules.{rules}
 use Rattle.reader.proofs.Fields.{triple_reads}
 use Rattle.reader.proofs.numbers.triple_line.Goals as goal
 

@@ -1,12 +1,9 @@
 -- Invariant: no link from the given place up to i is the probe's. Measure: the links that are left.
-use borrow.Author.Rules.{rules}
-use Prim.Native.Nat.{ℕ, ◌+◌, ◌-◌, ◌≤◌, ◌<◌}
-use mathlib.Core.Path.{◌≡◌, sym, ◌∙◌}
+use Prim.Native.Nat.{ℕ, ◌-◌, ◌≤◌, ◌<◌}
+use mathlib.Core.Path.{◌≡◌}
 use mathlib.Core.Bool.{false}
 use mathlib.Core.List.{[]}
-use native.Mathlib.Omega.{arith}
-use Rattle.table.specs.Table.{Table, of_slices, touches}
-use Rattle.table_links.proofs.Own.{one_more_lem, is_next_own}
+use Rattle.table.specs.Table.{of_slices, touches}
 use Rattle.table_links.proofs.ends.next_own.Given as goal
 
 abbrev pub invariant-loop-i : goal.invariant-loop-i

@@ -1,4 +1,3 @@
-use borrow.Author.Rules.{rules}
 use Rattle.table_links.proofs.ends.touches.Goals as goal
 
 pub returns : goal.returns

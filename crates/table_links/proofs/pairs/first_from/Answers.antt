@@ -1,8 +1,7 @@
-use borrow.Author.Rules.{rules}
 use Prim.Native.Nat.{◌-◌, ◌+◌, ◌/◌}
 use mathlib.Core.Path.{sym, ◌∙◌}
 use native.Mathlib.Omega.{arith}
-use Rattle.table_links.proofs.Search.{Split, split_start, split_up, split_down, split_end}
+use Rattle.table_links.proofs.Search.{split_start, split_up, split_down, split_end}
 use Rattle.table_links.proofs.pairs.first_from.Goals as goal
 
 pub loop-start-init : goal.loop-start-init

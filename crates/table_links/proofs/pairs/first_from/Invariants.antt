@@ -1,9 +1,6 @@
 -- Invariant: links before `start` come before the given ends, links from `end` on do not. Measure: the links between them.
-use borrow.Author.Rules.{rules}
-use Prim.Native.Nat.{◌-◌, ◌+◌, ◌/◌}
-use mathlib.Core.Path.{sym, ◌∙◌}
-use native.Mathlib.Omega.{arith}
-use Rattle.table_links.proofs.Search.{Split, split_start, split_up, split_down, split_end}
+use Prim.Native.Nat.{◌-◌}
+use Rattle.table_links.proofs.Search.{Split}
 use Rattle.table_links.proofs.pairs.first_from.Given as goal
 
 abbrev pub invariant-loop-start : goal.invariant-loop-start

@@ -1,13 +1,9 @@
 -- Invariant: n is the number of the probe's links before i. Measure: the links that are left.
-use borrow.Author.Rules.{rules}
 use Prim.Native.Nat.{ℕ, ◌-◌, ◌≤◌}
-use mathlib.Core.Path.{◌≡◌, refl, sym, ◌∙◌}
+use mathlib.Core.Path.{◌≡◌}
 use mathlib.Core.List.{List, []}
 use mathlib.Core.Bool.{Bool}
-use native.Mathlib.Omega.{arith}
-use borrow.Author.Tests.{not-true, not-false}
-use Rattle.range.specs.Sum.{sum, count}
-use Rattle.range.proofs.Sums.{count_hit, count_miss}
+use Rattle.range.specs.Sum.{count}
 use Rattle.table.specs.Table.{of_slices, touches}
 use Rattle.table_links.proofs.spares.degree.Given as goal
 

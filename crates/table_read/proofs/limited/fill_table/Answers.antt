@@ -1,10 +1,8 @@
-use borrow.Author.Rules.{rules}
 use Prim.Native.Nat.{ℕ}
 use mathlib.Core.Path.{◌∙◌, ap}
 use mathlib.Core.Bool.{true}
 use native.Mathlib.Omega.{arith}
 use lib.ListN.{length}
-use Rattle.range.specs.Lists.{stored}
 use Rattle.lines.proofs.Lines.{good_line}
 use Rattle.lines.specs.Digits.{line_fault}
 use Rattle.table.specs.Text.{of_text, need_start, link_start}

@@ -1,11 +1,10 @@
 use borrow.Author.Rules.{rules}
-use Prim.Native.Nat.{◌-◌, ◌≤◌}
 use mathlib.Core.Path.{◌≡◌, refl, sym}
 use native.Mathlib.Omega.{arith}
-use lib.ListN.{length, length-set}
+use lib.ListN.{length-set}
 use Rattle.range.specs.Lists.{stored}
 use Rattle.range.proofs.Lists.{stored_next}
-use Rattle.table.specs.Text.{of_text, link_start}
+use Rattle.table.specs.Text.{of_text}
 use Rattle.table_read.proofs.Lines.{link_read}
 use Rattle.table_read.proofs.limited.store_links.Goals as goal
 

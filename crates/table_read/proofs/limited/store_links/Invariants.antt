@@ -1,13 +1,9 @@
 -- Invariant: link line i starts at `at`, and the links before i are stored. Measure: the links that are left.
-use borrow.Author.Rules.{rules}
 use Prim.Native.Nat.{◌-◌, ◌≤◌}
-use mathlib.Core.Path.{◌≡◌, refl, sym}
-use native.Mathlib.Omega.{arith}
-use lib.ListN.{length, length-set}
+use mathlib.Core.Path.{◌≡◌}
+use lib.ListN.{length}
 use Rattle.range.specs.Lists.{stored}
-use Rattle.range.proofs.Lists.{stored_next}
 use Rattle.table.specs.Text.{of_text, link_start}
-use Rattle.table_read.proofs.Lines.{link_read}
 use Rattle.table_read.proofs.limited.store_links.Given as goal
 
 abbrev pub invariant-loop-i : goal.invariant-loop-i

@@ -1,13 +1,9 @@
 -- Invariant: need line v starts at `at`, and the needs before v are stored. Measure: the needs that are left.
-use borrow.Author.Rules.{rules}
 use Prim.Native.Nat.{◌-◌, ◌≤◌}
-use mathlib.Core.Path.{◌≡◌, refl, sym}
-use native.Mathlib.Omega.{arith}
-use lib.ListN.{length, length-set}
+use mathlib.Core.Path.{◌≡◌}
+use lib.ListN.{length}
 use Rattle.range.specs.Lists.{stored}
-use Rattle.range.proofs.Lists.{stored_next}
 use Rattle.table.specs.Text.{of_text, need_start}
-use Rattle.table_read.proofs.Lines.{need_read}
 use Rattle.table_read.proofs.limited.store_needs.Given as goal
 
 abbrev pub invariant-loop-v : goal.invariant-loop-v

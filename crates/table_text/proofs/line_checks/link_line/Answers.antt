@@ -1,4 +1,3 @@
-use borrow.Author.Rules.{rules}
 use native.Mathlib.Omega.{arith}
 use Rattle.reader.proofs.Fields.{triple_numbers}
 use Rattle.table.specs.Text.{of_text}

@@ -1,10 +1,10 @@
 use borrow.Author.Rules.{rules}
-use Prim.Native.Nat.{◌+◌, ◌-◌, ◌≤◌, ◌<◌}
+use Prim.Native.Nat.{◌+◌, ◌-◌}
 use mathlib.Core.Path.{◌≡◌, refl, sym, ◌∙◌, ap}
 use native.Mathlib.Omega.{arith}
 use Rattle.range.specs.First.{first}
 use Rattle.range.proofs.Faults.{first_none, first_some}
-use Rattle.table.specs.Text.{of_text, link_start, link_line_fault}
+use Rattle.table.specs.Text.{link_line_fault}
 use Rattle.table_text.proofs.line_checks.link_lines_fault.Goals as goal
 
 pub loop-i-init : goal.loop-i-init

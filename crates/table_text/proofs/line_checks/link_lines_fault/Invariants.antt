@@ -1,10 +1,7 @@
 -- Invariant: link line i starts at `at`, none before it has a fault, and `low` and `high` are the ends of the link before. Measure: the link lines that are left.
-use borrow.Author.Rules.{rules}
-use Prim.Native.Nat.{◌+◌, ◌-◌, ◌≤◌, ◌<◌}
-use mathlib.Core.Path.{◌≡◌, refl, sym, ◌∙◌, ap}
-use native.Mathlib.Omega.{arith}
+use Prim.Native.Nat.{◌-◌, ◌≤◌, ◌<◌}
+use mathlib.Core.Path.{◌≡◌}
 use Rattle.range.specs.First.{first}
-use Rattle.range.proofs.Faults.{first_none, first_some}
 use Rattle.table.specs.Text.{of_text, link_start, link_line_fault}
 use Rattle.table_text.proofs.line_checks.link_lines_fault.Given as goal
 

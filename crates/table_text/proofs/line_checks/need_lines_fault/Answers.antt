@@ -1,11 +1,11 @@
 use borrow.Author.Rules.{rules}
-use Prim.Native.Nat.{ℕ, ◌-◌, ◌≤◌}
+use Prim.Native.Nat.{ℕ}
 use mathlib.Core.Path.{◌≡◌, refl, sym, ◌∙◌, ap}
 use native.Mathlib.Omega.{arith}
 use Rattle.range.specs.First.{first}
 use Rattle.range.proofs.Faults.{first_none, first_some}
 use Rattle.lines.specs.Digits.{line_fault}
-use Rattle.table.specs.Text.{need_start, need_line_fault}
+use Rattle.table.specs.Text.{need_line_fault}
 use Rattle.table_text.proofs.line_checks.need_lines_fault.Goals as goal
 
 pub loop-v-init : goal.loop-v-init

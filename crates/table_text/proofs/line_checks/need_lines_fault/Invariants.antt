@@ -1,11 +1,7 @@
 -- Invariant: need line v starts at `at`, and none before it has a fault. Measure: the need lines that are left.
-use borrow.Author.Rules.{rules}
-use Prim.Native.Nat.{ℕ, ◌-◌, ◌≤◌}
-use mathlib.Core.Path.{◌≡◌, refl, sym, ◌∙◌, ap}
-use native.Mathlib.Omega.{arith}
+use Prim.Native.Nat.{◌-◌, ◌≤◌}
+use mathlib.Core.Path.{◌≡◌}
 use Rattle.range.specs.First.{first}
-use Rattle.range.proofs.Faults.{first_none, first_some}
-use Rattle.lines.specs.Digits.{line_fault}
 use Rattle.table.specs.Text.{need_start, need_line_fault}
 use Rattle.table_text.proofs.line_checks.need_lines_fault.Given as goal
 

@@ -1,4 +1,3 @@
-use borrow.Author.Rules.{rules}
 use mathlib.Core.Path.{◌∙◌}
 use Rattle.range.proofs.Faults.{or_here, or_next}
 use Rattle.reader.proofs.Fields.{triple_numbers}

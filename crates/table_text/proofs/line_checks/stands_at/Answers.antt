@@ -1,9 +1,8 @@
 use borrow.Author.Rules.{rules}
-use Prim.Native.Nat.{◌+◌, ◌-◌, ◌≤◌}
-use mathlib.Core.Path.{◌≡◌, sym, ◌∙◌}
+use Prim.Native.Nat.{◌+◌}
+use mathlib.Core.Path.{sym, ◌∙◌}
 use native.Mathlib.Nat.{add-zero}
-use lib.ListN.{length, drop}
-use Rattle.table.specs.Text.{begins}
+use lib.ListN.{drop}
 use Rattle.table_text.proofs.Begins.{begins_end, begins_other, begins_next, begins_done}
 use Rattle.table_text.proofs.line_checks.stands_at.Goals as goal
 

@@ -1,11 +1,8 @@
 -- Invariant: the first k bytes agree. Measure: the bytes that are left.
-use borrow.Author.Rules.{rules}
 use Prim.Native.Nat.{◌+◌, ◌-◌, ◌≤◌}
-use mathlib.Core.Path.{◌≡◌, sym, ◌∙◌}
-use native.Mathlib.Nat.{add-zero}
+use mathlib.Core.Path.{◌≡◌}
 use lib.ListN.{length, drop}
 use Rattle.table.specs.Text.{begins}
-use Rattle.table_text.proofs.Begins.{begins_end, begins_other, begins_next, begins_done}
 use Rattle.table_text.proofs.line_checks.stands_at.Given as goal
 
 abbrev pub invariant-loop-k : goal.invariant-loop-k

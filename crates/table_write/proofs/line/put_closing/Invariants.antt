@@ -1,12 +1,9 @@
 -- Invariant: the first k bytes of the closing line are stored. Measure: the bytes that are left.
-use borrow.Author.Rules.{rules}
 use Prim.Native.Nat.{◌-◌, ◌≤◌}
-use mathlib.Core.Path.{◌≡◌, refl}
-use native.Mathlib.Omega.{arith}
-use lib.ListN.{length, take, length-set}
+use mathlib.Core.Path.{◌≡◌}
+use lib.ListN.{length, take}
 use lib.Seq.{sets}
 use Rattle.table.specs.Text.{closing_line}
-use Rattle.range.proofs.Sets.{sets_next}
 use Rattle.table_write.proofs.line.put_closing.Given as goal
 
 abbrev pub invariant-loop-k : goal.invariant-loop-k

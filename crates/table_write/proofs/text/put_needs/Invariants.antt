@@ -1,15 +1,11 @@
 -- Invariant: the lines of the probes before v are stored. Measure: the probes that are left.
-use borrow.Author.Rules.{rules}
 use Prim.Native.Nat.{◌-◌, ◌≤◌}
-use mathlib.Core.Path.{◌≡◌, refl, ◌∙◌}
-use native.Mathlib.Omega.{arith}
+use mathlib.Core.Path.{◌≡◌}
 use lib.ListN.{length}
 use lib.Seq.{sets}
 use Rattle.range.specs.Lists.{joined}
 use Rattle.table.specs.Table.{item}
 use Rattle.table.specs.Text.{need_line, need_start}
-use Rattle.table.proofs.Lengths.{length_need}
-use Rattle.range.proofs.Sets.{joined_then}
 use Rattle.table_write.proofs.text.put_needs.Given as goal
 
 abbrev pub invariant-loop-v : goal.invariant-loop-v

@@ -1,4 +1,3 @@
-use borrow.Author.Rules.{rules}
 use Rattle.table.specs.Table.{of_slices}
 use Rattle.table_write.proofs.Laws.{text_then}
 use Rattle.table_write.proofs.text.put_table.Goals as goal
