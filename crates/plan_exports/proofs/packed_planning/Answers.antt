@@ -1,4 +1,3 @@
-use borrow.Author.Rules.{rules}
 use Rattle.plan_exports.proofs.packed_planning.Goals as goal
 
 pub returns-in-Plan : goal.returns-in-Plan

@@ -1,4 +1,3 @@
-use borrow.Author.Rules.{rules}
 use Rattle.table.specs.Slices.{slices_of}
 use Rattle.plan_exports.proofs.Answers.{slse-packed}
 use Rattle.plan_exports.proofs.planner_display_plan_slse.Goals as goal

@@ -1,15 +1,5 @@
-use borrow.Author.Rules.{rules}
-use native.Mathlib.Omega.{arith}
-use Rattle.output.proofs.Printing.{printed_within}
 use Rattle.packed_answers.proofs.Answers.{prints-packed}
 use Rattle.plan_exports.proofs.planner_display_plan_text.Goals as goal
-
-pub packed_output-requires : goal.packed_output-requires
-packed_output-requires c =
-    λ n is.
-    let k = c.plan_text in
-    let l = printed_within _ n _ _ _ _ k.ensures is k.auto.out in
-    omega (arith, c.well_formed.1.0)
 
 pub returns : goal.returns
 returns c =
