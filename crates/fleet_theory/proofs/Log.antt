@@ -19,6 +19,7 @@ use Rattle.fleet_theory.proofs.Bytes.{marked_in}
 -- an entry more
 module _ (t : Table) (i : ℕ) (e : Entry) where
   pub in_before : (es : List Entry) → RefusedIn t i es → RefusedIn t i (es ++ (e ∷ []))
+  in_before [] x' = elim x' [ ]
   in_before (d ∷ es) (inl a) = inl a
   in_before (d ∷ es) (inr a) = inr (in_before es a)
 
@@ -28,6 +29,7 @@ module _ (t : Table) (i : ℕ) (e : Entry) where
 
   pub before_or_new : (es : List Entry) → RefusedIn t i (es ++ (e ∷ [])) → RefusedIn t i es ⊎ Refuses t i e.probe e.what
   before_or_new [] (inl a) = inr a
+  before_or_new [] (inr a) = elim a [ ]
   before_or_new (d ∷ es) (inl a) = inl (inl a)
   before_or_new (d ∷ es) (inr a) = go (before_or_new es a)
     where
@@ -57,6 +59,12 @@ module _ (t : Table) (p : ℕ) (a : ℕ → ℕ → ℕ) where
 
   -- what the entry says has a mark
   pub new_mark : Legal t → (o : Outcome) → OwnOutcome t p o → (j : ℕ) → j < t.links → Refuses t j p (what_of t p o) → marked_in p o a p j ≡ 1
+  new_mark legal (Opened i) own j l e = elim e [ ]
+  new_mark legal Enough own j l e = elim e [ ]
+  new_mark legal (Taken i) own j l e = elim e [ ]
+  new_mark legal (RefusalLearnt i) own j l e = elim e [ ]
+  new_mark legal (NoChange i) own j l e = elim e [ ]
+  new_mark legal AllTried own j l e = elim e [ ]
   new_mark legal (TakenDisplacing i c) own j l e =
       let one = one_link t legal j c p (other t p c) l own.1.0 (joins_across t p (other t p c) j e) (other_across t p c own.1.1) in
       rw one (stored_byte a (store a p c 1) p c 1 (λ x y. refl))

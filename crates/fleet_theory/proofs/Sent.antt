@@ -117,6 +117,7 @@ module _ (x : Slices) (fine : slices_fault x ≡ 0) where
       sent_mark : (s : State) → HoldsAfter t s → (ls : List (List ℕ)) → TrulySent t f (moments x room s ls) → mark (run x room s ls).bytes ≡ 1
       unfolding moments run
       sent_mark s h [] (inl m) = marks s h ((may s.bytes).0 m)
+      sent_mark s h [] (inr m) = elim m [ ]
       sent_mark s h (l ∷ ls) (inl m) = mark_stays s h (l ∷ ls) (marks s h ((may s.bytes).0 m))
       sent_mark s h (l ∷ ls) (inr m) = sent_mark (next x room s l) (next_holds x fine s h room l) ls m
 

@@ -14,9 +14,11 @@ use Rattle.script_theory.specs.Script.{end_text}
 use Rattle.script_steps.specs.declared.Progress.{Progress}
 use Rattle.script_output.specs.Handling.{end_call_fault}
 use Rattle.script_calls.specs.Calls.{PieceLeft}
-use Rattle.script_reads.specs.Handled.{HandledBy}
+use Rattle.std.specs.Prelude.{Option}
+use Rattle.script_reads.specs.Handled.{HandledBy, HandlesInput}
+use Rattle.script_reads.specs.declared.Stop.TheVariants.{AtEnd}
 use Rattle.script_reads.proofs.Chain.{left_of}
-use Rattle.script.specs.Writing.{Answered, AnswersScript, left_to_write}
+use Rattle.script.specs.Writing.{Answered, AnswersScript, AnswersInput, left_to_write}
 use Rattle.script.specs.declared.Ending.{Ending}
 use Rattle.script.specs.declared.Ending.TheVariants as ending
 
@@ -27,6 +29,15 @@ answered_by x line₀ long p rec line out out' n h end =
     let printed = end_text x b.bytes b.progress.held b.progress.changed in
     Prints (end_call_fault x b.bytes printed out) printed (Length n) out out' in
     record { line = line₀; long = long; calls = h.calls; kept = h.kept; out = out; end = subst Ends (sym h.left) end }
+
+-- the same pieces were read, and what they printed written
+pub answers_input : (x : Slices) (line₀ : List ℕ) → 16 ≤ length line₀ → (p : Progress) (rec line out out' : List ℕ) (n room : ℕ) (unread unread' written written' : Option (List ℕ))
+    → HandlesInput x (AtEnd p) line₀ rec line room unread unread' written written'
+    → (let printed = end_text x rec p.held p.changed in Prints (end_call_fault x rec printed out) printed (Length n) out out')
+    → AnswersInput x (ending.Printed n) out' room unread unread' written written'
+unfolding answered_by
+answers_input x line₀ long p rec line out out' n room unread unread' written written' h end =
+    record { answers = answered_by x line₀ long p rec line out out' n h.handled end; moved = h.moved }
 
 -- what it has printed stands within its slice
 answered_within : {x : Slices} {n : ℕ} {out' : List ℕ} → Answered x n out' → n ≤ length out'

@@ -1,5 +1,6 @@
 -- What the script program writes, over any list of reads that together give the input. What the system's read gave and its write took is assumed.
-use Rattle.std.specs.Prelude.{ℕ, ◌≤◌, ◌≡◌, true, List, ◌++◌, length, take, replicate}
+use Rattle.std.specs.Prelude.{ℕ, ◌≤◌, ◌<◌, ◌≡◌, true, List, ◌++◌, length, take, replicate, Option, IfSome}
+use Rattle.std.specs.Io.KnownBytes.{Consumes, Appends, IsAtEnd}
 use Rattle.table.specs.Slices.{Slices}
 use Rattle.table_read.specs.Reading.{Lent, lent_of, ReadsTable}
 use Rattle.table_read.specs.declared.Reading.TheVariants.{Table, Refused}
@@ -28,6 +29,17 @@ abbrev pub AnswersScript : Slices → Ending → List ℕ → Type 0
 AnswersScript x (ending.Printed n) out' = Answered x n out'
 AnswersScript x ending.Failed out' = Unit {0}
 
+-- of known bytes: those read are the text of the pieces, and what these printed was written; at the end none are left, if the slice to read into has room
+abbrev pub MovesScript : (x : Slices) (e : Ending) (out' : List ℕ) → AnswersScript x e out' → ℕ → Option (List ℕ) → Option (List ℕ) → Option (List ℕ) → Option (List ℕ) → Type 0
+MovesScript x (ending.Printed n) out' a room unread unread' written written' =
+    Consumes unread unread' (text_of_pieces a.calls) × Appends written written' (printed_by_pieces a.calls) × (0 < room → IsAtEnd unread')
+MovesScript x ending.Failed out' a room unread unread' written written' = Unit {0}
+
+-- both, of the same pieces
+pub record AnswersInput (x : Slices) (e : Ending) (out' : List ℕ) (room : ℕ) (unread unread' written written' : Option (List ℕ)) : Type 0 where
+  pub answers : AnswersScript x e out'
+  pub moved : MovesScript x e out' answers room unread unread' written written'
+
 -- the count of bytes that are left to write
 unfoldable pub left_to_write : Ending → ℕ
 left_to_write (ending.Printed n) = n
@@ -44,3 +56,16 @@ pub record ScriptWrites (input : List ℕ) : Type 0 where
   pub writes : (number probes links rest : ℕ) (b : Lent) → ReadsTable 256 2048 true (table_text input) (Table number probes links rest) zero_slices b
       → (n : ℕ) (out' : List ℕ) (a : Answered (lent_slices number probes links b) n out') → table_text input ++ text_of_pieces a.calls ≡ input
       → printed_by_pieces a.calls ++ take n out' ≡ script_output input
+
+-- what is left to write is written; nothing is where a read or write failed
+abbrev pub WritesEnding : Ending → List ℕ → Option (List ℕ) → Option (List ℕ) → Type 0
+WritesEnding (ending.Printed n) out written written' = Appends written written' (take n out)
+WritesEnding ending.Failed out written written' = ⊥
+
+-- behind a table's own text that was read, of known bytes that are still to be read: what the whole input prints
+abbrev pub WritesBehind : List ℕ → Option (List ℕ) → Option (List ℕ) → Option (List ℕ) → Type 0
+WritesBehind text unread written written' = IfSome unread (λ rest. table_text (text ++ rest) ≡ text → Appends written written' (script_output (text ++ rest)))
+
+-- of known bytes: all that they print is written
+abbrev pub WritesAll : Option (List ℕ) → Option (List ℕ) → Option (List ℕ) → Type 0
+WritesAll unread written written' = IfSome unread (λ input. Appends written written' (script_output input))

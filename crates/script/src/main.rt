@@ -1,17 +1,18 @@
 // The script program: reads a table and the script lines behind it, and prints their answers as they come. It keeps the table, the record and at most 16 bytes of an unfinished line.
 #![tactic(auto)]
 
-ghost use Rattle.std.specs.Prelude.{◌≡◌, ◌≤◌, length};
+ghost use Rattle.std.specs.Prelude.{◌≡◌, ◌≤◌, true, length, take};
 ghost use Rattle.table.specs.Slices.{slices_of, slices_fault};
 ghost use Rattle.output.specs.Output.{refusal_line, Prints};
 ghost use Rattle.output.specs.declared.Output.TheVariants.{Length};
-ghost use Rattle.script.specs.Writing.{AnswersScript, left_to_write};
+ghost use Rattle.script.specs.Writing.{AnswersInput, left_to_write, WritesEnding, WritesBehind, WritesAll};
 
 use output::Output;
 use script_reads::Stop;
 use script_reads::reads::{UNREAD, end, handle_all, write};
 use script_table::input::read_table_text;
 use standard_io::Filling;
+use std::io::{Read, Write};
 use table::degrees::count_degrees;
 
 // What is left to write: what the text's end printed; nothing where a read or write failed.
@@ -26,15 +27,17 @@ fn refuse(fault: u8, out: &mut [u8]) -> usize
     requires { 5 ≤ length out.old }
     ensures { Prints 0 (refusal_line fault) (Length result) out.old out.new }
 {
-    let printed = output::refusals::print_refusal(out, fault);
-    match printed {
+    match output::refusals::print_refusal(out, fault) {
         Output::Length(length) => length,
         Output::Refused(_) => 0,
     }
 }
 
 // Answers the script behind a table and prints its end.
-fn answer_script(
+fn answer_script<R: Read, W: Write, E: Write>(
+    input: &mut R,
+    output: &mut W,
+    errors: &mut E,
     number: u16,
     probes: u16,
     links: u16,
@@ -48,7 +51,8 @@ fn answer_script(
     requires { (slices_fault (slices_of number probes links needs.now lows.now highs.now costs.now) ≡ 0)
         × (length text.old ≤ 4096) × (20560 ≤ length out.old) }
     ensures { let x = slices_of number probes links needs.now lows.now highs.now costs.now in
-        AnswersScript x result out.new }
+        AnswersInput x result out.new (length text.old)
+        (R.remaining input.old) (R.remaining input.new) (W.contents output.old) (W.contents output.new) }
 {
     let mut bytes = [0u8; 16384];
     let rec = &mut bytes[..8 * (links as usize)];
@@ -56,7 +60,8 @@ fn answer_script(
     let mut degrees = [0u16; 256];
     count_degrees(&mut degrees, links as usize, lows, highs);
     let stop = handle_all(
-        number, probes, links, needs, &degrees, lows, highs, costs, rec, &mut line, text, out,
+        input, output, errors, number, probes, links, needs, &degrees, lows, highs, costs, rec,
+        &mut line, text, out,
     );
     match stop {
         Stop::AtEnd(progress) => Ending::Printed(end(
@@ -66,21 +71,32 @@ fn answer_script(
     }
 }
 
-// Writes what is left to write.
-fn write_ending(ending: Ending, out: &[u8])
+// Writes what is left to write, and answers whether all was written.
+fn write_ending<W: Write, E: Write>(
+    output: &mut W,
+    errors: &mut E,
+    ending: Ending,
+    out: &[u8],
+) -> bool
     requires { left_to_write ending ≤ length out.now }
+    ensures { result ≡ true → WritesEnding ending out.now (W.contents output.old) (W.contents output.new) }
 {
     match ending {
-        Ending::Printed(length) => {
-            write(&out[..length]);
-        }
-        Ending::Failed => {}
+        Ending::Printed(length) => write(output, errors, &out[..length]),
+        Ending::Failed => false,
     }
 }
 
 // Reads a table from the first n bytes; answers the script behind it, or refuses it.
-fn answer_text(text: &mut [u8], n: usize)
+fn answer_text<R: Read, W: Write, E: Write>(
+    input: &mut R,
+    output: &mut W,
+    errors: &mut E,
+    text: &mut [u8],
+    n: usize,
+) -> bool
     requires { (n ≤ length text.old) × (4096 ≤ length text.old) }
+    ensures { result ≡ true → WritesBehind (take n text.old) (R.remaining input.old) (W.contents output.old) (W.contents output.new) }
 {
     let mut needs = [0u16; 256];
     let mut lows = [0u16; 2048];
@@ -102,6 +118,9 @@ fn answer_text(text: &mut [u8], n: usize)
             rest: _,
         } => {
             let ending = answer_script(
+                input,
+                output,
+                errors,
                 number,
                 probes,
                 links,
@@ -112,22 +131,29 @@ fn answer_text(text: &mut [u8], n: usize)
                 &mut text[..4096],
                 &mut out,
             );
-            write_ending(ending, &out);
+            write_ending(output, errors, ending, &out)
         }
         table_read::Reading::Refused(fault) => {
             let length = refuse(fault, &mut out);
-            write(&out[..length]);
+            write(output, errors, &out[..length])
         }
     }
 }
 
-fn main() {
+// Reads a table and the script behind it, and writes what they print. Answers whether all was read and written.
+fn answer<R: Read, W: Write, E: Write>(input: &mut R, output: &mut W, errors: &mut E) -> bool
+    ensures { result ≡ true → WritesAll (R.remaining input.old) (W.contents output.old) (W.contents output.new) }
+{
     let mut text = [0u8; 27922];
-    let filled = read_table_text(&mut text);
-    match filled {
-        Filling::Until(n) => answer_text(&mut text, n),
+    match read_table_text(input, &mut text) {
+        Filling::Until(n) => answer_text(input, output, errors, &mut text, n),
         Filling::Failed => {
-            standard_io::write_error(&UNREAD);
+            standard_io::write_error(errors, &UNREAD);
+            false
         }
     }
+}
+
+fn main(rt: HostRuntime) {
+    answer(&mut rt.stdin(), &mut rt.stdout(), &mut rt.stderr());
 }

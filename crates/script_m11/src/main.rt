@@ -7,6 +7,7 @@ ghost use Rattle.wake_log.specs.Log.{slot_of};
 ghost use Rattle.probe_maps.specs.Maps.{rows};
 ghost use Rattle.script_m11.specs.Kept.{KeepsLine, KeepsOpening, KeepsFrame};
 
+use std::io::Write;
 use wake_log::{Entry, Slot, What};
 
 // Site M2.
@@ -138,20 +139,17 @@ fn read_back(entries: [Entry; 16], used: usize, i: usize) -> Slot
     wake_log::entry_at(&entries, used, i)
 }
 
-// Prints the used entries.
-fn print(entries: [Entry; 16], used: usize) {
-    let mut i = 0;
-    while i < 16 {
-        let slot = read_back(entries, used, i);
-        match slot {
+// Prints the used entries. A failed write is not told.
+fn print<W: Write>(output: &mut W, entries: [Entry; 16], used: usize) {
+    for i in 0..16 {
+        match read_back(entries, used, i) {
             Slot::Used(e) => {
                 let mut out = [0u8; 15];
                 script_lines::answers::put_entry(&mut out, 0, e);
-                io::write_all(1, &out);
+                let _ = output.write_all(&out);
             }
             Slot::Unused => {}
         }
-        i += 1;
     }
 }
 
@@ -163,11 +161,10 @@ fn fresh() -> [Entry; 16] {
 }
 
 // The ten lines of the fleet.
-fn fleet() {
+fn fleet<W: Write>(output: &mut W) {
     let mut rec = [0u8; 24];
     let mut entries = fresh();
-    let mut k = 0;
-    while k < 10 {
+    for k in 0..10 {
         let after = keep_line(
             1,
             4,
@@ -182,13 +179,12 @@ fn fleet() {
             k,
         );
         entries = after;
-        k += 1;
     }
-    print(entries, 10);
+    print(output, entries, 10);
 }
 
 // Probe 1 takes probe 0's offer, opens, and takes probe 2's, displacing probe 0.
-fn end() {
+fn end<W: Write>(output: &mut W) {
     let mut standing = [0u64; 1];
     let mut out = [0u64; 1];
     let mut held = [0u64; 1];
@@ -243,10 +239,11 @@ fn end() {
         two,
         2,
     );
-    print(three, 3);
+    print(output, three, 3);
 }
 
-fn main() {
-    fleet();
-    end();
+fn main(rt: HostRuntime) {
+    let mut output = rt.stdout();
+    fleet(&mut output);
+    end(&mut output);
 }

@@ -1,5 +1,6 @@
-// Reads from standard input, handled one after the other.
-ghost use Rattle.std.specs.Prelude.{◌≡◌, ◌≤◌, length};
+// Reads from standard input or any other reader, handled one after the other.
+ghost use Rattle.std.specs.Prelude.{◌≡◌, ◌≤◌, true, length};
+ghost use Rattle.std.specs.Io.KnownBytes.{Appends};
 ghost use Rattle.table.specs.Table.{Degrees};
 ghost use Rattle.table.specs.Slices.{slices_of, table_of, slices_fault};
 ghost use Rattle.fleet_theory.specs.Fleet.{fleet_fault, start};
@@ -7,28 +8,34 @@ ghost use Rattle.output.specs.Output.{Prints};
 ghost use Rattle.output.specs.declared.Output.TheVariants.{Length};
 ghost use Rattle.script_theory.specs.Script.{end_text};
 ghost use Rattle.script_output.specs.Handling.{end_call_fault};
-ghost use Rattle.script_reads.specs.Handled.{HandlesReads};
+ghost use Rattle.script_reads.specs.Handled.{HandlesInput};
 
 use super::Stop;
 use output::Output;
 use script_steps::Progress;
 use standard_io::Got;
+use std::io::{Read, Write};
 
 pub const UNREAD: [u8; 36] = *b"script: the input could not be read\n";
 
 const UNWRITTEN: [u8; 40] = *b"script: the output could not be written\n";
 
 // Writes what is printed, or says that it could not.
-pub fn write(printed: &[u8]) -> bool {
-    if !standard_io::write_output(printed) {
-        standard_io::write_error(&UNWRITTEN);
+pub fn write<W: Write, E: Write>(output: &mut W, errors: &mut E, printed: &[u8]) -> bool
+    ensures { result ≡ true → Appends (W.contents output.old) (W.contents output.new) printed.now }
+{
+    if !standard_io::write_output(output, printed) {
+        standard_io::write_error(errors, &UNWRITTEN);
         return false;
     }
     true
 }
 
-// Handles the text behind a table, as each reading gives it; the table was checked when it was read, and each probe's links are counted. A proved loop has to end, and nothing says that the input does: the turns are counted down from a number that no run uses up.
-pub fn handle_all(
+// Handles the text behind a table, as each reading gives it; the table was checked when it was read, and each probe's links are counted. A proved loop has to end, and nothing says that the input does: the turns end at a number that no run comes to.
+pub fn handle_all<R: Read, W: Write, E: Write>(
+    input: &mut R,
+    output: &mut W,
+    errors: &mut E,
     number: u16,
     probes: u16,
     links: u16,
@@ -46,17 +53,16 @@ pub fn handle_all(
         (slices_fault x ≡ 0) × (rec.old ≡ (start x).bytes) × (probes ≤ length degrees.now) × Degrees (table_of x) degrees.now
         × (16 ≤ length line.old) × (length text.old ≤ 4096) × (20560 ≤ length out.old) }
     ensures { let x = slices_of number probes links needs.now lows.now highs.now costs.now in
-        HandlesReads x result line.old rec.new line.new }
+        HandlesInput x result line.old rec.new line.new (length text.old)
+        (R.remaining input.old) (R.remaining input.new) (W.contents output.old) (W.contents output.new) }
 {
     let mut progress = Progress {
         used: 0,
         held: 0,
         changed: 0,
     };
-    let mut turns = u64::MAX;
-    while turns > 0 {
-        let got = standard_io::read_some(text);
-        match got {
+    for _ in 0..u64::MAX {
+        match standard_io::read_some(input, text) {
             Got::Bytes(n) => {
                 let place = script_output::checked::handle_piece(
                     number,
@@ -75,17 +81,16 @@ pub fn handle_all(
                 );
                 progress = place.progress;
                 let length = place.at;
-                if !write(&out[..length]) {
+                if !write(output, errors, &out[..length]) {
                     return Stop::Failed;
                 }
             }
             Got::End => return Stop::AtEnd(progress),
             Got::Failed => {
-                standard_io::write_error(&UNREAD);
+                standard_io::write_error(errors, &UNREAD);
                 return Stop::Failed;
             }
         }
-        turns -= 1;
     }
     Stop::Failed
 }

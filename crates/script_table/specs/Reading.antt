@@ -1,5 +1,6 @@
 -- What the script program reads before it answers: the table's bytes, and no more.
-use Rattle.std.specs.Prelude.{ℕ, ◌≤◌, cond, List, eqb, length, take}
+use Rattle.std.specs.Prelude.{ℕ, ◌≤◌, ◌≡◌, cond, List, eqb, length, take, Option, IfSome}
+use Rattle.std.specs.Io.KnownBytes.{Consumes}
 use Rattle.table.specs.Text.{of_text, need_start, head_fault, text_end}
 use Rattle.standard_io.specs.declared.Filling.{Filling}
 use Rattle.standard_io.specs.declared.Filling.TheVariants.{Until, Failed}
@@ -16,3 +17,8 @@ table_text input = take (table_end (take (need_start 0) input)) input
 abbrev pub ReadsTableText : Filling → List ℕ → Type 0
 ReadsTableText (Until n) text = (n ≤ length text) × (n ≤ table_end (take (need_start 0) (take n text)))
 ReadsTableText Failed text = Unit {0}
+
+-- of a reader whose bytes are known: those read are the table's text at their start
+abbrev pub ReadsTableOf : Option (List ℕ) → Option (List ℕ) → Filling → List ℕ → Type 0
+ReadsTableOf before after (Until n) text = Consumes before after (take n text) × IfSome before (λ input. take n text ≡ table_text input)
+ReadsTableOf before after Failed text = Unit {0}

@@ -1,8 +1,9 @@
-// The table's text, read from standard input.
+// The table's text, read from standard input or any other reader.
 ghost use Rattle.std.specs.Prelude.{◌≡◌, ◌≤◌, length};
-ghost use Rattle.script_table.specs.Reading.{table_end, ReadsTableText};
+ghost use Rattle.script_table.specs.Reading.{table_end, ReadsTableText, ReadsTableOf};
 
 use standard_io::Filling;
+use std::io::Read;
 use table::HEADER_BYTES;
 use table::starts::text_end;
 
@@ -18,15 +19,15 @@ fn table_end(head: &[u8]) -> usize
 }
 
 // Reads the table's bytes and no more: the header's line, then the rest that it tells of.
-pub fn read_table_text(text: &mut [u8]) -> Filling
+pub fn read_table_text<R: Read>(input: &mut R, text: &mut [u8]) -> Filling
     requires { 27922 ≤ length text.old }
-    ensures { ReadsTableText result text.new }
+    ensures own { ReadsTableText result text.new }
+    ensures bytes { ReadsTableOf (R.remaining input.old) (R.remaining input.new) result text.new }
 {
-    let head = standard_io::fill(&mut text[..HEADER_BYTES], 0);
-    match head {
+    match standard_io::fill(input, &mut text[..HEADER_BYTES], 0) {
         Filling::Until(n) => {
             let end = table_end(&text[..n]);
-            standard_io::fill(&mut text[..end], n)
+            standard_io::fill(input, &mut text[..end], n)
         }
         Filling::Failed => Filling::Failed,
     }

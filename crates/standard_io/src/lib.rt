@@ -1,8 +1,14 @@
-// Standard input, output and error for the programs. A failed read is told from the end of the input, and a failed write from one that is done.
+// Standard input, output and error for the programs, or any other reader and writer. A failed read is told from the end of the input, and a failed write from one that is done.
 #![tactic(auto)]
 
 ghost use Rattle.std.specs.Prelude.{◌≡◌, true, length};
-ghost use Rattle.standard_io.specs.Reading.{GotWithin, Fills};
+ghost use Rattle.std.specs.Io.KnownBytes.{Appends};
+ghost use Rattle.standard_io.specs.Reading.{GotWithin, GotOf, Fills, FilledOf};
+
+use std::io::{Read, Write};
+
+#[cfg(test)]
+mod tests;
 
 // What a read gave: so many bytes at the buffer's start, the end of the input, or nothing because it failed.
 #[derive(Clone, Copy)]
@@ -20,28 +26,25 @@ pub enum Filling {
 }
 
 // Reads once.
-pub fn read_some(buf: &mut [u8]) -> Got
-    ensures { GotWithin (length buf.old) result }
+pub fn read_some<R: Read>(input: &mut R, buf: &mut [u8]) -> Got
+    ensures within { GotWithin (length buf.old) result }
+    ensures bytes { GotOf (R.remaining input.old) (R.remaining input.new) buf.new result }
 {
-    let got = libc::read(0, buf);
-    if got < 0 {
-        return Got::Failed;
+    match input.read(buf) {
+        Ok(0) => Got::End,
+        Ok(n) => Got::Bytes(n),
+        Err(_) => Got::Failed,
     }
-    let n = io::count(got, buf);
-    if n == 0 {
-        return Got::End;
-    }
-    Got::Bytes(n)
 }
 
 // Reads from an offset on until the buffer is full or the input ends. Each read that goes on gives a byte, so the bytes that are left fall.
-pub fn fill(buf: &mut [u8], from: usize) -> Filling
-    ensures { Fills from result buf.old buf.new }
+pub fn fill<R: Read>(input: &mut R, buf: &mut [u8], from: usize) -> Filling
+    ensures fills { Fills from result buf.old buf.new }
+    ensures bytes { FilledOf (R.remaining input.old) (R.remaining input.new) from buf.new result }
 {
     let mut at = from;
     while at < buf.len() {
-        let got = read_some(&mut buf[at..]);
-        match got {
+        match read_some(input, &mut buf[at..]) {
             Got::Bytes(n) => {
                 at += n;
             }
@@ -56,22 +59,24 @@ pub fn fill(buf: &mut [u8], from: usize) -> Filling
     Filling::Until(at)
 }
 
-// Writes all of it on standard output, or answers false. What is written, the system tells alone.
-pub fn write_output(bytes: &[u8]) -> bool
-    ensures { length bytes.now ≡ 0 → result ≡ true }
+// Writes all of it, or answers false. What is written, the system tells alone.
+pub fn write_output<W: Write>(output: &mut W, bytes: &[u8]) -> bool
+    ensures nothing { length bytes.now ≡ 0 → result ≡ true }
+    ensures bytes { result ≡ true → Appends (W.contents output.old) (W.contents output.new) bytes.now }
 {
     if bytes.len() == 0 {
         return true;
     }
-    io::write_all(1, bytes)
+    output.write_all(bytes).is_ok()
 }
 
 // Writes a line on standard error; nothing is left to tell where that fails.
-pub fn write_error(line: &[u8]) -> bool
-    ensures { length line.now ≡ 0 → result ≡ true }
+pub fn write_error<W: Write>(errors: &mut W, line: &[u8]) -> bool
+    ensures nothing { length line.now ≡ 0 → result ≡ true }
+    ensures bytes { result ≡ true → Appends (W.contents errors.old) (W.contents errors.new) line.now }
 {
     if line.len() == 0 {
         return true;
     }
-    io::write_all(2, line)
+    errors.write_all(line).is_ok()
 }

@@ -1,4 +1,3 @@
-use borrow.Author.Rules.{rules}
 use Rattle.table.specs.Slices.{slices_of}
 use Rattle.fleet_exports.proofs.Answers.{handled-packed}
 use Rattle.fleet_exports.proofs.planner_fleet_event.Goals as goal

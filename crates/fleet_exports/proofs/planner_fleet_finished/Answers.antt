@@ -1,4 +1,3 @@
-use borrow.Author.Rules.{rules}
 use mathlib.Core.Path.{◌∙◌, ap}
 use Rattle.packed_answers.specs.Packed.{packed_value}
 use Rattle.fleet_exports.proofs.planner_fleet_finished.Goals as goal

@@ -1,65 +1,26 @@
-use borrow.Author.Rules.{rules}
-use mathlib.Core.Path.{sym}
-use mathlib.Core.List.{◌++◌}
-use native.Mathlib.Omega.{arith}
-use lib.ListN.{drop}
-use lib.Seq.{length-take-le}
-use Rattle.script_table.proofs.Reading.{refilled, end_most, reads_own}
+use Rattle.std.proofs.Common.{◌≡◌, ◌≤◌, ◌++◌, length, drop, arith, length-take-le}
+use Rattle.std.proofs.lemmas.List.{take-append-le}
+use Rattle.script_table.proofs.Reading.{refilled, reads_own, reads_table}
 use Rattle.script_table.proofs.input.read_table_text.Goals as goal
 
-pub slice_bounds-fill-end-2 : goal.slice_bounds-fill-end-2
-slice_bounds-fill-end-2 c =
-    sym (length-take-le 13 c.args.text.now (omega (arith, c.requires)))
-
-pub slice_bounds-table_end-end : goal.slice_bounds-table_end-end
-slice_bounds-table_end-end c =
+pub returns-in-Until-clause-own : goal.returns-in-Until-clause-own
+returns-in-Until-clause-own g c =
     let text = c.args.text.now in
-    let k = c.fill-head in
-    let part = k.new.buf in
-    let w = rw c.in-Until.is at k.ensures.within in
+    let part = c.fill.new.buf in
+    let w = c.in-Until.ensures.fills.within in
     let few = length-take-le 13 text (omega (arith, c.requires)) in
-    let long = refilled part text 13 k.auto.buf (omega (arith, c.requires)) in
-    omega (arith, w.1 (omega arith), c.requires)
+    let long = refilled part text 13 c.fill.auto.buf (omega (arith, c.requires)) in
+    reads_own (part ++ drop 13 text) c.in-Until.n c.table_end-end.result (omega (arith, w.1 (omega arith))) (omega (arith, c.requires)) c.table_end-end.ensures c.fill-in-Until.new.buf c.fill-in-Until.auto.buf c.fill-in-Until.ensures.fills.kept c.fill-in-Until.result c.fill-in-Until.ensures.fills
 
-pub slice_bounds-table_end-end-in-Until : goal.slice_bounds-table_end-end-in-Until
-slice_bounds-table_end-end-in-Until c =
+pub returns-in-Until-clause-bytes : goal.returns-in-Until-clause-bytes
+returns-in-Until-clause-bytes g c =
     let text = c.args.text.now in
-    let k = c.fill-head in
-    let part = k.new.buf in
-    let w = rw c.in-Until.is at k.ensures.within in
+    let part = c.fill.new.buf in
+    let w = c.in-Until.ensures.fills.within in
     let few = length-take-le 13 text (omega (arith, c.requires)) in
-    let long = refilled part text 13 k.auto.buf (omega (arith, c.requires)) in
-    sym (length-take-le _ (part ++ drop 13 text) (omega (arith, w.1 (omega arith), c.requires)))
-
-pub slice_bounds-fill-end-in-Until : goal.slice_bounds-fill-end-in-Until
-slice_bounds-fill-end-in-Until c =
-    let text = c.args.text.now in
-    let k = c.fill-head in
-    let part = k.new.buf in
-    let w = rw c.in-Until.is at k.ensures.within in
-    let few = length-take-le 13 text (omega (arith, c.requires)) in
-    let long = refilled part text 13 k.auto.buf (omega (arith, c.requires)) in
-    let m = end_most (part ++ drop 13 text) c.in-Until.n c.table_end-end.result (omega (arith, w.1 (omega arith))) (omega (arith, c.requires)) c.table_end-end.ensures in
-    omega (arith, m.1, c.requires)
-
-pub slice_bounds-fill-end-in-Until-2 : goal.slice_bounds-fill-end-in-Until-2
-slice_bounds-fill-end-in-Until-2 c =
-    let text = c.args.text.now in
-    let k = c.fill-head in
-    let part = k.new.buf in
-    let w = rw c.in-Until.is at k.ensures.within in
-    let few = length-take-le 13 text (omega (arith, c.requires)) in
-    let long = refilled part text 13 k.auto.buf (omega (arith, c.requires)) in
-    let m = end_most (part ++ drop 13 text) c.in-Until.n c.table_end-end.result (omega (arith, w.1 (omega arith))) (omega (arith, c.requires)) c.table_end-end.ensures in
-    sym (length-take-le _ (part ++ drop 13 text) (omega (arith, m.1, c.requires)))
-
-pub returns-in-Until : goal.returns-in-Until
-returns-in-Until c =
-    let text = c.args.text.now in
-    let k = c.fill-head in
-    let part = k.new.buf in
-    let w = rw c.in-Until.is at k.ensures.within in
-    let few = length-take-le 13 text (omega (arith, c.requires)) in
-    let long = refilled part text 13 k.auto.buf (omega (arith, c.requires)) in
-    let e = c.fill in
-    reads_own (part ++ drop 13 text) _ _ (omega (arith, w.1 (omega arith))) (omega (arith, c.requires)) c.table_end-end.ensures _ e.auto.buf e.ensures.kept _ e.ensures
+    let thirteen : length part ≡ 13 = omega (arith, few, c.fill.auto.buf) in
+    let long = refilled part text 13 c.fill.auto.buf (omega (arith, c.requires)) in
+    let most : c.in-Until.n ≤ 13 = omega (arith, w.1 (omega arith), few) in
+    reads_table (part ++ drop 13 text) c.in-Until.n c.table_end-end.result most (omega (arith, c.requires, long)) c.table_end-end.ensures c.fill-in-Until.new.buf c.fill-in-Until.auto.buf c.fill-in-Until.ensures.fills.kept
+    part thirteen (take-append-le c.in-Until.n part (drop 13 text) (omega (arith, most, thirteen)))
+    _ _ _ c.fill-in-Until.result c.in-Until.ensures.bytes c.fill-in-Until.ensures.bytes c.fill-in-Until.ensures.fills
