@@ -5,15 +5,17 @@ usage: python3 tools/respell.py      once, at the top, right after the kit's por
 
 It renames what specs/ and the lemma files of proofs/ declare: capitals and dashes inside a word give way to `_`. A lemma that would then have the name of the
 definition that it is about gets `_lem`. Functions of src/, types, exported names and strings keep their names. The crate `hex`, whose name the kit has, becomes `hex_digits`.
+The documents change with the crates, in what stands between backticks.
 """
 
 import os
 import re
 import subprocess
 
-WORD = r"[^\s(){}\[\],;:.λ«»\"]+"
+WORD = r"[^\s(){}\[\],;:.λ«»\"`]+"
 DECLARED = re.compile(r"^\s*(?:(?:pub|abbrev|unfoldable|data|record|ruleset) )*(" + WORD + r"(?: " + WORD + r")*)(?: \{.*?\}| \(.*?\))* :(?: |$)")
 OF_A_FUNCTION = ("Proof.antt", "Answers.antt", "Invariants.antt")
+DOCUMENTS = ("README.md", "docs/CLAIMS.md", "docs/DECISIONS.md", "docs/LANDINGS.md")
 
 
 def texts(*endings):
@@ -49,7 +51,8 @@ def imported(text):
 def declared():
     found = set()
     for path in texts(".antt"):
-        if os.path.basename(path) not in OF_A_FUNCTION:
+        # (right below proofs/ or specs/ such a file is one of lemmas or definitions)
+        if os.path.basename(path) not in OF_A_FUNCTION or path.count("/") == 3:
             for line in read(path).split("\n"):
                 m = DECLARED.match(line)
                 if m and not line.lstrip().startswith("--"):
@@ -92,6 +95,12 @@ def main():
         if after != text:
             with open(path, "w", encoding="utf-8") as f:
                 f.write(after)
+    for path in DOCUMENTS:
+        parts = read(path).split("`")
+        parts[1::2] = [re.sub(WORD, lambda m: turned.get(m.group(0), m.group(0)), it) for it in parts[1::2]]
+        after = re.sub(r"`hex(?=`|::)", "`hex_digits", "`".join(parts)).replace("crates/hex/", "crates/hex_digits/")
+        with open(path, "w", encoding="utf-8") as f:
+            f.write(after)
     with open("crates.txt", encoding="utf-8") as f:
         listed = f.read()
     with open("crates.txt", "w", encoding="utf-8") as f:

@@ -8,11 +8,11 @@ pub fn top() -> PathBuf {
     Path::new(env!("CARGO_MANIFEST_DIR")).join("..")
 }
 
-/// Where a built program stands: in PLANNER_BIN_DIR, else in target/bin.
+/// Where a built program stands: in PLANNER_BIN_DIR, else in the folder out/ of its crate.
 pub fn program(name: &str) -> PathBuf {
     let folder = env::var_os("PLANNER_BIN_DIR").map(PathBuf::from);
     folder
-        .unwrap_or_else(|| top().join("target/bin"))
+        .unwrap_or_else(|| top().join("crates").join(name).join("out"))
         .join(name)
 }
 
@@ -24,8 +24,12 @@ pub fn document(path: &str) -> String {
     text(&top().join(path))
 }
 
-/// The files at or below a path that end in one of the suffixes.
+/// The files at or below a path that end in one of the suffixes. What the prover keeps in the
+/// folders out/ is no part of the repository.
 pub fn files(path: &Path, suffixes: &[&str]) -> Vec<PathBuf> {
+    if path.ends_with("out") {
+        return Vec::new();
+    }
     if path.is_dir() {
         let entries = read_dir(path).expect("a folder that can be read");
         let paths = entries.map(|entry| entry.expect("an entry").path());

@@ -125,7 +125,7 @@ abbrev pub event_answers : List EventCall → List Answer
 event_answers [] = []
 event_answers (c ∷ cs) = c.answer ∷ event_answers cs
 
--- Both are the run over their lines (`logged-run`, `event-run`). Calls can be made for any lines, each over any slices of the table (`callable`, `event-callable`).
+-- Both are the run over their lines (`logged_run`, `event_run`). Calls can be made for any lines, each over any slices of the table (`callable`, `event_callable`).
 
 -- the answers of the run over a list of lines
 unfoldable pub answers_to : Slices → ℕ → State → List (List ℕ) → List Answer

@@ -1,5 +1,5 @@
 -- What the functions of a fleet for C and Rust promise: the answer as one number, and the lent record as the functions that are called leave it. A log has packed entries.
--- A refusal is its number; any other answer is `answerBase` or more.
+-- A refusal is its number; any other answer is `answer_base` or more.
 use Rattle.std.specs.Prelude.{ℕ, ◌≡◌, List, length}
 use Rattle.wake_log.specs.Entry.{answer_of}
 use Rattle.probe_frame.specs.Frame.{frame_of}

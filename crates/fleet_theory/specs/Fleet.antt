@@ -78,7 +78,7 @@ event_line_fault t l =
     let f = frame_of l in
     or_else (frame_fault l) (or_else (event_kind_fault f) (or_else (number_fault t f) (event_ends_fault t f)))
 
--- what reaches the probe `to`. A restart is no event of an end's rules: it stands here as an opening, which 27 never turns down; `alteredBy` and `entryBy` do not use its outcome.
+-- what reaches the probe `to`. A restart is no event of an end's rules: it stands here as an opening, which 27 never turns down; `altered_by` and `entry_by` do not use its outcome.
 abbrev pub event_of : Table → Frame → Event
 event_of t f = cond (of_one_probe f.kind) Opening (heard_of t f)
 

@@ -151,7 +151,7 @@ pub record LineRefusals : Type 0 where
   pub restart_on_full_log : answer_to m2_in_slices 0 (start m2_in_slices) (restart_line 0) ≡ Refused 26
   pub full_log : answer_to m2_in_slices 0 (start m2_in_slices) (opening_line 0) ≡ Refused 26
 
--- `m2-table`, `m4-table`: the tables are those of M2 and M4
+-- `m2_table`, `m4_table`: the tables are those of M2 and M4
 pub record Samples : Type 0 where
   pub m1_to_m10 : Sites
   pub m2_table : table_of m2_in_slices ≡ row (5 ∷ 6 ∷ 5 ∷ [])

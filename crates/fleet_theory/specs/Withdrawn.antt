@@ -1,4 +1,4 @@
--- 02, No. 2: "Refusal 25 is withdrawn": by no call of an end and by no line of a fleet; the theorem is `twenty-five-withdrawn`.
+-- 02, No. 2: "Refusal 25 is withdrawn": by no call of an end and by no line of a fleet; the theorem is `twenty_five_withdrawn`.
 use Rattle.std.specs.Prelude.{ℕ, ◌≡◌, List}
 use Rattle.table.specs.Slices.{Slices, table_of}
 use Rattle.probe_maps.specs.Maps.{Maps, state_fault}

@@ -10,7 +10,7 @@ use Rattle.wake_log.specs.declared.Slot.TheVariants.{Used, Unused}
 use Rattle.wake_log.specs.Entry.{code_of, link_of, displaced_of}
 use Rattle.wake_log.specs.Log.{is_used}
 
--- a refusal is its number; any other answer is `answerBase` or more, an entry `entryBase` or more
+-- a refusal is its number; any other answer is `answer_base` or more, an entry `entry_base` or more
 
 abbrev pub answer_base : ℕ
 answer_base = 2 ^ 48

@@ -1,4 +1,4 @@
--- The plans of the well-head display: 02, No. 11, "A display with less memory". The theorem is `display-plans`; tables alone are in table_display.
+-- The plans of the well-head display: 02, No. 11, "A display with less memory". The theorem is `display_plans`; tables alone are in table_display.
 use Rattle.std.specs.Prelude.{ℕ, ◌*◌, ◌≤◌, ◌≡◌, true, false, List, ◌++◌, length, drop}
 use Rattle.table.specs.Slices.{Slices, table_of, slices_room_fault}
 use Rattle.lines.specs.Digits.{line_fault}

@@ -1,5 +1,5 @@
 -- What the planners for C and Rust promise: the answer as one number, and the lent slices as the functions that are called leave them.
--- A refusal is its number; any other answer is `answerBase` or more.
+-- A refusal is its number; any other answer is `answer_base` or more.
 use Rattle.std.specs.Prelude.{ℕ, ◌+◌, ◌*◌, ◌^◌, ◌≡◌, List, length, get_or}
 use Rattle.range.specs.Reply.{Reply, reply_of}
 use Rattle.table.specs.Slices.{Slices, table_of}

@@ -1,4 +1,4 @@
--- Demand 2 of a table in slices, sentence by sentence; the theorem is `demand-2`. A call is known by its promise, for whatever it was lent.
+-- Demand 2 of a table in slices, sentence by sentence; the theorem is `demand_2`. A call is known by its promise, for whatever it was lent.
 use Rattle.std.specs.Prelude.{ℕ, ◌*◌, ◌≤◌, ◌<◌, ◌≡◌, ◌⊎◌, Bool, List, length, take, replicate}
 use Rattle.table.specs.Table.{Table, item}
 use Rattle.table.specs.Slices.{Slices, table_of}

@@ -40,7 +40,7 @@ pub record PrintedPlan (s printed : List ℕ) : Type 0 where
   pub bounds : PlanBounds (of_text s)
   pub none_for_nothing : NoneForNothing (of_text s) (kept (of_text s))
 
--- a call of `plan_text` on such a text, with a slice that holds its plan, answers r and leaves `after` (`prints-plan`)
+-- a call of `plan_text` on such a text, with a slice that holds its plan, answers r and leaves `after` (`prints_plan`)
 pub record PrintsPlan (s : List ℕ) (r : Output) (after : List ℕ) : Type 0 where
   pub count : ℕ
   pub answer : r ≡ Length count

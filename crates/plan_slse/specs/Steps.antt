@@ -1,4 +1,4 @@
--- One link's turn, on the plan's bytes and the counts of links by probe. The needs are as given: for the counts that are met here that says the same as the counted needs (laws `under-given`, `over-given`).
+-- One link's turn, on the plan's bytes and the counts of links by probe. The needs are as given: for the counts that are met here that says the same as the counted needs (laws `under_given`, `over_given`).
 use Rattle.std.specs.Prelude.{ℕ, ◌+◌, ◌-◌, Bool, cond, ◌&&◌, ◌||◌, List, ltb}
 use Rattle.table.specs.Table.{item}
 use Rattle.range.specs.Lists.{changed_at}

@@ -1,4 +1,4 @@
--- What the plan keeps of a short probe, demand 3 on its needs and cost, and 02, No. 14; the theorems are `short-keeps`, `plan-bounds` and `none-for-nothing`.
+-- What the plan keeps of a short probe, demand 3 on its needs and cost, and 02, No. 14; the theorems are `short_keeps`, `plan_bounds` and `none_for_nothing`.
 use Rattle.std.specs.Prelude.{ℕ, ◌*◌, ◌≤◌, ◌<◌, ◌≡◌, Bool, true}
 use Rattle.table.specs.Table.{Table, touches, spare, is_short}
 use Rattle.plan_theory.specs.Plan.{kept, cost_of, Meets, without, is_needed}

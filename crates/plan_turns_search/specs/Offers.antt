@@ -42,7 +42,7 @@ dearer_at_target s d f = eqb (s.target f) (s.target d) && ltb (s.key d) (s.key f
 abbrev pub dearer_held : Site → (ℕ → ℕ) → ℕ → ℕ
 dearer_held s o d = on s o (dearer_at_target s d)
 
--- the same by a count: the target of an untried d would not take it exactly when it holds its spare of dearer ones (`would-refuse`)
+-- the same by a count: the target of an untried d would not take it exactly when it holds its spare of dearer ones (`would_refuse`)
 abbrev pub WouldRefuse : Site → (ℕ → ℕ) → ℕ → Type 0
 WouldRefuse s o d = s.spare (s.target d) ≤ dearer_held s o d
 

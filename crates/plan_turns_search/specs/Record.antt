@@ -44,7 +44,7 @@ abbrev pub site_of : List ℕ → Site
 site_of x =
     record { dirs = 2 * links_of x; source = source_of x; target = target_of x; key = key_of x; spare = spare_of x }
 
--- s is the table's site (`site-of-table`): each link from both its ends, the larger key by 01's order, and the probes' spares
+-- s is the table's site (`site_of_table`): each link from both its ends, the larger key by 01's order, and the probes' spares
 pub record SiteOfTable (t : Table) (s : Site) : Type 0 where
   pub both : s.dirs ≡ 2 * t.links
   pub up : (i : ℕ) → i < t.links → (s.source (2 * i) ≡ t.low i) × (s.target (2 * i) ≡ t.high i)

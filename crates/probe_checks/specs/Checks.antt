@@ -1,4 +1,4 @@
--- The checks of one end alone: document 01, "Turned down for the state". A fault is a refusal's number, or 0 for none. `state` is the fault of the table in its slices and of the record, `stateFault`.
+-- The checks of one end alone: document 01, "Turned down for the state". A fault is a refusal's number, or 0 for none. `state` is the fault of the table in its slices and of the record, `state_fault`.
 use Rattle.std.specs.Prelude.{ℕ, ◌≡◌, cond, ◌&&◌, ◌||◌, List, ltb, eqb}
 use Rattle.range.specs.First.{or_else}
 use Rattle.table.specs.Table.{Table, between}

@@ -1,5 +1,5 @@
 -- What the functions of one end for C and Rust promise: the answer as one number, and the lent slices as the functions that are called leave them.
--- A refusal is its number; any other answer is `answerBase` or more. A log has packed entries.
+-- A refusal is its number; any other answer is `answer_base` or more. A log has packed entries.
 use Rattle.std.specs.Prelude.{ℕ, ◌-◌, ◌≡◌, cond, List, [], ◌∷◌, map, eqb, length}
 use Rattle.std.proofs.lemmas.List.Edits.{sets}
 use Rattle.range.specs.Reply.{reply_of}

@@ -1,4 +1,4 @@
--- 02, No. 9: "The old bytes and the maps are proved to stand for the same records through every call", with a wake log: the theorem is `same-through-logs`.
+-- 02, No. 9: "The old bytes and the maps are proved to stand for the same records through every call", with a wake log: the theorem is `same_through_logs`.
 use Rattle.std.specs.Prelude.{ℕ, ◌-◌, ◌≡◌, cond, List, eqb, length, set}
 use Rattle.table.specs.Table.{Table}
 use Rattle.table.specs.Slices.{Slices, table_of}

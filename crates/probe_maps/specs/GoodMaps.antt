@@ -1,4 +1,4 @@
--- What maps have that 20, 21 and 22 let pass; the law is `good-maps`.
+-- What maps have that 20, 21 and 22 let pass; the law is `good_maps`.
 use Rattle.std.specs.Prelude.{ℕ, ◌≤◌, ◌≡◌, true, false, List, length}
 use Rattle.bit_maps.specs.BitMap.{Words, words_for, bit, ones_of}
 use Rattle.table.specs.Table.{Table, spare}

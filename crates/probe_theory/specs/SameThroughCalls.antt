@@ -1,4 +1,4 @@
--- 02, No. 9: "The old bytes and the maps are proved to stand for the same records through every call": the theorem is `same-through-calls`.
+-- 02, No. 9: "The old bytes and the maps are proved to stand for the same records through every call": the theorem is `same_through_calls`.
 use Rattle.std.specs.Prelude.{ℕ, ◌≡◌, cond, List, [], ◌∷◌, eqb, length}
 use Rattle.range.specs.First.{or_else}
 use Rattle.range.specs.Reply.{reply_of}

@@ -54,7 +54,7 @@ abbrev pub left_after_pieces : PieceLeft → List PieceCall → PieceLeft
 left_after_pieces b [] = b
 left_after_pieces b (c ∷ cs) = left_after_pieces (left_by_piece b c) cs
 
--- pieces, each with slices of the table of x and an output slice; calls can be made for any of them (`piece-callable`)
+-- pieces, each with slices of the table of x and an output slice; calls can be made for any of them (`piece_callable`)
 abbrev pub GivenPieces : Slices → List (Slices × List ℕ × List ℕ) → Type 0
 GivenPieces x [] = Unit
 GivenPieces x (g ∷ gs) = SameTable g.0 x × GivenPieces x gs
@@ -85,7 +85,7 @@ abbrev pub printed_end : Output → List ℕ → List ℕ
 printed_end (Length length) out = take length out
 printed_end (Unprinted n) out = []
 
--- the calls `cs` from a fresh fleet on, with a slice of 16 bytes or more for an unfinished line; the theorem is `script-of-calls`
+-- the calls `cs` from a fresh fleet on, with a slice of 16 bytes or more for an unfinished line; the theorem is `script_of_calls`
 module _ (x : Slices) (line : List ℕ) (cs : List PieceCall) where
   abbrev left_at : List PieceCall → PieceLeft
   left_at earlier = left_after_pieces (fresh_piece x line) earlier

@@ -1,5 +1,5 @@
 -- What the functions of a script for C and Rust promise: the answer as one number, and the lent slices as the functions that are called leave them.
--- A refusal is its number; any other answer is `answerBase` or more.
+-- A refusal is its number; any other answer is `answer_base` or more.
 use Rattle.std.specs.Prelude.{ℕ, ◌≡◌, cond, List, ◌∷◌, ◌++◌, eqb, length, drop}
 use Rattle.range.specs.First.{or_else}
 use Rattle.range.specs.Reply.{reply_of}

@@ -1,4 +1,4 @@
--- One call after the other: the next starts where the last one ended. With the law `any-pieces`, a text given in any pieces prints what it prints whole.
+-- One call after the other: the next starts where the last one ended. With the law `any_pieces`, a text given in any pieces prints what it prints whole.
 use Prim.Native.Nat.{ℕ, ◌≤◌}
 use mathlib.Core.Path.{◌≡◌, ◌∙◌}
 use mathlib.Core.List.{List, ◌++◌}

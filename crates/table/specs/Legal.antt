@@ -28,7 +28,7 @@ table_fault pmax lmax t = or_else (size_fault pmax lmax t.probes t.links) (first
 abbrev pub Legal : Table → Type 0
 Legal t = table_fault 256 2048 t ≡ 0
 
--- What a legal table gives, in numbers; the law is `legal-table`.
+-- What a legal table gives, in numbers; the law is `legal_table`.
 
 -- "1 to 256 probes .. and 0 to 2,048 links": the limits are parameters
 pub record Size (pmax lmax probes links : ℕ) : Type 0 where

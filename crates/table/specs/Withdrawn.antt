@@ -1,4 +1,4 @@
--- 02, No. 1: "Refusal 7 is withdrawn": of no text and of no slices, at any limits; the theorem is `seven-withdrawn`.
+-- 02, No. 1: "Refusal 7 is withdrawn": of no text and of no slices, at any limits; the theorem is `seven_withdrawn`.
 use Rattle.std.specs.Prelude.{ℕ, ◌≡◌, Bool, List}
 use Rattle.table.specs.Text.{read_fault}
 use Rattle.table.specs.Slices.{Slices, slice_fault}

@@ -1,4 +1,4 @@
--- The tables of the well-head display: 02, No. 11, "A display with less memory". The theorem is `display-tables`.
+-- The tables of the well-head display: 02, No. 11, "A display with less memory". The theorem is `display_tables`.
 use Rattle.std.specs.Prelude.{ℕ, ◌≤◌, ◌<◌, ◌≡◌, Bool, true, false, ◌||◌, List, ◌++◌, ltb, length}
 use Rattle.lines.specs.Digits.{line_fault}
 use Rattle.table.specs.Table.{Table}

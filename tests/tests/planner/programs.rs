@@ -1,4 +1,4 @@
-//! The built programs, fed through a pipe; they stand in PLANNER_BIN_DIR, else in ../target/bin.
+//! The built programs, fed through a pipe; they stand in PLANNER_BIN_DIR, else in their crates' out/.
 
 use planner_tests::channel::{any_mix, any_script, opening};
 use planner_tests::events::any_table;
@@ -219,8 +219,10 @@ fn blocks_of_digits(readme: &str) -> Vec<String> {
 #[test]
 fn readme() {
     let readme = String::from_utf8(file("README.md")).expect("a text");
-    let commands = readme.split("target/bin/").skip(1).filter_map(|rest| {
-        let (program, rest) = rest.split_once(" < ")?;
+    let commands = readme.lines().filter_map(|line| {
+        let (command, rest) = line.strip_prefix("    ")?.split_once(" < ")?;
+        let (_, program) = command.split_once("crates/")?;
+        let program = program.split(['/', ' ']).next()?;
         Some((program, rest.split_whitespace().next()?))
     });
     let commands: Vec<(&str, &str)> = commands.collect();

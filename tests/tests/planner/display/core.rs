@@ -3,7 +3,8 @@
 use planner_tests::repository::top;
 use std::fs;
 
-/// The functions that both callers' calls go through, by library.
+/// The functions that both callers' calls go through, by library, and that the compiler leaves whole:
+/// offers by turn stand in `turns_answer`.
 const CORE: [(&str, &[&str]); 2] = [
     (
         "libtable_exports.a",
@@ -19,7 +20,6 @@ const CORE: [(&str, &[&str]); 2] = [
             "plan_order::sorting::pass",
             "plan_methods::limited::slse_plan",
             "plan_methods::limited::turns_answer",
-            "plan_turns::offers::make_offer",
             "plan_output::text::print_plan",
         ],
     ),
