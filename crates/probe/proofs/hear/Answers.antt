@@ -31,8 +31,8 @@ returns-then-heard-ne0 c =
     let m : Maps = let a = c.args in rows a.standing.now a.refused_out.now a.held.now a.refused_in.now in
     let is-fault : c.check_hearing-heard.result.fault ≡ hear_fault (state_fault x c.args.probe m) (table_of x) c.args.probe c.args.frame.now c.args.free = (
     let t = table_of x in
-        let a = c.args in
-        c.check_hearing-heard.ensures.0 ∙ ap (λ (n : ℕ). or_else n (or_else (heard_fault t a.probe a.frame.now) (full_fault a.free))) c.check_state-state.ensures.0) in
+    let a = c.args in
+    c.check_hearing-heard.ensures.0 ∙ ap (λ (n : ℕ). or_else n (or_else (heard_fault t a.probe a.frame.now) (full_fault a.free))) c.check_state-state.ensures.0) in
     refused_call _ _ _ _ _ _ is-fault c.if-heard-ne0.true
 
 pub apply-e-requires : goal.apply-e-requires
@@ -43,17 +43,17 @@ apply-e-requires c =
     let plain : Table = let a = c.args in of_slices 0 0 a.links a.needs.now a.lows.now a.highs.now a.costs.now in
     let words : AllWords m = (
     record {
-          standing = λ k. (c.slice_known-1.given k).fits;
-          refused_out_lem = λ k. (c.slice_known-2-1.given k).fits;
-          held = λ k. (c.slice_known-3-1.given k).fits;
-          refused_in_lem = λ k. (c.slice_known-4-1.given k).fits;
-        }) in
+      standing = λ k. (c.slice_known-1.given k).fits;
+      refused_out_lem = λ k. (c.slice_known-2-1.given k).fits;
+      held = λ k. (c.slice_known-3-1.given k).fits;
+      refused_in_lem = λ k. (c.slice_known-4-1.given k).fits;
+    }) in
     let parts : (none : c.check_state-state.result ≡ 0) → (slices_fault x ≡ 0) × (maps_fault (table_of x) c.args.probe m ≡ 0) = λ none. state_parts x c.args.probe m (sym c.check_state-state.ensures.0 ∙ none) in
     let good : (none : c.check_state-state.result ≡ 0) → GoodMaps plain c.args.probe m = λ none. good_maps plain c.args.probe m words (parts none).1 in
     let is-fault : c.check_hearing-heard.result.fault ≡ hear_fault (state_fault x c.args.probe m) (table_of x) c.args.probe c.args.frame.now c.args.free = (
     let t = table_of x in
-        let a = c.args in
-        c.check_hearing-heard.ensures.0 ∙ ap (λ (n : ℕ). or_else n (or_else (heard_fault t a.probe a.frame.now) (full_fault a.free))) c.check_state-state.ensures.0) in
+    let a = c.args in
+    c.check_hearing-heard.ensures.0 ∙ ap (λ (n : ℕ). or_else n (or_else (heard_fault t a.probe a.frame.now) (full_fault a.free))) c.check_state-state.ensures.0) in
     let passes : (z : c.check_hearing-heard.result.fault ≡ 0) → (state_fault x c.args.probe m ≡ 0) × (heard_fault (table_of x) c.args.probe c.args.frame.now ≡ 0) = λ z. hear_parts (state_fault x c.args.probe m) (table_of x) c.args.probe c.args.frame.now c.args.free (sym is-fault ∙ z) in
     let state_passes : (z : c.check_hearing-heard.result.fault ≡ 0) → c.check_state-state.result ≡ 0 = λ z. c.check_state-state.ensures.0 ∙ (passes z).0 in
     let a = c.args in
@@ -68,8 +68,8 @@ returns c =
     let m : Maps = let a = c.args in rows a.standing.now a.refused_out.now a.held.now a.refused_in.now in
     let is-fault : c.check_hearing-heard.result.fault ≡ hear_fault (state_fault x c.args.probe m) (table_of x) c.args.probe c.args.frame.now c.args.free = (
     let t = table_of x in
-        let a = c.args in
-        c.check_hearing-heard.ensures.0 ∙ ap (λ (n : ℕ). or_else n (or_else (heard_fault t a.probe a.frame.now) (full_fault a.free))) c.check_state-state.ensures.0) in
+    let a = c.args in
+    c.check_hearing-heard.ensures.0 ∙ ap (λ (n : ℕ). or_else n (or_else (heard_fault t a.probe a.frame.now) (full_fault a.free))) c.check_state-state.ensures.0) in
     let a = c.args in
     let z = c.if-heard-ne0.false in
     let says = c.check_hearing-heard.ensures.1 z in

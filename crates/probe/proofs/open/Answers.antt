@@ -22,8 +22,8 @@ returns-then-fault-ne0 c =
     let m : Maps = let a = c.args in rows a.standing.now a.refused_out.now a.held.now a.refused_in.now in
     let is-fault : c.open_fault-fault.result ≡ open_fault (state_fault x c.args.probe m) (table_of x) c.args.probe c.args.free = (
     let t = table_of x in
-        let a = c.args in
-        c.open_fault-fault.ensures ∙ ap (λ (n : ℕ). or_else n (or_else (probe_fault t a.probe) (full_fault a.free))) c.check_state-state.ensures.0) in
+    let a = c.args in
+    c.open_fault-fault.ensures ∙ ap (λ (n : ℕ). or_else n (or_else (probe_fault t a.probe) (full_fault a.free))) c.check_state-state.ensures.0) in
     refused_call _ _ _ _ _ _ is-fault c.if-fault-ne0.true
 
 pub apply-e-requires : goal.apply-e-requires
@@ -34,17 +34,17 @@ apply-e-requires c =
     let plain : Table = let a = c.args in of_slices 0 0 a.links a.needs.now a.lows.now a.highs.now a.costs.now in
     let words : AllWords m = (
     record {
-          standing = λ k. (c.slice_known-1.given k).fits;
-          refused_out_lem = λ k. (c.slice_known-2-1.given k).fits;
-          held = λ k. (c.slice_known-3-1.given k).fits;
-          refused_in_lem = λ k. (c.slice_known-4-1.given k).fits;
-        }) in
+      standing = λ k. (c.slice_known-1.given k).fits;
+      refused_out_lem = λ k. (c.slice_known-2-1.given k).fits;
+      held = λ k. (c.slice_known-3-1.given k).fits;
+      refused_in_lem = λ k. (c.slice_known-4-1.given k).fits;
+    }) in
     let parts : (none : c.check_state-state.result ≡ 0) → (slices_fault x ≡ 0) × (maps_fault (table_of x) c.args.probe m ≡ 0) = λ none. state_parts x c.args.probe m (sym c.check_state-state.ensures.0 ∙ none) in
     let good : (none : c.check_state-state.result ≡ 0) → GoodMaps plain c.args.probe m = λ none. good_maps plain c.args.probe m words (parts none).1 in
     let is-fault : c.open_fault-fault.result ≡ open_fault (state_fault x c.args.probe m) (table_of x) c.args.probe c.args.free = (
     let t = table_of x in
-        let a = c.args in
-        c.open_fault-fault.ensures ∙ ap (λ (n : ℕ). or_else n (or_else (probe_fault t a.probe) (full_fault a.free))) c.check_state-state.ensures.0) in
+    let a = c.args in
+    c.open_fault-fault.ensures ∙ ap (λ (n : ℕ). or_else n (or_else (probe_fault t a.probe) (full_fault a.free))) c.check_state-state.ensures.0) in
     let state_passes : c.open_fault-fault.result ≡ 0 → c.check_state-state.result ≡ 0 = λ z. c.check_state-state.ensures.0 ∙ (open_parts (state_fault x c.args.probe m) (table_of x) c.args.probe c.args.free (sym is-fault ∙ z)).0 in
     let none = state_passes c.if-fault-ne0.false in
     (ordered_links x (legal_slices 256 2048 x (parts none).0), c.check_state-state.ensures.1 none, good none, tt)
@@ -56,7 +56,7 @@ returns c =
     let m : Maps = let a = c.args in rows a.standing.now a.refused_out.now a.held.now a.refused_in.now in
     let is-fault : c.open_fault-fault.result ≡ open_fault (state_fault x c.args.probe m) (table_of x) c.args.probe c.args.free = (
     let t = table_of x in
-        let a = c.args in
-        c.open_fault-fault.ensures ∙ ap (λ (n : ℕ). or_else n (or_else (probe_fault t a.probe) (full_fault a.free))) c.check_state-state.ensures.0) in
+    let a = c.args in
+    c.open_fault-fault.ensures ∙ ap (λ (n : ℕ). or_else n (or_else (probe_fault t a.probe) (full_fault a.free))) c.check_state-state.ensures.0) in
     let a = c.args in
     accepted_call _ a.number a.probes a.links a.needs.now a.lows.now a.highs.now a.costs.now a.probe Opening m _ _ (sym is-fault ∙ c.if-fault-ne0.false) c.apply-e.ensures.0 c.apply-e.ensures.1

@@ -35,11 +35,11 @@ in_both-requires c =
     let is-fault : c.link_call_fault-fault.result ≡ link_call_fault (state_fault x c.args.probe m) (table_of x) c.args.probe c.args.link = c.link_call_fault-fault.ensures ∙ ap (λ (n : ℕ). or_else n (own_link_fault (table_of x) c.args.probe c.args.link)) c.check_state-state.ensures.0 in
     let words : AllWords m = (
     record {
-          standing = λ k. (c.shared_slice_known-5-1.given k).fits;
-          refused_out_lem = λ k. (c.shared_slice_known-6-1.given k).fits;
-          held = λ k. (c.shared_slice_known-7-1.given k).fits;
-          refused_in_lem = λ k. (c.shared_slice_known-8-1.given k).fits;
-        }) in
+      standing = λ k. (c.shared_slice_known-5-1.given k).fits;
+      refused_out_lem = λ k. (c.shared_slice_known-6-1.given k).fits;
+      held = λ k. (c.shared_slice_known-7-1.given k).fits;
+      refused_in_lem = λ k. (c.shared_slice_known-8-1.given k).fits;
+    }) in
     let parts : (none : c.link_call_fault-fault.result ≡ 0) → (state_fault x c.args.probe m ≡ 0) × (c.args.link < x.links) = λ none. link_parts (state_fault x c.args.probe m) (table_of x) c.args.probe c.args.link (sym is-fault ∙ none) in
     let good : (none : c.link_call_fault-fault.result ≡ 0) → (slices_fault x ≡ 0) × GoodMaps (table_of x) c.args.probe m = λ none. good_state x c.args.probe m words (parts none).0 in
     let p = parts c.if-fault-ne0.false in
@@ -54,11 +54,11 @@ returns c =
     let is-fault : c.link_call_fault-fault.result ≡ link_call_fault (state_fault x c.args.probe m) (table_of x) c.args.probe c.args.link = c.link_call_fault-fault.ensures ∙ ap (λ (n : ℕ). or_else n (own_link_fault (table_of x) c.args.probe c.args.link)) c.check_state-state.ensures.0 in
     let words : AllWords m = (
     record {
-          standing = λ k. (c.shared_slice_known-5-1.given k).fits;
-          refused_out_lem = λ k. (c.shared_slice_known-6-1.given k).fits;
-          held = λ k. (c.shared_slice_known-7-1.given k).fits;
-          refused_in_lem = λ k. (c.shared_slice_known-8-1.given k).fits;
-        }) in
+      standing = λ k. (c.shared_slice_known-5-1.given k).fits;
+      refused_out_lem = λ k. (c.shared_slice_known-6-1.given k).fits;
+      held = λ k. (c.shared_slice_known-7-1.given k).fits;
+      refused_in_lem = λ k. (c.shared_slice_known-8-1.given k).fits;
+    }) in
     let parts : (none : c.link_call_fault-fault.result ≡ 0) → (state_fault x c.args.probe m ≡ 0) × (c.args.link < x.links) = λ none. link_parts (state_fault x c.args.probe m) (table_of x) c.args.probe c.args.link (sym is-fault ∙ none) in
     let good : (none : c.link_call_fault-fault.result ≡ 0) → (slices_fault x ≡ 0) × GoodMaps (table_of x) c.args.probe m = λ none. good_state x c.args.probe m words (parts none).0 in
     rw (← is-fault, eq-eqb _ _ c.if-fault-ne0.false, c.in_both.ensures, rests_bits (table_of x) _ m (good c.if-fault-ne0.false).1 c.args.link)

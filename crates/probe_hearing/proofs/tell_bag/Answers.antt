@@ -37,10 +37,10 @@ returns-then-checked-ne0 c =
     let ls : List (List ℕ) = frames_of c.args.bag.now in
     let fault_is : let a = c.args in c.check_bag-checked.result.fault ≡ hears_bag_fault x a.probe m a.bag.now (a.room - a.used) = (
     let a = c.args in
-        c.check_bag-checked.ensures.0
-        ∙ bag_same c.check_state-state.result a.number a.probes a.links a.needs.now a.lows.now a.highs.now a.costs.now a.probe ls c.free.result
-        ∙ ap (λ (n : ℕ). bag_fault n (table_of x) a.probe ls c.free.result) c.check_state-state.ensures.0
-        ∙ ap (bag_fault (state_fault x a.probe m) (table_of x) a.probe ls) c.free.ensures) in
+    c.check_bag-checked.ensures.0
+    ∙ bag_same c.check_state-state.result a.number a.probes a.links a.needs.now a.lows.now a.highs.now a.costs.now a.probe ls c.free.result
+    ∙ ap (λ (n : ℕ). bag_fault n (table_of x) a.probe ls c.free.result) c.check_state-state.ensures.0
+    ∙ ap (bag_fault (state_fault x a.probe m) (table_of x) a.probe ls) c.free.ensures) in
     refused_bag _ _ _ _ _ _ _ fault_is c.if-checked-ne0.true c.no_entries.ensures
 
 pub hear_frames-entries-requires : goal.hear_frames-entries-requires
@@ -50,11 +50,11 @@ hear_frames-entries-requires c =
     let plain : Table = let a = c.args in of_slices 0 0 a.links a.needs.now a.lows.now a.highs.now a.costs.now in
     let words : AllWords m = (
     record {
-          standing = λ k. (c.slice_known-1.given k).fits;
-          refused_out_lem = λ k. (c.slice_known-2-1.given k).fits;
-          held = λ k. (c.slice_known-3-1.given k).fits;
-          refused_in_lem = λ k. (c.slice_known-4-1.given k).fits;
-        }) in
+      standing = λ k. (c.slice_known-1.given k).fits;
+      refused_out_lem = λ k. (c.slice_known-2-1.given k).fits;
+      held = λ k. (c.slice_known-3-1.given k).fits;
+      refused_in_lem = λ k. (c.slice_known-4-1.given k).fits;
+    }) in
     let parts : (none : c.check_state-state.result ≡ 0) → (slices_fault x ≡ 0) × (maps_fault (table_of x) c.args.probe m ≡ 0) = λ none. state_parts x c.args.probe m (sym c.check_state-state.ensures.0 ∙ none) in
     let good : (none : c.check_state-state.result ≡ 0) → GoodMaps plain c.args.probe m = λ none. good_maps plain c.args.probe m words (parts none).1 in
     let ls : List (List ℕ) = frames_of c.args.bag.now in
@@ -76,10 +76,10 @@ returns c =
     let part-table : Table = let a = c.args in of_slices a.number a.probes a.links [] a.lows.now a.highs.now [] in
     let fault_is : let a = c.args in c.check_bag-checked.result.fault ≡ hears_bag_fault x a.probe m a.bag.now (a.room - a.used) = (
     let a = c.args in
-        c.check_bag-checked.ensures.0
-        ∙ bag_same c.check_state-state.result a.number a.probes a.links a.needs.now a.lows.now a.highs.now a.costs.now a.probe ls c.free.result
-        ∙ ap (λ (n : ℕ). bag_fault n (table_of x) a.probe ls c.free.result) c.check_state-state.ensures.0
-        ∙ ap (bag_fault (state_fault x a.probe m) (table_of x) a.probe ls) c.free.ensures) in
+    c.check_bag-checked.ensures.0
+    ∙ bag_same c.check_state-state.result a.number a.probes a.links a.needs.now a.lows.now a.highs.now a.costs.now a.probe ls c.free.result
+    ∙ ap (λ (n : ℕ). bag_fault n (table_of x) a.probe ls c.free.result) c.check_state-state.ensures.0
+    ∙ ap (bag_fault (state_fault x a.probe m) (table_of x) a.probe ls) c.free.ensures) in
     let passes : (z : c.check_bag-checked.result.fault ≡ 0) → NoFault c.check_state-state.result part-table c.args.probe ls c.free.result = λ z. no_fault c.check_state-state.result part-table c.args.probe ls c.free.result (sym c.check_bag-checked.ensures.0 ∙ z) in
     let room : (z : c.check_bag-checked.result.fault ≡ 0) → length ls ≤ length (replicate {A = ℕ} 64 0) = λ z. let n = length-replicate {A = ℕ} 64 0 in let f = none_many ls (passes z).few in omega arith in
     let z = c.if-checked-ne0.false in

@@ -33,12 +33,12 @@ unsent_fault-unsent-requires c =
     let x : Slices = let a = c.args in slices_of a.number a.probes a.links a.needs.now a.lows.now a.highs.now a.costs.now in
     let t : Table = table_of x in
     let legal : LegalSlices 256 2048 x = legal_slices 256 2048 x c.requires.0 in
-    let passed : event_line_fault t c.args.line.now ≡ 0 =     sym (c.check_line-ends.ensures.0 c.args.line.now c.read_frame-frame.ensures) ∙ c.if-ends-ne0.false in
+    let passed : event_line_fault t c.args.line.now ≡ 0 = sym (c.check_line-ends.ensures.0 c.args.line.now c.read_frame-frame.ensures) ∙ c.if-ends-ne0.false in
     let says : ReadSays t c.args.line.now c.read_frame-frame.result c.line_event-event.result = (
-        let a = c.args in
-        read_says a.number a.probes a.links a.needs.now a.lows.now a.highs.now a.costs.now a.line.now c.read_frame-frame.result _ _
-        (line_read t a.line.now c.read_frame-frame.result c.read_frame-frame.ensures passed) c.line_event-event.ensures
-        (c.check_line-ends.ensures.1 c.if-ends-ne0.false)) in
+    let a = c.args in
+    read_says a.number a.probes a.links a.needs.now a.lows.now a.highs.now a.costs.now a.line.now c.read_frame-frame.result _ _
+    (line_read t a.line.now c.read_frame-frame.result c.read_frame-frame.ensures passed) c.line_event-event.ensures
+    (c.check_line-ends.ensures.1 c.if-ends-ne0.false)) in
     let a = c.args in
     let g = legal in
     let v = c.line_event-event.result in
@@ -50,16 +50,16 @@ pub returns-then-unsent-ne0 : goal.returns-then-unsent-ne0
 returns-then-unsent-ne0 c =
     let x : Slices = let a = c.args in slices_of a.number a.probes a.links a.needs.now a.lows.now a.highs.now a.costs.now in
     let t : Table = table_of x in
-    let passed : event_line_fault t c.args.line.now ≡ 0 =     sym (c.check_line-ends.ensures.0 c.args.line.now c.read_frame-frame.ensures) ∙ c.if-ends-ne0.false in
+    let passed : event_line_fault t c.args.line.now ≡ 0 = sym (c.check_line-ends.ensures.0 c.args.line.now c.read_frame-frame.ensures) ∙ c.if-ends-ne0.false in
     let says : ReadSays t c.args.line.now c.read_frame-frame.result c.line_event-event.result = (
-        let a = c.args in
-        read_says a.number a.probes a.links a.needs.now a.lows.now a.highs.now a.costs.now a.line.now c.read_frame-frame.result _ _
-        (line_read t a.line.now c.read_frame-frame.result c.read_frame-frame.ensures passed) c.line_event-event.ensures
-        (c.check_line-ends.ensures.1 c.if-ends-ne0.false)) in
+    let a = c.args in
+    read_says a.number a.probes a.links a.needs.now a.lows.now a.highs.now a.costs.now a.line.now c.read_frame-frame.result _ _
+    (line_read t a.line.now c.read_frame-frame.result c.read_frame-frame.ensures passed) c.line_event-event.ensures
+    (c.check_line-ends.ensures.1 c.if-ends-ne0.false)) in
     let unsent : c.unsent_fault-unsent.result ≡ unsent_of t c.args.rec.now (frame_of c.args.line.now) = (
     let a = c.args in
-        unsent_is a.number a.probes a.links a.needs.now a.lows.now a.highs.now a.costs.now a.used a.room a.line.now a.rec.now _ _ _
-        says.event says.from (line_within t a.line.now passed) (c.unsent_fault-unsent.ensures a.links)) in
+    unsent_is a.number a.probes a.links a.needs.now a.lows.now a.highs.now a.costs.now a.used a.room a.line.now a.rec.now _ _ _
+    says.event says.from (line_within t a.line.now passed) (c.unsent_fault-unsent.ensures a.links)) in
     let p = c.requires in
     let a = c.args in
     unsent_refused a.number a.probes a.links a.needs.now a.lows.now a.highs.now a.costs.now a.used a.room a.line.now a.rec.now p.0 p.1 passed _ unsent c.if-unsent-ne0.true
@@ -68,16 +68,16 @@ pub returns-then-room-used : goal.returns-then-room-used
 returns-then-room-used c =
     let x : Slices = let a = c.args in slices_of a.number a.probes a.links a.needs.now a.lows.now a.highs.now a.costs.now in
     let t : Table = table_of x in
-    let passed : event_line_fault t c.args.line.now ≡ 0 =     sym (c.check_line-ends.ensures.0 c.args.line.now c.read_frame-frame.ensures) ∙ c.if-ends-ne0.false in
+    let passed : event_line_fault t c.args.line.now ≡ 0 = sym (c.check_line-ends.ensures.0 c.args.line.now c.read_frame-frame.ensures) ∙ c.if-ends-ne0.false in
     let says : ReadSays t c.args.line.now c.read_frame-frame.result c.line_event-event.result = (
-        let a = c.args in
-        read_says a.number a.probes a.links a.needs.now a.lows.now a.highs.now a.costs.now a.line.now c.read_frame-frame.result _ _
-        (line_read t a.line.now c.read_frame-frame.result c.read_frame-frame.ensures passed) c.line_event-event.ensures
-        (c.check_line-ends.ensures.1 c.if-ends-ne0.false)) in
+    let a = c.args in
+    read_says a.number a.probes a.links a.needs.now a.lows.now a.highs.now a.costs.now a.line.now c.read_frame-frame.result _ _
+    (line_read t a.line.now c.read_frame-frame.result c.read_frame-frame.ensures passed) c.line_event-event.ensures
+    (c.check_line-ends.ensures.1 c.if-ends-ne0.false)) in
     let unsent : c.unsent_fault-unsent.result ≡ unsent_of t c.args.rec.now (frame_of c.args.line.now) = (
     let a = c.args in
-        unsent_is a.number a.probes a.links a.needs.now a.lows.now a.highs.now a.costs.now a.used a.room a.line.now a.rec.now _ _ _
-        says.event says.from (line_within t a.line.now passed) (c.unsent_fault-unsent.ensures a.links)) in
+    unsent_is a.number a.probes a.links a.needs.now a.lows.now a.highs.now a.costs.now a.used a.room a.line.now a.rec.now _ _ _
+    says.event says.from (line_within t a.line.now passed) (c.unsent_fault-unsent.ensures a.links)) in
     let p = c.requires in
     let a = c.args in
     full_refused a.number a.probes a.links a.needs.now a.lows.now a.highs.now a.costs.now a.used a.room a.line.now a.rec.now p.0 p.1 passed (sym unsent ∙ c.if-unsent-ne0.false) c.if-room-used.true
@@ -87,12 +87,12 @@ overflow_cast-frame c =
     let x : Slices = let a = c.args in slices_of a.number a.probes a.links a.needs.now a.lows.now a.highs.now a.costs.now in
     let t : Table = table_of x in
     let legal : LegalSlices 256 2048 x = legal_slices 256 2048 x c.requires.0 in
-    let passed : event_line_fault t c.args.line.now ≡ 0 =     sym (c.check_line-ends.ensures.0 c.args.line.now c.read_frame-frame.ensures) ∙ c.if-ends-ne0.false in
+    let passed : event_line_fault t c.args.line.now ≡ 0 = sym (c.check_line-ends.ensures.0 c.args.line.now c.read_frame-frame.ensures) ∙ c.if-ends-ne0.false in
     let says : ReadSays t c.args.line.now c.read_frame-frame.result c.line_event-event.result = (
-        let a = c.args in
-        read_says a.number a.probes a.links a.needs.now a.lows.now a.highs.now a.costs.now a.line.now c.read_frame-frame.result _ _
-        (line_read t a.line.now c.read_frame-frame.result c.read_frame-frame.ensures passed) c.line_event-event.ensures
-        (c.check_line-ends.ensures.1 c.if-ends-ne0.false)) in
+    let a = c.args in
+    read_says a.number a.probes a.links a.needs.now a.lows.now a.highs.now a.costs.now a.line.now c.read_frame-frame.result _ _
+    (line_read t a.line.now c.read_frame-frame.result c.read_frame-frame.ensures passed) c.line_event-event.ensures
+    (c.check_line-ends.ensures.1 c.if-ends-ne0.false)) in
     let l = line_to t c.args.line.now passed legal.legal in
     let e = says.to in
     omega (arith, legal.few)
@@ -102,12 +102,12 @@ apply-e-requires c =
     let x : Slices = let a = c.args in slices_of a.number a.probes a.links a.needs.now a.lows.now a.highs.now a.costs.now in
     let t : Table = table_of x in
     let legal : LegalSlices 256 2048 x = legal_slices 256 2048 x c.requires.0 in
-    let passed : event_line_fault t c.args.line.now ≡ 0 =     sym (c.check_line-ends.ensures.0 c.args.line.now c.read_frame-frame.ensures) ∙ c.if-ends-ne0.false in
+    let passed : event_line_fault t c.args.line.now ≡ 0 = sym (c.check_line-ends.ensures.0 c.args.line.now c.read_frame-frame.ensures) ∙ c.if-ends-ne0.false in
     let says : ReadSays t c.args.line.now c.read_frame-frame.result c.line_event-event.result = (
-        let a = c.args in
-        read_says a.number a.probes a.links a.needs.now a.lows.now a.highs.now a.costs.now a.line.now c.read_frame-frame.result _ _
-        (line_read t a.line.now c.read_frame-frame.result c.read_frame-frame.ensures passed) c.line_event-event.ensures
-        (c.check_line-ends.ensures.1 c.if-ends-ne0.false)) in
+    let a = c.args in
+    read_says a.number a.probes a.links a.needs.now a.lows.now a.highs.now a.costs.now a.line.now c.read_frame-frame.result _ _
+    (line_read t a.line.now c.read_frame-frame.result c.read_frame-frame.ensures passed) c.line_event-event.ensures
+    (c.check_line-ends.ensures.1 c.if-ends-ne0.false)) in
     let p = c.requires in
     let a = c.args in
     let l = line_to t a.line.now passed legal.legal in
@@ -117,16 +117,16 @@ pub returns : goal.returns
 returns c =
     let x : Slices = let a = c.args in slices_of a.number a.probes a.links a.needs.now a.lows.now a.highs.now a.costs.now in
     let t : Table = table_of x in
-    let passed : event_line_fault t c.args.line.now ≡ 0 =     sym (c.check_line-ends.ensures.0 c.args.line.now c.read_frame-frame.ensures) ∙ c.if-ends-ne0.false in
+    let passed : event_line_fault t c.args.line.now ≡ 0 = sym (c.check_line-ends.ensures.0 c.args.line.now c.read_frame-frame.ensures) ∙ c.if-ends-ne0.false in
     let says : ReadSays t c.args.line.now c.read_frame-frame.result c.line_event-event.result = (
-        let a = c.args in
-        read_says a.number a.probes a.links a.needs.now a.lows.now a.highs.now a.costs.now a.line.now c.read_frame-frame.result _ _
-        (line_read t a.line.now c.read_frame-frame.result c.read_frame-frame.ensures passed) c.line_event-event.ensures
-        (c.check_line-ends.ensures.1 c.if-ends-ne0.false)) in
+    let a = c.args in
+    read_says a.number a.probes a.links a.needs.now a.lows.now a.highs.now a.costs.now a.line.now c.read_frame-frame.result _ _
+    (line_read t a.line.now c.read_frame-frame.result c.read_frame-frame.ensures passed) c.line_event-event.ensures
+    (c.check_line-ends.ensures.1 c.if-ends-ne0.false)) in
     let unsent : c.unsent_fault-unsent.result ≡ unsent_of t c.args.rec.now (frame_of c.args.line.now) = (
     let a = c.args in
-        unsent_is a.number a.probes a.links a.needs.now a.lows.now a.highs.now a.costs.now a.used a.room a.line.now a.rec.now _ _ _
-        says.event says.from (line_within t a.line.now passed) (c.unsent_fault-unsent.ensures a.links)) in
+    unsent_is a.number a.probes a.links a.needs.now a.lows.now a.highs.now a.costs.now a.used a.room a.line.now a.rec.now _ _ _
+    says.event says.from (line_within t a.line.now passed) (c.unsent_fault-unsent.ensures a.links)) in
     let p = c.requires in
     let a = c.args in
     let said = says in

@@ -50,7 +50,7 @@ returns-then-read-probe c =
     let p : ℕ = c.args.probe in
     let f : Frame = frame_read c.read_frame-read.result in
     let turned : (n : ℕ) → n ≡ heard_checks t p f → (n ≡ 0 → ⊥) → HearsFrame t p c.args.frame.now (record { fault = n; event = Opening }) = frame_turned t p c.args.frame.now c.read_frame-read.result c.read_frame-read.ensures c.if-read-ne0.false in
-    let past-number : heard_checks t p f ≡ to_fault t p f =     only_to t p f c.if-read-eq0.false c.if-read-gt2.false (c.if-read-wide.false ∙ c.wide.ensures) in
+    let past-number : heard_checks t p f ≡ to_fault t p f = only_to t p f c.if-read-eq0.false c.if-read-gt2.false (c.if-read-wide.false ∙ c.wide.ensures) in
     rw c.refused-then-read-probe.ensures (turned 24 (rw (past-number, ne_eqb _ _ c.if-read-probe.true)) (λ z. omega arith))
 
 pub returns-then-links-link : goal.returns-then-links-link
@@ -59,7 +59,7 @@ returns-then-links-link c =
     let p : ℕ = c.args.probe in
     let f : Frame = frame_read c.read_frame-read.result in
     let turned : (n : ℕ) → n ≡ heard_checks t p f → (n ≡ 0 → ⊥) → HearsFrame t p c.args.frame.now (record { fault = n; event = Opening }) = frame_turned t p c.args.frame.now c.read_frame-read.result c.read_frame-read.ensures c.if-read-ne0.false in
-    let past-number : heard_checks t p f ≡ to_fault t p f =     only_to t p f c.if-read-eq0.false c.if-read-gt2.false (c.if-read-wide.false ∙ c.wide.ensures) in
+    let past-number : heard_checks t p f ≡ to_fault t p f = only_to t p f c.if-read-eq0.false c.if-read-gt2.false (c.if-read-wide.false ∙ c.wide.ensures) in
     rw c.refused-then-links-link.ensures (turned 24
     (rw (past-number, eq-eqb _ _ c.if-read-probe.false, ← c.between-link.ensures, le-ltb _ _ c.if-links-link.true)) (λ z. omega arith))
 
@@ -69,7 +69,7 @@ returns c =
     let p : ℕ = c.args.probe in
     let f : Frame = frame_read c.read_frame-read.result in
     let said : (v : Event) → heard_checks t p f ≡ 0 → v ≡ heard_of t f → HearsFrame t p c.args.frame.now (record { fault = 0; event = v }) = frame_heard t p c.args.frame.now c.read_frame-read.result c.read_frame-read.ensures c.if-read-ne0.false in
-    let past-number : heard_checks t p f ≡ to_fault t p f =     only_to t p f c.if-read-eq0.false c.if-read-gt2.false (c.if-read-wide.false ∙ c.wide.ensures) in
+    let past-number : heard_checks t p f ≡ to_fault t p f = only_to t p f c.if-read-eq0.false c.if-read-gt2.false (c.if-read-wide.false ∙ c.wide.ensures) in
     said _
     (rw (past-number, eq-eqb _ _ c.if-read-probe.false, ← c.between-link.ensures, lt-ltb _ _ c.if-links-link.false))
     (rw (← c.between-link.ensures) c.event_of.ensures)

@@ -85,4 +85,3 @@ returns-in-AllTried c =
     let a = c.args in
     λ links sound within.
     rw c.in-AllTried.is (leaves_same links a.standing.now a.refused_out.now a.held.now a.refused_in.now sound)
-

@@ -46,7 +46,7 @@ returns-then-fault-ne0 c =
     let few-read : length ls ≤ 64 = few c.if-count-gt64.false in
     let fault_is : c.read_frames-fault.result ≡ frames_fault whole c.args.probe ls = (
     let a = c.args in
-        c.read_frames-fault.ensures.0 ∙ faults_same a.number a.links a.lows.now a.highs.now 0 a.probes [] [] [] [] a.probe ls) in
+    c.read_frames-fault.ensures.0 ∙ faults_same a.number a.links a.lows.now a.highs.now 0 a.probes [] [] [] [] a.probe ls) in
     let some = c.if-fault-ne0.true in
     rw c.refused-then-fault-ne0.ensures (fault_of_frames c.args.state whole c.args.probe ls c.args.free none few-read c.read_frames-fault.result fault_is some, (λ z. absurd (some z)))
 
@@ -59,7 +59,7 @@ returns-then-probes-probe c =
     let few-read : length ls ≤ 64 = few c.if-count-gt64.false in
     let fault_is : c.read_frames-fault.result ≡ frames_fault whole c.args.probe ls = (
     let a = c.args in
-        c.read_frames-fault.ensures.0 ∙ faults_same a.number a.links a.lows.now a.highs.now 0 a.probes [] [] [] [] a.probe ls) in
+    c.read_frames-fault.ensures.0 ∙ faults_same a.number a.links a.lows.now a.highs.now 0 a.probes [] [] [] [] a.probe ls) in
     let fine = sym fault_is ∙ c.if-fault-ne0.false in
     rw c.refused-then-probes-probe.ensures (fault_of_probe c.args.state whole c.args.probe ls c.args.free none few-read fine c.if-probes-probe.true, (λ z. absurd (omega (arith, z))))
 
@@ -73,7 +73,7 @@ returns-then-free-count c =
     let count-is : c.count_frames-count.result ≡ length ls = (count_few (length ls) c.count_frames-count.result c.count_frames-count.ensures c.if-count-gt64.false).1 in
     let fault_is : c.read_frames-fault.result ≡ frames_fault whole c.args.probe ls = (
     let a = c.args in
-        c.read_frames-fault.ensures.0 ∙ faults_same a.number a.links a.lows.now a.highs.now 0 a.probes [] [] [] [] a.probe ls) in
+    c.read_frames-fault.ensures.0 ∙ faults_same a.number a.links a.lows.now a.highs.now 0 a.probes [] [] [] [] a.probe ls) in
     let fine = sym fault_is ∙ c.if-fault-ne0.false in
     let n = count-is in
     rw c.refused-then-free-count.ensures (fault_of_room c.args.state whole c.args.probe ls c.args.free none few-read fine c.if-probes-probe.false (omega (arith, n, c.if-free-count.true)), (λ z. absurd (omega (arith, z))))
@@ -88,7 +88,7 @@ returns c =
     let count-is : c.count_frames-count.result ≡ length ls = (count_few (length ls) c.count_frames-count.result c.count_frames-count.ensures c.if-count-gt64.false).1 in
     let fault_is : c.read_frames-fault.result ≡ frames_fault whole c.args.probe ls = (
     let a = c.args in
-        c.read_frames-fault.ensures.0 ∙ faults_same a.number a.links a.lows.now a.highs.now 0 a.probes [] [] [] [] a.probe ls) in
+    c.read_frames-fault.ensures.0 ∙ faults_same a.number a.links a.lows.now a.highs.now 0 a.probes [] [] [] [] a.probe ls) in
     let a = c.args in
     let z = c.if-fault-ne0.false in
     let n = count-is in

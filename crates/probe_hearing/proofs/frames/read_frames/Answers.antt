@@ -42,10 +42,10 @@ returns-then-heard-ne0 c =
     let table : Table = let a = c.args in of_slices a.number 0 a.links [] a.lows.now a.highs.now [] in
     let says : HearsFrame table c.args.probe line c.check_frame-heard.result = (
     let a = c.args in
-        let k = c.loop-at.at in
-        let e = ap (λ (f : Found). f.next) c.find_line-found.ensures in
-        let is : take (c.find_line-found.result.next - k) (drop k a.bag.now) ≡ line = ap (λ (j : ℕ). take (j - k) (drop k a.bag.now)) e ∙ line_part a.bag.now k test in
-        rw is at c.check_frame-heard.ensures) in
+    let k = c.loop-at.at in
+    let e = ap (λ (f : Found). f.next) c.find_line-found.ensures in
+    let is : take (c.find_line-found.result.next - k) (drop k a.bag.now) ≡ line = ap (λ (j : ℕ). take (j - k) (drop k a.bag.now)) e ∙ line_part a.bag.now k test in
+    rw is at c.check_frame-heard.ensures) in
     let l = c.loop-at in
     let a = c.args in
     (read_bad table a.probe a.bag.now a.said.now l.said l.n l.at l.invariant test _ says.0 c.if-heard-ne0.true, (λ z. absurd (c.if-heard-ne0.true z)))
@@ -57,10 +57,10 @@ packed_event-requires c =
     let table : Table = let a = c.args in of_slices a.number 0 a.links [] a.lows.now a.highs.now [] in
     let says : HearsFrame table c.args.probe line c.check_frame-heard.result = (
     let a = c.args in
-        let k = c.loop-at.at in
-        let e = ap (λ (f : Found). f.next) c.find_line-found.ensures in
-        let is : take (c.find_line-found.result.next - k) (drop k a.bag.now) ≡ line = ap (λ (j : ℕ). take (j - k) (drop k a.bag.now)) e ∙ line_part a.bag.now k test in
-        rw is at c.check_frame-heard.ensures) in
+    let k = c.loop-at.at in
+    let e = ap (λ (f : Found). f.next) c.find_line-found.ensures in
+    let is : take (c.find_line-found.result.next - k) (drop k a.bag.now) ≡ line = ap (λ (j : ℕ). take (j - k) (drop k a.bag.now)) e ∙ line_part a.bag.now k test in
+    rw is at c.check_frame-heard.ensures) in
     let a = c.args in
     let z = c.if-heard-ne0.false in
     let none = sym says.0 ∙ z in
@@ -107,10 +107,10 @@ loop-at-preserved c =
     let table : Table = let a = c.args in of_slices a.number 0 a.links [] a.lows.now a.highs.now [] in
     let says : HearsFrame table c.args.probe line c.check_frame-heard.result = (
     let a = c.args in
-        let k = c.loop-at.at in
-        let e = ap (λ (f : Found). f.next) c.find_line-found.ensures in
-        let is : take (c.find_line-found.result.next - k) (drop k a.bag.now) ≡ line = ap (λ (j : ℕ). take (j - k) (drop k a.bag.now)) e ∙ line_part a.bag.now k test in
-        rw is at c.check_frame-heard.ensures) in
+    let k = c.loop-at.at in
+    let e = ap (λ (f : Found). f.next) c.find_line-found.ensures in
+    let is : take (c.find_line-found.result.next - k) (drop k a.bag.now) ≡ line = ap (λ (j : ℕ). take (j - k) (drop k a.bag.now)) e ∙ line_part a.bag.now k test in
+    rw is at c.check_frame-heard.ensures) in
     let l = c.loop-at in
     let a = c.args in
     let z = c.if-heard-ne0.false in

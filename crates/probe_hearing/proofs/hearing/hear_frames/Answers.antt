@@ -70,10 +70,10 @@ returns c =
     let maps : Maps = let a = c.args in rows a.standing.now a.refused_out.now a.held.now a.refused_in.now in
     let as_many : length vs ≡ c.args.count = length-map (take c.args.count c.args.said.now) unpacked_event ∙ length-take-le c.args.count c.args.said.now c.requires.4 in
     let events-done : (n : ℕ) → c.args.count ≤ n → length vs ≤ n = λ n l. let k = as_many in omega arith in
-    let told_is : (told : List Entry) → let es = entries_after table c.args.probe vs maps in told ≡ sets (replicate 64 no_entry) 0 es → record { count = c.args.count; entries = told } ≡ entries_of es = (λ told is. 
+    let told_is : (told : List Entry) → let es = entries_after table c.args.probe vs maps in told ≡ sets (replicate 64 no_entry) 0 es → record { count = c.args.count; entries = told } ≡ entries_of es = (λ told is.
     let es = entries_after table c.args.probe vs maps in
-        ap (λ (all : List Entry). record { count = c.args.count; entries = all }) is
-        ∙ ap (λ (k : ℕ). record { count = k; entries = sets (replicate 64 no_entry) 0 es }) (sym (length_entries table c.args.probe vs maps ∙ as_many))) in
+    ap (λ (all : List Entry). record { count = c.args.count; entries = all }) is
+    ∙ ap (λ (k : ℕ). record { count = k; entries = sets (replicate 64 no_entry) 0 es }) (sym (length_entries table c.args.probe vs maps ∙ as_many))) in
     let l = c.loop-n in
     let done = events-done l.n c.loop-n-test.false in
     (told_is l.entries (heard_entries _ _ _ _ _ _ _ l.n l.invariant.2 done), heard_maps _ _ _ _ _ _ _ l.n l.invariant.2 done)

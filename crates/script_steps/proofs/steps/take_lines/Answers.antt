@@ -54,11 +54,13 @@ loop-at-preserved c =
     let good = still_usable x p _ a.start.at _ _ _ _ _ c.requires.0 c.requires.1 v.2 in
     let answered : Buffered (after_line x 1024 (under_way l.place.progress l.rec []) (take (l.next - l.at) (drop l.at a.piece.now))) l.place.at j.place j.rec [] l.out j.out =
     elim j.branch [
-      then-next-at-ne15 w ↦ rw (w.rec-is, w.out-is, w.place-is)
+      | then-next-at-ne15 w ↦ rw (w.rec-is, w.out-is, w.place-is)
           (line_refused x p a.piece.now a.start.at l.at l.next l.place _ l.rec _ l.out _ c.requires.0 good (omega arith) v.2 (omega (arith, v.1)) (omega (arith, v.1)) w.if-next-at-ne15.true w.refuse_line-place.ensures)
-    | else-next-at-ne15 w ↦ rw (w.rec-is, w.out-is, w.place-is) w.answer_line-place.ensures ] in
+      | else-next-at-ne15 w ↦ rw (w.rec-is, w.out-is, w.place-is) w.answer_line-place.ensures
+    ] in
     let same : (length j.rec ≡ length l.rec) × (length j.out ≡ length l.out) =
     elim j.branch [
-      then-next-at-ne15 w ↦ (ap length w.rec-is, ap length w.out-is ∙ w.refuse_line-place.auto.out)
-    | else-next-at-ne15 w ↦ (ap length w.rec-is ∙ w.answer_line-place.auto.rec, ap length w.out-is ∙ w.answer_line-place.auto.out) ] in
+      | then-next-at-ne15 w ↦ (ap length w.rec-is, ap length w.out-is ∙ w.refuse_line-place.auto.out)
+      | else-next-at-ne15 w ↦ (ap length w.rec-is ∙ w.answer_line-place.auto.rec, ap length w.out-is ∙ w.answer_line-place.auto.out)
+    ] in
     (omega (arith, v.1), c.line_end-next-in-loop-at.ensures, next_taken x p a.piece.now a.start.at l.at l.next l.place _ _ _ _ _ _ v.1 c.loop-at-test.true v.4 (omega arith) v.2 answered, same.0 ∙ v.3, same.1 ∙ v.4)
