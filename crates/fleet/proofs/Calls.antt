@@ -19,7 +19,7 @@ use Rattle.wake_log.specs.declared.Answer.{Answer}
 use Rattle.wake_log.specs.declared.Answer.TheVariants.{Logged, Refused}
 use Rattle.wake_log.specs.declared.What.TheVariants.{Restarted}
 use Rattle.wake_log.specs.Entry.{entry_values, answer_reply, answer_of}
-use Rattle.wake_log.proofs.Answers.{answer-is, answer-reply}
+use Rattle.wake_log.proofs.Answers.{answer_is, answer_reply_lem}
 use mathlib.Core.Logic.{◌⊎◌, inl, inr}
 use Rattle.range.proofs.Bools.{decided}
 use Rattle.probe_rules.specs.declared.Event.{Event}
@@ -31,7 +31,7 @@ use Rattle.probe_rules.proofs.OutcomeLaws.{entry_same, befalls_same}
 use Rattle.fleet_theory.specs.Fleet.{own, marks, fleet_fault, restarts, of_one_probe, event_line_fault, event_of, unsent_fault, event_fault, outcome_of, alter_fleet, wiped, altered_by, entry_by, State, fault_of, answer_to, accepted, next}
 use Rattle.fleet.specs.declared.Finishing.{Finishing}
 use Rattle.fleet.specs.declared.Finishing.TheVariants as finishing
-use Rattle.fleet.specs.Answers.{Handled, finishingReply}
+use Rattle.fleet.specs.Answers.{Handled, finishing_reply}
 use Rattle.fleet_theory.proofs.Own.{own_same, marks_same, fleet_same}
 use Rattle.fleet_theory.proofs.Wipe.{wiped_same}
 
@@ -47,16 +47,16 @@ logged_answer fault e e' none is = rw (none, is)
 altered : (fault : ℕ) (r r' r'' : List ℕ) → fault ≡ 0 → r'' ≡ r' → r'' ≡ cond (eqb fault 0) r' r
 altered fault r r' r'' none is = rw none is
 
-pub finishing_refused : (fault n : ℕ) (vs : List ℕ) → n ≡ fault → (n ≡ 0 → ⊥) → finishingReply (finishing.Refused n) ≡ reply_of fault vs
+pub finishing_refused : (fault n : ℕ) (vs : List ℕ) → n ≡ fault → (n ≡ 0 → ⊥) → finishing_reply (finishing.Refused n) ≡ reply_of fault vs
 finishing_refused fault n vs e some = rw (← e, ne_eqb n 0 some)
 
-pub finishing_says : (fault : ℕ) (b b' : Bool) → fault ≡ 0 → b ≡ b' → finishingReply (finishing.Says b) ≡ reply_of fault (cond b' 1 0 ∷ [])
+pub finishing_says : (fault : ℕ) (b b' : Bool) → fault ≡ 0 → b ≡ b' → finishing_reply (finishing.Says b) ≡ reply_of fault (cond b' 1 0 ∷ [])
 finishing_says fault b b' none is = rw (none, is)
 
-pub finishing_is : (q : Finishing) (fault : ℕ) (b : Bool) → finishingReply q ≡ reply_of fault (cond b 1 0 ∷ []) → q ≡ cond (eqb fault 0) (finishing.Says b) (finishing.Refused fault)
+pub finishing_is : (q : Finishing) (fault : ℕ) (b : Bool) → finishing_reply q ≡ reply_of fault (cond b 1 0 ∷ []) → q ≡ cond (eqb fault 0) (finishing.Says b) (finishing.Refused fault)
 finishing_is q fault b e = go q (eqb fault 0) b e
   where
-    go : (q : Finishing) (none b : Bool) → finishingReply q ≡ cond none (values (cond b 1 0 ∷ [])) (refusal fault) → q ≡ cond none (finishing.Says b) (finishing.Refused fault)
+    go : (q : Finishing) (none b : Bool) → finishing_reply q ≡ cond none (values (cond b 1 0 ∷ [])) (refusal fault) → q ≡ cond none (finishing.Says b) (finishing.Refused fault)
     go (finishing.Says true) true true e = refl
     go (finishing.Says true) true false e = let z : ◌≡◌ {A = ℕ} 0 1 = cc in absurd (omega arith)
     go (finishing.Says false) true true e = let z : ◌≡◌ {A = ℕ} 0 1 = cc in absurd (omega arith)
@@ -168,7 +168,7 @@ module _ (number probes links : ℕ) (needs lows highs costs : List ℕ) (used r
 pub handled_answer : {x : Slices} {used room : ℕ} {line : List ℕ} {r : Answer} {before after : List ℕ} → Handled x used room line r before after
     → r ≡ answer_of (event_fault x before used room line) (entry_by (table_of x) before (frame_of line))
 handled_answer {x} {used} {room} {line} {r} {before} h =
-    answer-is r (event_fault x before used room line) (entry_by (table_of x) before (frame_of line)) h.answer
+    answer_is r (event_fault x before used room line) (entry_by (table_of x) before (frame_of line)) h.answer
 
 pub handled_is : (x : Slices) (used room : ℕ) (line : List ℕ) (r : Answer) (before after : List ℕ)
     → r ≡ answer_of (event_fault x before used room line) (entry_by (table_of x) before (frame_of line))
@@ -176,7 +176,7 @@ pub handled_is : (x : Slices) (used room : ℕ) (line : List ℕ) (r : Answer) (
     → Handled x used room line r before after
 handled_is x used room line r before after e f =
     record {
-      answer = answer-reply r (event_fault x before used room line) (entry_by (table_of x) before (frame_of line)) e;
+      answer = answer_reply_lem r (event_fault x before used room line) (entry_by (table_of x) before (frame_of line)) e;
       record_after_lem = f;
     }
 

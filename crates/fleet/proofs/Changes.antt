@@ -33,7 +33,7 @@ use Rattle.fleet.proofs.Checks.{line_within}
 use Rattle.fleet_theory.proofs.Events.{line_step, entry_restart, altered_event, entry_event}
 use Rattle.fleet_theory.proofs.Changes.{no_changes, no_frame_changes}
 use Rattle.fleet_theory.proofs.Run.{slices_legal}
-use Rattle.fleet.specs.Answers.{Handled, changesOf, changesBy}
+use Rattle.fleet.specs.Answers.{Handled, changes_of, changes_by}
 use Rattle.fleet_state.proofs.CheckLaws.{fleet_good}
 use Rattle.fleet.proofs.Passing.{passed_line}
 
@@ -150,7 +150,7 @@ module _ (t : Table) (p : ℕ) where
   off r a v = get_or-set_other r a (a + 4) v 0 (λ e. omega arith)
 
   module _ (r : List ℕ) (long : length r ≡ 8 * t.links) where
-    outcome_changes : (o : Outcome) → OwnOutcome t p o → NewBytes (own t p r) o → total t.links r (alter_fleet t p o r) ≡ changesOf (what_of t p o)
+    outcome_changes : (o : Outcome) → OwnOutcome t p o → NewBytes (own t p r) o → total t.links r (alter_fleet t p o r) ≡ changes_of (what_of t p o)
     outcome_changes (Opened i) a new =
         let at = out_at t p i in
         marked_too r (set r at 1) (at + 4) 1 (off r at 1) (out_one r long i 1 a new) (one_mark (out_mark_reads t) (set r at 1) i 1 a (omega arith) (omega arith))
@@ -215,7 +215,7 @@ module _ (x : Slices) (fine : slices_fault x ≡ 0) (room : ℕ) where
 
   -- an accepted line makes as many changes as its entry says, and a refused one none
   pub line_changes : (r : List ℕ) → fleet_fault t r ≡ 0 → (used : ℕ) (l : List ℕ) (answer : Answer) (after : List ℕ) → Handled x used room l answer r after
-      → sum x.links (frame_changes (frame_of l) r after) ≡ changesBy answer
+      → sum x.links (frame_changes (frame_of l) r after) ≡ changes_by answer
   line_changes r good used l answer after h = rw (handled_answer h, h.record_after_lem) (go (ℕ_discrete (event_fault x r used room l) 0))
     where
       f : Frame
@@ -227,25 +227,25 @@ module _ (x : Slices) (fine : slices_fault x ≡ 0) (room : ℕ) where
       entry : Entry
       entry = entry_by t r f
 
-      event : event_fault x r used room l ≡ 0 → sum x.links (link_changes r (alter_fleet t f.to (outcome_of t r f) r)) ≡ changesOf (what_of t f.to (outcome_of t r f))
+      event : event_fault x r used room l ≡ 0 → sum x.links (link_changes r (alter_fleet t f.to (outcome_of t r f) r)) ≡ changes_of (what_of t f.to (outcome_of t r f))
       event e =
           let p = passed_line x r used room l e in
           let step = line_step t (slices_legal x fine) r long l p.0 p.1 in
           outcome_changes t f.to r long (outcome_of t r f) step.own_links (befell_new (befell t (slices_legal x fine) f.to (own t f.to r) (event_of t f) (line_within t l p.0)))
 
-      passed : event_fault x r used room l ≡ 0 → sum x.links (frame_changes f r (altered_by t r f)) ≡ changesOf entry.what
+      passed : event_fault x r used room l ≡ 0 → sum x.links (frame_changes f r (altered_by t r f)) ≡ changes_of entry.what
       passed e = by (decided (restarts f))
         where
-          by : (restarts f ≡ true) ⊎ (restarts f ≡ false) → sum x.links (frame_changes f r (altered_by t r f)) ≡ changesOf entry.what
+          by : (restarts f ≡ true) ⊎ (restarts f ≡ false) → sum x.links (frame_changes f r (altered_by t r f)) ≡ changes_of entry.what
           by (inl is) =
-              subst (λ z. sum x.links (frame_changes f r (altered_by t r f)) ≡ changesOf z.what) (sym (entry_restart t r f is))
+              subst (λ z. sum x.links (frame_changes f r (altered_by t r f)) ≡ changes_of z.what) (sym (entry_restart t r f is))
               (subst (λ b. sum x.links (λ i. cond b 0 (link_changes r (altered_by t r f) i)) ≡ 0) (sym is) (none_count x.links (λ i. false) (λ i k y. true≢false (sym y))))
           by (inr is) =
-              subst (λ z. sum x.links (frame_changes f r (altered_by t r f)) ≡ changesOf z.what) (sym (entry_event t r f is))
-              (subst (λ z. sum x.links (frame_changes f r z) ≡ changesOf (what_of t f.to (outcome_of t r f))) (sym (altered_event t r f is))
-              (subst (λ b. sum x.links (λ i. cond b 0 (link_changes r (alter_fleet t f.to (outcome_of t r f) r) i)) ≡ changesOf (what_of t f.to (outcome_of t r f))) (sym is) (event e)))
+              subst (λ z. sum x.links (frame_changes f r (altered_by t r f)) ≡ changes_of z.what) (sym (entry_event t r f is))
+              (subst (λ z. sum x.links (frame_changes f r z) ≡ changes_of (what_of t f.to (outcome_of t r f))) (sym (altered_event t r f is))
+              (subst (λ b. sum x.links (λ i. cond b 0 (link_changes r (alter_fleet t f.to (outcome_of t r f) r) i)) ≡ changes_of (what_of t f.to (outcome_of t r f))) (sym is) (event e)))
 
       go : Dec (event_fault x r used room l ≡ 0)
-          → sum x.links (frame_changes f r (cond (eqb (event_fault x r used room l) 0) (altered_by t r f) r)) ≡ changesBy (answer_of (event_fault x r used room l) entry)
+          → sum x.links (frame_changes f r (cond (eqb (event_fault x r used room l) 0) (altered_by t r f) r)) ≡ changes_by (answer_of (event_fault x r used room l) entry)
       go (yes e) = rw e (passed e)
       go (no d) = rw (ne_eqb (event_fault x r used room l) 0 d) (no_frame_changes f r x.links)

@@ -11,7 +11,7 @@ use Rattle.probe_frame.specs.Frame.{Frame, frame_of}
 use Rattle.probe_record.proofs.Bytes.{good_record}
 use Rattle.wake_log.specs.declared.Entry.{Entry}
 use Rattle.wake_log.specs.declared.Answer.TheVariants.{Logged}
-use Rattle.wake_log.proofs.Answers.{logged-is}
+use Rattle.wake_log.proofs.Answers.{logged_is}
 use Rattle.probe_rules.specs.declared.Event.TheVariants.{Opening}
 use Rattle.probe_rules.specs.declared.Outcome.{Outcome}
 use Rattle.probe_rules.specs.Rules.{alter, entry_of}
@@ -46,7 +46,7 @@ module _ (x : Slices) (used room : ℕ) (r l : List ℕ) where
 
   -- an opening that is logged and leaves the record as it was
   pub line_opens_nothing : (entry : Entry) → Handled x used room l (Logged entry) r r → f.kind ≡ 0 → OpensNothing t p e entry.what
-  line_opens_nothing entry h kind = go (logged-is (event_fault x r used room l) (entry_by t r f) entry (sym (handled_answer h)))
+  line_opens_nothing entry h kind = go (logged_is (event_fault x r used room l) (entry_by t r f) entry (sym (handled_answer h)))
     where
       event : restarts f ≡ false
       event = rw kind

@@ -19,27 +19,27 @@ pub record Handled (x : Slices) (used room : ℕ) (line : List ℕ) (r : Answer)
   pub record_after_lem : after ≡ cond (eqb (event_fault x before used room line) 0) (altered_by (table_of x) before (frame_of line)) before
 
 -- how many changes an event made, by its entry; 02, No. 2: "marks and wipes count nowhere as changes"
-abbrev pub changesOf : What → ℕ
-changesOf (Opened link) = 1
-changesOf Enough = 0
-changesOf (Taken link) = 1
-changesOf (TakenDisplacing link displaced) = 2
-changesOf (Refused link) = 1
-changesOf (RefusalLearnt link) = 1
-changesOf (NoChange link) = 0
-changesOf AllTried = 0
-changesOf Restarted = 0
+abbrev pub changes_of : What → ℕ
+changes_of (Opened link) = 1
+changes_of Enough = 0
+changes_of (Taken link) = 1
+changes_of (TakenDisplacing link displaced) = 2
+changes_of (Refused link) = 1
+changes_of (RefusalLearnt link) = 1
+changes_of (NoChange link) = 0
+changes_of AllTried = 0
+changes_of Restarted = 0
 
 -- by its answer
-abbrev pub changesBy : Answer → ℕ
-changesBy (answer.Logged entry) = changesOf entry.what
-changesBy (answer.Refused fault) = 0
+abbrev pub changes_by : Answer → ℕ
+changes_by (answer.Logged entry) = changes_of entry.what
+changes_by (answer.Refused fault) = 0
 
 -- 1 where the fleet is finished, 0 where it is not
-abbrev pub finishingReply : Finishing → Reply
-finishingReply (finishing.Says b) = values (cond b 1 0 ∷ [])
-finishingReply (finishing.Refused n) = refusal n
+abbrev pub finishing_reply : Finishing → Reply
+finishing_reply (finishing.Says b) = values (cond b 1 0 ∷ [])
+finishing_reply (finishing.Refused n) = refusal n
 
 -- "Finished means .. that no opening and no sendable frame would alter a record byte by these rules"
-abbrev pub whetherFinished : Slices → List ℕ → Reply
-whetherFinished x r = reply_of (or_else (slices_fault x) (fleet_fault (table_of x) r)) (cond (finished (table_of x) r) 1 0 ∷ [])
+abbrev pub whether_finished : Slices → List ℕ → Reply
+whether_finished x r = reply_of (or_else (slices_fault x) (fleet_fault (table_of x) r)) (cond (finished (table_of x) r) 1 0 ∷ [])

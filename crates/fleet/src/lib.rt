@@ -3,7 +3,7 @@
 
 ghost use Rattle.std.specs.Prelude.{◌≡◌};
 ghost use Rattle.table.specs.Slices.{slices_of};
-ghost use Rattle.fleet.specs.Answers.{Handled, finishingReply, whetherFinished, changesOf};
+ghost use Rattle.fleet.specs.Answers.{Handled, finishing_reply, whether_finished, changes_of};
 
 pub mod line_checks;
 pub mod steps;
@@ -74,7 +74,7 @@ pub fn finished(
     rec: &[u8],
 ) -> Finishing
     ensures { let x = slices_of number probes links needs.now lows.now highs.now costs.now in
-        finishingReply result ≡ whetherFinished x rec.now }
+        finishing_reply result ≡ whether_finished x rec.now }
 {
     let mut degrees = [0u16; 256];
     let fault = fleet_state::checks::state_fault(
@@ -103,7 +103,7 @@ pub fn finished(
 
 // How many changes an event made, by its entry; marks and wipes count nowhere.
 pub fn changes_of(what: wake_log::What) -> u8
-    ensures { result ≡ changesOf what }
+    ensures { result ≡ changes_of what }
 {
     match what {
         wake_log::What::Opened(_) => 1,

@@ -20,7 +20,7 @@ use Rattle.fleet_theory.specs.ClaimsOfRun.{moments, ClaimsOfRun}
 use Rattle.fleet_theory.proofs.ClaimsOfRun.{claims_of_run}
 use Rattle.fleet.specs.declared.Finishing.{Finishing}
 use Rattle.fleet.specs.declared.Finishing.TheVariants.{Says}
-use Rattle.fleet.specs.Answers.{finishingReply, whetherFinished}
+use Rattle.fleet.specs.Answers.{finishing_reply, whether_finished}
 use Rattle.fleet.proofs.Calls.{finishing_is, handled_next}
 use Rattle.fleet_calls.specs.Calls.{SameTable, LoggedCall, LoggedLeft, fresh_logged, left_by_logged, KeptLogged, LoggedCalls, left_after_logged, logged_lines}
 use Rattle.fleet_calls.specs.Demand3.{changes_over, NoRestartIn, records_over, LeadsToFinish, Demand3}
@@ -135,7 +135,7 @@ module _ (x : Slices) (fine : slices_fault x ≡ 0) (digits : x.number < 65536) 
     passes_after : fleet_fault t after.bytes ≡ 0
     passes_after = rw f.bytes all.passes
 
-    says_whether : (y : Slices) → SameTable y x → (q : Finishing) → finishingReply q ≡ whetherFinished y after.bytes → q ≡ Says (finished t after.bytes)
+    says_whether : (y : Slices) → SameTable y x → (q : Finishing) → finishing_reply q ≡ whether_finished y after.bytes → q ≡ Says (finished t after.bytes)
     says_whether y same q is =
         let passes : fleet_fault (table_of y) after.bytes ≡ 0 = same_fleet (table_of y) t same.same after.bytes ∙ passes_after in
         finishing_is q (or_else (slices_fault y) (fleet_fault (table_of y) after.bytes)) (finished (table_of y) after.bytes) is

@@ -25,7 +25,7 @@ use Rattle.wake_log.specs.declared.What.TheVariants.{Restarted}
 use Rattle.wake_log.specs.declared.Answer.{Answer}
 use Rattle.wake_log.specs.declared.Answer.TheVariants.{Logged}
 use Rattle.wake_log.specs.Entry.{answer_of}
-use Rattle.wake_log.proofs.Answers.{logged-is}
+use Rattle.wake_log.proofs.Answers.{logged_is}
 use Rattle.probe_rules.specs.declared.Event.{Event}
 use Rattle.probe_rules.specs.declared.Event.TheVariants.{Opening}
 use Rattle.probe_rules.specs.declared.Outcome.{Outcome}
@@ -43,8 +43,8 @@ use Rattle.probe.specs.declared.Asked.{Asked}
 use Rattle.probe.specs.declared.Asked.TheVariants.{Written}
 use Rattle.probe.specs.declared.Resting.{Resting}
 use Rattle.probe.specs.declared.Resting.TheVariants.{Rests}
-use Rattle.probe.proofs.Answers.{befallen-answer, resting-is}
-use Rattle.probe.specs.Answers.{Befallen, Asks, opensFault, hearsFault, Opens, Hears, AsksFor, askFault, askedEvent, askedFrame, askedLine, restingReply, whetherRests}
+use Rattle.probe.proofs.Answers.{befallen_answer, resting_is}
+use Rattle.probe.specs.Answers.{Befallen, Asks, opens_fault, hears_fault, Opens, Hears, AsksFor, ask_fault, asked_event, asked_frame, asked_line, resting_reply, whether_rests}
 use Rattle.fleet_theory.specs.Fleet.{own, marks, event_line_fault, event_of, State, start, fault_of, answer_to, next, run}
 use Rattle.fleet_theory.specs.Words.{IsFrame, MaySend, end_rests, IsRestart}
 use Rattle.fleet_theory.specs.Ends.{SameAlone, EndsAlone}
@@ -118,7 +118,7 @@ module _ (t u : Table) (same : Same t u) (p : ℕ) (l : p < t.probes) where
         → (a ≡ answer_of m (entry_of u p (befalls_maps u p w before))) × (after ≡ cond (eqb m 0) (alter_maps u.links (befalls_maps u p w before) before) before)
     befallen_same h =
         let entry = same_entry_lem t u same p (befalls_maps t p v before) (befalls_within t p v (bytes_of t.links before) within) ∙ ap (entry_of u p) outcomes in (
-          befallen-answer h ∙ ap (answer_of n) entry ∙ ap (λ (k : ℕ). answer_of k (entry_of u p (befalls_maps u p w before))) is,
+          befallen_answer h ∙ ap (answer_of n) entry ∙ ap (λ (k : ℕ). answer_of k (entry_of u p (befalls_maps u p w before))) is,
           h.maps_after_lem
               ∙ ap (λ (o : Outcome). cond (eqb n 0) (alter_maps t.links o before) before) outcomes
               ∙ ap (λ (k : ℕ). cond (eqb n 0) (alter_maps k (befalls_maps u p w before) before) before) same.links
@@ -126,19 +126,19 @@ module _ (t u : Table) (same : Same t u) (p : ℕ) (l : p < t.probes) where
         )
 
   -- the line of a frame asked for on an own link
-  same_asked : (k : Kind) (i : ℕ) → i < t.links → askedLine t p k i ≡ askedLine u p k i
+  same_asked : (k : Kind) (i : ℕ) → i < t.links → asked_line t p k i ≡ asked_line u p k i
   same_asked k i b = rw (same.number, same.low i b, same.high i b)
 
   asks_same : (n m : ℕ) → n ≡ m → (d e : List ℕ) → d ≡ e → (k : Kind) (i : ℕ) → i < t.links → (a : Asked) (out out' : List ℕ)
       → Asks n t p k i d a out out' → Asks m u p k i e a out out'
   asks_same n m is d e bytes k i b a out out' h =
-      let may = sendable (askedEvent k i) e in
-      let may-be = ap (sendable (askedEvent k i)) bytes in
+      let may = sendable (asked_event k i) e in
+      let may-be = ap (sendable (asked_event k i)) bytes in
       record {
         answer = h.answer ∙ ap (λ (z : Bool). reply_of n (cond z 1 0 ∷ [])) may-be ∙ ap (λ (j : ℕ). reply_of j (cond may 1 0 ∷ [])) is;
         line = h.line
-            ∙ ap (λ (z : Bool). cond (eqb n 0 && z) (sets out 0 (askedLine t p k i)) out) may-be
-            ∙ ap (λ (j : ℕ). cond (eqb j 0 && may) (sets out 0 (askedLine t p k i)) out) is
+            ∙ ap (λ (z : Bool). cond (eqb n 0 && z) (sets out 0 (asked_line t p k i)) out) may-be
+            ∙ ap (λ (j : ℕ). cond (eqb j 0 && may) (sets out 0 (asked_line t p k i)) out) is
             ∙ ap (λ (line : List ℕ). cond (eqb m 0 && may) (sets out 0 line) out) (same_asked k i b);
       }
 
@@ -180,7 +180,7 @@ module _ (x : Slices) (fine : slices_fault x ≡ 0) (log : List Entry) where
     stepped = step_follows x log s left c follows (kept_logs x fine left c (call_at x (fresh_logged x log) before later c k))
 
     none : fault_of x room s l ≡ 0
-    none = (logged-is (fault_of x room s l) (entry_to x s l) entry (sym stepped.0 ∙ logged)).0
+    none = (logged_is (fault_of x room s l) (entry_to x s l) entry (sym stepped.0 ∙ logged)).0
 
     line : event_line_fault t l ≡ 0
     line = (passed_line x s.bytes (length s.log) room l none).0
@@ -198,7 +198,7 @@ module _ (x : Slices) (fine : slices_fault x ≡ 0) (log : List Entry) where
     same_as_fleet : (v : Event) (fault : ℕ) → SameAlone x room s l v fault → (a : Answer) (maps' : Maps)
         → (a ≡ answer_of fault (entry_of t p (befalls_maps t p v m))) × (maps' ≡ cond (eqb fault 0) (alter_maps x.links (befalls_maps t p v m) m) m) → SameMaps a maps'
     same_as_fleet v fault h a maps' q = (
-      q.0 ∙ sym (befallen-answer h.promised) ∙ sym stepped.0,
+      q.0 ∙ sym (befallen_answer h.promised) ∙ sym stepped.0,
       q.1 ∙ sym h.promised.maps_after_lem ∙ ap (λ (bytes : List ℕ). maps_of x.links (own t p bytes)) (sym stepped.1.bytes),
     )
 
@@ -215,14 +215,14 @@ module _ (x : Slices) (fine : slices_fault x ≡ 0) (log : List Entry) where
       opens_same : f.kind ≡ 0 → Opens y p free a (maps_of x.links (own t p left.bytes)) maps' → SameMaps a maps'
       opens_same kind h =
           let is = same_open u t same.same p below (state_fault y p m) (state_fault x p m) free states in
-          same_as_fleet Opening (opensFault x p m free) (alone.opens_alone (logged_lines before) [] l refl none kind free some) a maps'
-          (befallen_same u t same.same p below (opensFault y p m free) (opensFault x p m free) is Opening Opening refl tt a m maps' (rw follows.bytes at h))
+          same_as_fleet Opening (opens_fault x p m free) (alone.opens_alone (logged_lines before) [] l refl none kind free some) a maps'
+          (befallen_same u t same.same p below (opens_fault y p m free) (opens_fault x p m free) is Opening Opening refl tt a m maps' (rw follows.bytes at h))
 
       hears_same : IsFrame f → Hears y p l free a (maps_of x.links (own t p left.bytes)) maps' → SameMaps a maps'
       hears_same frame h =
           let is = same_hear u t same.same p below (state_fault y p m) (state_fault x p m) l free states in
-          same_as_fleet (heard_of t f) (hearsFault x p m l free) (alone.hears_alone (logged_lines before) [] l refl none frame free some) a maps'
-          (befallen_same u t same.same p below (hearsFault y p m l free) (hearsFault x p m l free) is (heard_of u f) (heard_of t f) (same_heard u t same.same f) (within frame) a m maps' (rw follows.bytes at h))
+          same_as_fleet (heard_of t f) (hears_fault x p m l free) (alone.hears_alone (logged_lines before) [] l refl none frame free some) a maps'
+          (befallen_same u t same.same p below (hears_fault y p m l free) (hears_fault x p m l free) is (heard_of u f) (heard_of t f) (same_heard u t same.same f) (within frame) a m maps' (rw follows.bytes at h))
         where
           in_line : EventWithin u.links (event_of u f)
           in_line = line_within u l (same_line u t same.same l ∙ line)
@@ -292,20 +292,20 @@ module _ (x : Slices) (fine : slices_fault x ≡ 0) (log : List Entry) where
       bytes_by = ap (λ (n : ℕ). bytes_of n (maps p)) same.same.links
 
       asked_same : (k : Kind) (out : List ℕ) → 15 ≤ length out → (a : Asked) (out' : List ℕ) → AsksFor y p k i (maps_of x.links (own t p bytes)) a out out'
-          → ((a ≡ Written) × (out' ≡ sets out 0 (askedLine t p k i))) ↔ MaySend t bytes (askedFrame t p k i)
+          → ((a ≡ Written) × (out' ≡ sets out 0 (asked_line t p k i))) ↔ MaySend t bytes (asked_frame t p k i)
       asked_same k out long a out' h =
-          let is : askFault y p i (maps p) out ≡ askFault x p i (maps p) out = ap (or_else (lent_fault (length out) 15)) link_calls in
+          let is : ask_fault y p i (maps p) out ≡ ask_fault x p i (maps p) out = ap (or_else (lent_fault (length out) 15)) link_calls in
           rw bytes_same
           (alone_now.asked_writes (logged_lines before) [] all_lines k p i is-own out long a out'
-          (asks_same (table_of y) t same.same p probe_below (askFault y p i (maps p) out) (askFault x p i (maps p) out) is (bytes_of y.links (maps p)) (bytes_of x.links (maps p)) bytes_by k i
+          (asks_same (table_of y) t same.same p probe_below (ask_fault y p i (maps p) out) (ask_fault x p i (maps p) out) is (bytes_of y.links (maps p)) (bytes_of x.links (maps p)) bytes_by k i
           (rw same.same.links is-own.0) a out out' (rw bytes_same at h)))
 
-      rests_same : (q : Resting) → restingReply q ≡ whetherRests y p (maps_of x.links (own t p bytes)) i → q ≡ Rests (end_rests t bytes p i)
+      rests_same : (q : Resting) → resting_reply q ≡ whether_rests y p (maps_of x.links (own t p bytes)) i → q ≡ Rests (end_rests t bytes p i)
       rests_same q h =
           let n = link_call_fault (state_fault y p (maps p)) (table_of y) p i in
           let passes : n ≡ 0 = link_calls ∙ alone_now.asked_passes (logged_lines before) [] all_lines p i is-own in
           let turned : bytes_of y.links (maps p) ≡ own t p now = bytes_by ∙ sym (turned_now p).bytes_are in
-          rw bytes_same (resting-is q n (rests (bytes_of y.links (maps p)) i) (rw bytes_same at h) ∙ rw passes (ap (λ (e : List ℕ). Rests (rests e i)) turned))
+          rw bytes_same (resting_is q n (rests (bytes_of y.links (maps p)) i) (rw bytes_same at h) ∙ rw passes (ap (λ (e : List ℕ). Rests (rests e i)) turned))
 
   pub ends_of_calls : (cs : List LoggedCall) → LoggedCalls x (fresh_logged x log) cs → EndsOfCalls x log cs
   ends_of_calls cs k =

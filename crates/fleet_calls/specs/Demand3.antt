@@ -9,12 +9,12 @@ use Rattle.wake_log.specs.declared.Entry.{Entry}
 use Rattle.wake_log.specs.declared.Answer.TheVariants.{Logged, Refused}
 use Rattle.probe_rules.specs.Within.{OwnLink}
 use Rattle.probe.specs.declared.Kind.{Kind}
-use Rattle.probe.specs.Answers.{askedFrame}
+use Rattle.probe.specs.Answers.{asked_frame}
 use Rattle.fleet_theory.specs.Fleet.{start, marks, fleet_fault, event_line_fault, frame_changes, finished}
 use Rattle.fleet_theory.specs.Words.{IsFrame, MaySend, TrulySent, frame_mark, MarkStep, RefusedIn, end_rests, IsOpening, IsRestart, TrulySentLine, Usable}
 use Rattle.fleet.specs.declared.Finishing.{Finishing}
 use Rattle.fleet.specs.declared.Finishing.TheVariants.{Says}
-use Rattle.fleet.specs.Answers.{finishingReply, whetherFinished}
+use Rattle.fleet.specs.Answers.{finishing_reply, whether_finished}
 use Rattle.fleet_calls.specs.Calls.{SameTable, LoggedCall, LoggedLeft, fresh_logged, KeptLogged, LoggedCalls, left_after_logged, logged_lines}
 
 -- "Changes: for each accepted event, the record bytes whose value after it differs from that before; a link's are those in its own four bytes": from the record r on. A refused call alters none.
@@ -73,7 +73,7 @@ module _ (x : Slices) (log : List Entry) (cs : List LoggedCall) where
     -- 20 to 22 let the record pass at every moment; so `finished`, called on it in any slices of the table, says whether the fleet is finished, and refuses nothing
     pub passes : (before later : List LoggedCall) → cs ≡ before ++ later → fleet_fault t (left_at before).bytes ≡ 0
     pub says : (before later : List LoggedCall) → cs ≡ before ++ later → (y : Slices) → SameTable y x
-        → (q : Finishing) → finishingReply q ≡ whetherFinished y (left_at before).bytes → q ≡ Says (finished t (left_at before).bytes)
+        → (q : Finishing) → finishing_reply q ≡ whether_finished y (left_at before).bytes → q ≡ Says (finished t (left_at before).bytes)
     -- "after it no link has had more than eight changes", and not more than four; 02, No. 2: "from the last restart on", so over every rest of the list in which no end of the link restarts
     pub eight : (before later : List LoggedCall) → cs ≡ before ++ later → (i : ℕ) → i < x.links → NoRestartIn t (λ p. touches t p i) later → changes_over (left_at before).bytes later i ≤ 8
     pub four : (before later : List LoggedCall) → cs ≡ before ++ later → (i : ℕ) → i < x.links → NoRestartIn t (λ p. touches t p i) later → changes_over (left_at before).bytes later i ≤ 4
@@ -92,7 +92,7 @@ module _ (x : Slices) (log : List Entry) (cs : List LoggedCall) where
     pub unsent_by_27 : (before later : List LoggedCall) (c : LoggedCall) → cs ≡ before ++ c ∷ later → IsFrame (frame_of c.line) → event_line_fault t c.line ≡ 0
         → (c.answer ≡ Refused 27) ↔ (TrulySent t (frame_of c.line) (moments_at before) → ⊥)
     -- 02, No. 2: a mark says "that the frame it permits could once have been sent": it is 1 exactly when the frame that p may send on its link i is truly sent
-    pub marks_say : (k : Kind) (p i : ℕ) → OwnLink t p i → (frame_mark k (marks t p bytes) i ≡ 1) ↔ TrulySent t (askedFrame t p k i) (moments_at cs)
+    pub marks_say : (k : Kind) (p i : ℕ) → OwnLink t p i → (frame_mark k (marks t p bytes) i ≡ 1) ↔ TrulySent t (asked_frame t p k i) (moments_at cs)
     pub marks_step : (before later : List LoggedCall) (c : LoggedCall) → cs ≡ before ++ c ∷ later → (i k : ℕ) → i < x.links → k < 4 → MarkStep (left_at before).bytes c.bytes i k
     -- "From there some further list of openings and truly sent frames, none turned down, leads to the finish": "the log lent has an entry free for each of them". It is one list of lines, whatever calls give them; such calls can be made (`callable`).
     pub goes_on : (ms : List (List ℕ))

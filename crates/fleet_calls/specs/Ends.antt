@@ -17,7 +17,7 @@ use Rattle.probe.specs.declared.Asked.{Asked}
 use Rattle.probe.specs.declared.Asked.TheVariants.{Written}
 use Rattle.probe.specs.declared.Resting.{Resting}
 use Rattle.probe.specs.declared.Resting.TheVariants.{Rests}
-use Rattle.probe.specs.Answers.{Opens, Hears, AsksFor, askedFrame, askedLine, restingReply, whetherRests}
+use Rattle.probe.specs.Answers.{Opens, Hears, AsksFor, asked_frame, asked_line, resting_reply, whether_rests}
 use Rattle.fleet_theory.specs.Fleet.{own, marks}
 use Rattle.fleet_theory.specs.Words.{IsFrame, MaySend, end_rests, IsRestart}
 use Rattle.fleet_calls.specs.Calls.{SameTable, LoggedCall, fresh_logged, left_after_logged}
@@ -66,7 +66,7 @@ module _ (x : Slices) (log : List Entry) (cs : List LoggedCall) where
     -- "at any moment of such a list, asked alone on its own bytes with room for the line, it writes the frame exactly when that frame may then be sent"
     pub asked_writes : (before later : List LoggedCall) → cs ≡ before ++ later → (k : Kind) (p i : ℕ) → OwnLink t p i
         → (y : Slices) → SameTable y x → (out : List ℕ) → 15 ≤ length out → (r : Asked) (out' : List ℕ) → AsksFor y p k i (maps_at before p) r out out'
-        → ((r ≡ Written) × (out' ≡ sets out 0 (askedLine t p k i))) ↔ MaySend t (bytes_at before) (askedFrame t p k i)
+        → ((r ≡ Written) × (out' ≡ sets out 0 (asked_line t p k i))) ↔ MaySend t (bytes_at before) (asked_frame t p k i)
     -- "A probe rests a link when its own two bytes are both 1": at any moment, called alone on its own bytes, it says so, and refuses nothing
     pub rests_alone : (before later : List LoggedCall) → cs ≡ before ++ later → (p i : ℕ) → OwnLink t p i
-        → (y : Slices) → SameTable y x → (q : Resting) → restingReply q ≡ whetherRests y p (maps_at before p) i → q ≡ Rests (end_rests t (bytes_at before) p i)
+        → (y : Slices) → SameTable y x → (q : Resting) → resting_reply q ≡ whether_rests y p (maps_at before p) i → q ≡ Rests (end_rests t (bytes_at before) p i)

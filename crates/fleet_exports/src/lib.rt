@@ -3,7 +3,7 @@
 
 ghost use Rattle.std.specs.Prelude.{◌≡◌};
 ghost use Rattle.table.specs.Slices.{slices_of};
-ghost use Rattle.fleet.specs.Answers.{finishingReply, whetherFinished};
+ghost use Rattle.fleet.specs.Answers.{finishing_reply, whether_finished};
 ghost use Rattle.packed_answers.specs.Packed.{packed_value};
 ghost use Rattle.fleet_exports.specs.Packed.{HandledPacked, LogsInFleetPacked};
 
@@ -11,7 +11,7 @@ use fleet::Finishing;
 use packed_answers::{ANSWER_BASE, logs, packed_answer};
 
 fn packed_finishing(r: Finishing) -> u64
-    ensures { result ≡ packed_value (finishingReply r) }
+    ensures { result ≡ packed_value (finishing_reply r) }
 {
     match r {
         Finishing::Says(finished) => {
@@ -95,7 +95,7 @@ pub extern "C" fn planner_fleet_finished(
     rec: &[u8],
 ) -> u64
     ensures { let x = slices_of number probes links needs.now lows.now highs.now costs.now in
-        result ≡ packed_value (whetherFinished x rec.now) }
+        result ≡ packed_value (whether_finished x rec.now) }
 {
     packed_finishing(fleet::finished(number, probes, links, needs, lows, highs, costs, rec))
 }

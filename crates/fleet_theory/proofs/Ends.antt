@@ -39,9 +39,9 @@ use Rattle.probe_maps.specs.SameRecords.{SameRecord}
 use Rattle.probe_maps.proofs.Faults.{turns_back}
 use Rattle.probe_checks.specs.Checks as end
 use Rattle.probe_checks.specs.Checks.{to_fault, probe_fault, own_link_fault, full_fault, heard_fault, hear_fault, open_fault, link_call_fault}
-use Rattle.probe.specs.Answers.{opensFault, hearsFault, askFault, AsksFor, askedEvent, askedFrame, askedLine}
-use Rattle.probe.proofs.Calls.{asked_event}
-use Rattle.probe.proofs.Answers.{asks-answer}
+use Rattle.probe.specs.Answers.{opens_fault, hears_fault, ask_fault, AsksFor, asked_event, asked_frame, asked_line}
+use Rattle.probe.proofs.Calls.{asked_event_lem}
+use Rattle.probe.proofs.Answers.{asks_answer}
 use Rattle.fleet_theory.specs.Fleet.{own, marks, restarts, event_kind_fault, event_ends_fault, event_of, outcome_of, alter_fleet, wiped, State, start, next, run}
 use Rattle.table.specs.Slices.{Slices, table_of, slices_fault}
 use Rattle.fleet_theory.specs.Words.{IsFrame, MaySend, IsRestart}
@@ -158,18 +158,18 @@ module _ (x : Slices) (fine : slices_fault x ≡ 0) (s : State) (h : HoldsAfter 
         after : (next x room s l).bytes ≡ wiped t p r
         after = ap (λ y. y.bytes) (next_accepted x fine s h room l a) ∙ altered_restart t r f (rw k.1)
 
-    open_passes : p < t.probes → (free : ℕ) → 0 < free → opensFault x p (maps p) free ≡ 0
+    open_passes : p < t.probes → (free : ℕ) → 0 < free → opens_fault x p (maps p) free ≡ 0
     unfolding open_fault
     open_passes b free k =
         or_none (state_fault x p (maps p)) (or_else (probe_fault t p) (full_fault free)) (state_passes p)
         ∙ or_none (probe_fault t p) (full_fault free) (rw (lt-ltb p t.probes b))
         ∙ not_full free k
 
-    opens_same : f.kind ≡ 0 → (free : ℕ) → 0 < free → SameAlone x room s l Opening (opensFault x p (maps p) free)
+    opens_same : f.kind ≡ 0 → (free : ℕ) → 0 < free → SameAlone x room s l Opening (opens_fault x p (maps p) free)
     opens_same z free k = go (says t l a.line)
       where
-        go : Says t f → SameAlone x room s l Opening (opensFault x p (maps p) free)
-        go (an_opening y b v) = same_alone Opening (opensFault x p (maps p) free) (rw y) v (open_passes b free k)
+        go : Says t f → SameAlone x room s l Opening (opens_fault x p (maps p) free)
+        go (an_opening y b v) = same_alone Opening (opens_fault x p (maps p) free) (rw y) v (open_passes b free k)
         go (a_restart y b v) = absurd (omega arith)
         go (an_offer i y b c v is) = absurd (omega arith)
         go (a_refusal i y b c v is) = absurd (omega arith)
@@ -189,22 +189,22 @@ module _ (x : Slices) (fine : slices_fault x ≡ 0) (s : State) (h : HoldsAfter 
         kinds (inl k) = rw k
         kinds (inr k) = rw k
 
-    hear_passes : IsFrame f → between t f.from p < t.links → (free : ℕ) → 0 < free → hearsFault x p (maps p) l free ≡ 0
+    hear_passes : IsFrame f → between t f.from p < t.links → (free : ℕ) → 0 < free → hears_fault x p (maps p) l free ≡ 0
     unfolding hear_fault
     hear_passes frame b free k =
         or_none (state_fault x p (maps p)) (or_else (heard_fault t p l) (full_fault free)) (state_passes p)
         ∙ or_none (heard_fault t p l) (full_fault free) (heard_passes frame b)
         ∙ not_full free k
 
-    hears_same : IsFrame f → (free : ℕ) → 0 < free → SameAlone x room s l (heard_of t f) (hearsFault x p (maps p) l free)
+    hears_same : IsFrame f → (free : ℕ) → 0 < free → SameAlone x room s l (heard_of t f) (hears_fault x p (maps p) l free)
     hears_same frame free k = go frame (says t l a.line)
       where
         heard : (i : ℕ) → i < t.links → Across t i f.from p → event_of t f ≡ heard_of t f → restarts f ≡ false
-            → SameAlone x room s l (heard_of t f) (hearsFault x p (maps p) l free)
+            → SameAlone x room s l (heard_of t f) (hears_fault x p (maps p) l free)
         heard i b c is some =
-            same_alone (heard_of t f) (hearsFault x p (maps p) l free) some is (hear_passes frame (rw (between_is t legal i f.from p b c) b) free k)
+            same_alone (heard_of t f) (hears_fault x p (maps p) l free) some is (hear_passes frame (rw (between_is t legal i f.from p b c) b) free k)
 
-        go : IsFrame f → Says t f → SameAlone x room s l (heard_of t f) (hearsFault x p (maps p) l free)
+        go : IsFrame f → Says t f → SameAlone x room s l (heard_of t f) (hears_fault x p (maps p) l free)
         go (inl y) (an_opening z b v) = absurd (omega arith)
         go (inr y) (an_opening z b v) = absurd (omega arith)
         go (inl y) (a_restart z b v) = absurd (omega arith)
@@ -220,32 +220,32 @@ module _ (x : Slices) (fine : slices_fault x ≡ 0) (s : State) (h : HoldsAfter 
 
     module _ (k : Kind) where
       abbrev may : Bool
-      may = sendable (askedEvent k i) (own t p r)
+      may = sendable (asked_event k i) (own t p r)
 
-      ask_may_send : (may ≡ true) ↔ MaySend t r (askedFrame t p k i)
-      ask_may_send = (λ m. ((refl, framed k), rw (asked_event t legal p i a k) m), λ m. rw (asked_event t legal p i a k) at m.1)
+      ask_may_send : (may ≡ true) ↔ MaySend t r (asked_frame t p k i)
+      ask_may_send = (λ m. ((refl, framed k), rw (asked_event_lem t legal p i a k) m), λ m. rw (asked_event_lem t legal p i a k) at m.1)
         where
-          framed : (k : Kind) → IsFrame (askedFrame t p k i)
+          framed : (k : Kind) → IsFrame (asked_frame t p k i)
           framed kind.Offer = inl refl
           framed kind.Refusal = inr refl
 
       module _ (out : List ℕ) (long : 15 ≤ length out) (answer : Asked) (out' : List ℕ) where
-        none : askFault x p i (maps p) out ≡ 0
+        none : ask_fault x p i (maps p) out ≡ 0
         none = or_none (lent_fault (length out) 15) (link_call_fault (state_fault x p (maps p)) t p i) (rw (le-ltb (length out) 15 long)) ∙ ask_passes
 
         ask_writes : AsksFor x p k i (maps p) answer out out'
-            → ((answer ≡ asked.Written) × (out' ≡ sets out 0 (askedLine t p k i))) ↔ MaySend t r (askedFrame t p k i)
+            → ((answer ≡ asked.Written) × (out' ≡ sets out 0 (asked_line t p k i))) ↔ MaySend t r (asked_frame t p k i)
         ask_writes q = (λ w. ask_may_send.0 (go (decided may) w.0), λ m. written (ask_may_send.1 m))
           where
-            by : (m : Bool) → may ≡ m → sendable (askedEvent k i) (bytes_of x.links (maps p)) ≡ m
-            by m is = ap (sendable (askedEvent k i)) (sym (back p)) ∙ is
+            by : (m : Bool) → may ≡ m → sendable (asked_event k i) (bytes_of x.links (maps p)) ≡ m
+            by m is = ap (sendable (asked_event k i)) (sym (back p)) ∙ is
 
             go : (may ≡ true) ⊎ (may ≡ false) → answer ≡ asked.Written → may ≡ true
             go (inl m) w = m
-            go (inr m) w = absurd (true≢false (sym (ap is_written w) ∙ ap is_written (rw (none, by false m) at (asks-answer q))))
+            go (inr m) w = absurd (true≢false (sym (ap is_written w) ∙ ap is_written (rw (none, by false m) at (asks_answer q))))
 
-            written : may ≡ true → (answer ≡ asked.Written) × (out' ≡ sets out 0 (askedLine t p k i))
-            written m = (rw (none, by true m) at (asks-answer q), rw (none, by true m) at q.line)
+            written : may ≡ true → (answer ≡ asked.Written) × (out' ≡ sets out 0 (asked_line t p k i))
+            written m = (rw (none, by true m) at (asks_answer q), rw (none, by true m) at q.line)
 
 own_start : (x : Slices) (p : ℕ) → own (table_of x) p (start x).bytes ≡ fresh (table_of x)
 own_start x p =

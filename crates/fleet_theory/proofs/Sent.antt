@@ -26,8 +26,8 @@ use Rattle.probe_rules.specs.Frames.{heard_of}
 use Rattle.probe_rules.specs.Within.{OwnLink}
 use Rattle.probe.specs.declared.Kind.{Kind}
 use Rattle.probe.specs.declared.Kind.TheVariants as kind
-use Rattle.probe.specs.Answers.{askedFrame}
-use Rattle.probe.proofs.Calls.{asked_event}
+use Rattle.probe.specs.Answers.{asked_frame}
+use Rattle.probe.proofs.Calls.{asked_event_lem}
 use Rattle.table.proofs.LegalLaws.{legal_table}
 use Rattle.fleet_theory.proofs.EndBytes.{far}
 use Rattle.fleet_theory.specs.Fleet.{marks, event_line_fault, entry_by, State, start, fault_of, answer_to, next, run}
@@ -162,11 +162,11 @@ module _ (x : Slices) (fine : slices_fault x ≡ 0) where
 
     -- 02, No. 2: what a mark says
     pub marks_are_sent : (ls : List (List ℕ)) (k : Kind) (p i : ℕ) → OwnLink t p i
-        → (frame_mark k (marks t p (run x room (start x) ls).bytes) i ≡ 1) ↔ TrulySent t (askedFrame t p k i) (moments x room (start x) ls)
+        → (frame_mark k (marks t p (run x room (start x) ls).bytes) i ≡ 1) ↔ TrulySent t (asked_frame t p k i) (moments x room (start x) ls)
     marks_are_sent ls kind.Offer p i own =
-        offer_says (askedFrame t p kind.Offer i) (refl, inl refl) i ls (asked_event t legal p i own kind.Offer)
+        offer_says (asked_frame t p kind.Offer i) (refl, inl refl) i ls (asked_event_lem t legal p i own kind.Offer)
     marks_are_sent ls kind.Refusal p i own =
-        refusal_says (askedFrame t p kind.Refusal i) (refl, inr refl) i ls (asked_event t legal p i own kind.Refusal)
+        refusal_says (asked_frame t p kind.Refusal i) (refl, inr refl) i ls (asked_event_lem t legal p i own kind.Refusal)
 
     -- a line after a list of lines
     module _ (ls : List (List ℕ)) (l : List ℕ) where

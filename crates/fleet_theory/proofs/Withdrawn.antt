@@ -25,7 +25,7 @@ use Rattle.bit_maps.specs.BitMap.{words_for, bit, ones_of}
 use Rattle.probe_maps.specs.Maps.{Maps, has_words, maps_length_fault, wrong_bits, is_own, bit_fault, ones_fault, maps_fault, state_fault}
 use Rattle.probe_checks.specs.Checks.{frame_kind_fault, to_fault, probe_fault, own_link_fault, full_fault, heard_fault, hear_fault, open_fault, link_call_fault}
 use Rattle.probe_turning.specs.Turned.{rows_lent_fault, to_maps_fault, to_bytes_fault}
-use Rattle.probe.specs.Answers.{hearsFault, opensFault}
+use Rattle.probe.specs.Answers.{hears_fault, opens_fault}
 use Rattle.probe_bags.specs.Bag.{frames_of, frames_fault, many_fault, room_fault, bag_fault, hears_bag_fault}
 use Rattle.fleet_theory.specs.Fleet.{own, marks, permitting, wrong_byte, link_bytes_fault, of_one_probe, fleet_fault, event_kind_fault, event_ends_fault, event_line_fault, event_of, unsent_fault, event_fault}
 use Rattle.fleet_theory.specs.Withdrawn.{TwentyFiveWithdrawn}
@@ -155,7 +155,7 @@ module _ (x : Slices) where
   state : (p : ℕ) (m : Maps) → Other (state_fault x p m)
   state p m = or_other (slices_fault x) (maps_fault t p m) (slices_other x) (maps_other t p m)
 
-  hearing : (p : ℕ) (m : Maps) (l : List ℕ) (free : ℕ) → Other (hearsFault x p m l free)
+  hearing : (p : ℕ) (m : Maps) (l : List ℕ) (free : ℕ) → Other (hears_fault x p m l free)
   unfolding hear_fault
   hearing p m l free =
       or_other (state_fault x p m) (or_else (heard_fault t p l) (full_fault free)) (state p m)
@@ -171,7 +171,7 @@ module _ (x : Slices) where
       (or_other (frames_fault t p ls) last (frames_other t p ls)
       (or_other (probe_fault t p) (room_fault ls free) (probe_other t p) (when_other (ltb free (length ls)) 26 (λ z. omega arith)))))
 
-  opening : (p : ℕ) (m : Maps) (free : ℕ) → Other (opensFault x p m free)
+  opening : (p : ℕ) (m : Maps) (free : ℕ) → Other (opens_fault x p m free)
   unfolding open_fault
   opening p m free =
       or_other (state_fault x p m) (or_else (probe_fault t p) (full_fault free)) (state p m)

@@ -9,7 +9,7 @@ use Rattle.wake_log.specs.declared.Entry.{Entry}
 use Rattle.wake_log.specs.declared.Answer.TheVariants.{Logged, Refused}
 use Rattle.probe_rules.specs.Within.{OwnLink}
 use Rattle.probe.specs.declared.Kind.{Kind}
-use Rattle.probe.specs.Answers.{askedFrame}
+use Rattle.probe.specs.Answers.{asked_frame}
 use Rattle.fleet_theory.specs.Fleet.{State, start, marks, fleet_fault, event_line_fault, answer_to, next, run, changes, finished}
 use Rattle.fleet_theory.specs.Words.{IsFrame, MaySend, TrulySent, frame_mark, MarkStep, RefusedIn, end_rests, IsOpening, IsRestart, TrulySentLine, Usable}
 
@@ -65,7 +65,7 @@ module _ (x : Slices) (room : ℕ) (ls : List (List ℕ)) where
     pub unsent_by_27 : (xs ys : List (List ℕ)) (l : List ℕ) → ls ≡ xs ++ l ∷ ys → IsFrame (frame_of l) → event_line_fault t l ≡ 0
         → (answer_to x room (state_after xs) l ≡ Refused 27) ↔ (TrulySent t (frame_of l) (moments x room (start x) xs) → ⊥)
     -- 02, No. 2: a mark says "that the frame it permits could once have been sent": it is 1 exactly when the frame that p may send on its link i is truly sent
-    pub marks_say : (k : Kind) (p i : ℕ) → OwnLink t p i → (frame_mark k (marks t p after.bytes) i ≡ 1) ↔ TrulySent t (askedFrame t p k i) (moments x room (start x) ls)
+    pub marks_say : (k : Kind) (p i : ℕ) → OwnLink t p i → (frame_mark k (marks t p after.bytes) i ≡ 1) ↔ TrulySent t (asked_frame t p k i) (moments x room (start x) ls)
     pub marks_step : (xs ys : List (List ℕ)) (l : List ℕ) → ls ≡ xs ++ l ∷ ys → (i k : ℕ) → i < x.links → k < 4
         → MarkStep (state_after xs).bytes (next x room (state_after xs) l).bytes i k
     -- "From there some further list of openings and truly sent frames, none turned down, leads to the finish": "the log lent has an entry free for each of them"

@@ -17,7 +17,7 @@ use Rattle.probe.specs.declared.Asked.TheVariants.{Written}
 use Rattle.probe_maps.specs.Maps.{Maps, maps_of, state_fault}
 use Rattle.probe_maps.specs.SameRecords.{SameRecord}
 use Rattle.probe_checks.specs.Checks.{link_call_fault}
-use Rattle.probe.specs.Answers.{Befallen, opensFault, hearsFault, AsksFor, askedEvent, askedFrame, askedLine}
+use Rattle.probe.specs.Answers.{Befallen, opens_fault, hears_fault, AsksFor, asked_event, asked_frame, asked_line}
 use Rattle.fleet_theory.specs.Fleet.{State, start, own, marks, fault_of, answer_to, next, run}
 use Rattle.table.specs.Slices.{Slices, table_of}
 use Rattle.fleet_theory.specs.Words.{IsFrame, MaySend, IsRestart}
@@ -73,18 +73,18 @@ module _ (x : Slices) (room : ℕ) (ls : List (List ℕ)) where
     pub opens_alone : (xs ys : List (List ℕ)) (l : List ℕ) → ls ≡ xs ++ l ∷ ys → fault_of x room (state_after xs) l ≡ 0 → (frame_of l).kind ≡ 0
         → (free : ℕ) → 0 < free
         → let p = (frame_of l).to in
-        SameAlone x room (state_after xs) l Opening (opensFault x p (own_maps p xs) free)
+        SameAlone x room (state_after xs) l Opening (opens_fault x p (own_maps p xs) free)
     pub hears_alone : (xs ys : List (List ℕ)) (l : List ℕ) → ls ≡ xs ++ l ∷ ys → fault_of x room (state_after xs) l ≡ 0 → IsFrame (frame_of l)
         → (free : ℕ) → 0 < free
         → let p = (frame_of l).to in
-        SameAlone x room (state_after xs) l (heard_of t (frame_of l)) (hearsFault x p (own_maps p xs) l free)
+        SameAlone x room (state_after xs) l (heard_of t (frame_of l)) (hears_fault x p (own_maps p xs) l free)
     -- 02, No. 2: a restart "makes that probe fresh", no byte of another end is altered, and "a wipe leaves" the marks
     pub restarts_fresh : (xs ys : List (List ℕ)) (l : List ℕ) → ls ≡ xs ++ l ∷ ys → fault_of x room (state_after xs) l ≡ 0 → IsRestart t l
         → MadeFresh x room (state_after xs) l
     -- "at any moment of such a list, asked alone on its own bytes with room for the line, it writes the frame exactly when that frame may then be sent"
     pub asked_passes : (xs ys : List (List ℕ)) → ls ≡ xs ++ ys → (p i : ℕ) → OwnLink t p i → link_call_fault (state_fault x p (own_maps p xs)) t p i ≡ 0
     pub asked_may_send : (xs ys : List (List ℕ)) → ls ≡ xs ++ ys → (k : Kind) (p i : ℕ) → OwnLink t p i
-        → (sendable (askedEvent k i) (own_bytes p xs) ≡ true) ↔ MaySend t (state_after xs).bytes (askedFrame t p k i)
+        → (sendable (asked_event k i) (own_bytes p xs) ≡ true) ↔ MaySend t (state_after xs).bytes (asked_frame t p k i)
     pub asked_writes : (xs ys : List (List ℕ)) → ls ≡ xs ++ ys → (k : Kind) (p i : ℕ) → OwnLink t p i
         → (out : List ℕ) → 15 ≤ length out → (r : Asked) (out' : List ℕ) → AsksFor x p k i (own_maps p xs) r out out'
-        → ((r ≡ Written) × (out' ≡ sets out 0 (askedLine t p k i))) ↔ MaySend t (state_after xs).bytes (askedFrame t p k i)
+        → ((r ≡ Written) × (out' ≡ sets out 0 (asked_line t p k i))) ↔ MaySend t (state_after xs).bytes (asked_frame t p k i)

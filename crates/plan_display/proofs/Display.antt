@@ -17,7 +17,7 @@ use Rattle.table_display.proofs.Display.{within, held_to_pair, same_table, same_
 use Rattle.plan_methods.specs.Planning.{plan_fault, turns_fault, Plans, PlansAndClears, PlansBySlse, PlansByTurns}
 use Rattle.plan_methods.specs.declared.Planning.{Planning}
 use Rattle.plan_methods.specs.declared.Planning.TheVariants.{Plan, Refused}
-use Rattle.plan_methods.proofs.Answers.{plans-answer}
+use Rattle.plan_methods.proofs.Answers.{plans_answer}
 use Rattle.output.specs.Output.{refusal_line, Prints}
 use Rattle.output.proofs.Printing.{prints_answer, long_enough}
 use Rattle.plan_output.specs.Output.{output_of, PrintsText}
@@ -25,7 +25,7 @@ use Rattle.plan_output.proofs.Most.{always_printed}
 use Rattle.plan_display.specs.Display.{PlansHeld, SamePlan, SamePrint, PlansEnough, DisplayPlans}
 
 plans_three : (t : Table) (r : Planning) (plan after : List ℕ) → Plans 3 t r plan after → (r ≡ Refused 3) × (after ≡ plan)
-plans_three t r plan after p = (plans-answer p, p.plan)
+plans_three t r plan after p = (plans_answer p, p.plan)
 
 -- with room for the plan, and for the working bytes, the fault is that of the table's slices
 module _ (pmax lmax : ℕ) (x : Slices) (plan : ℕ) (room : x.links ≤ plan) where
@@ -50,7 +50,7 @@ plans_held pmax lmax =
     }
 
 same_answer : (fault : ℕ) (t : Table) (r r' : Planning) (plan after after' : List ℕ) → Plans fault t r plan after → Plans fault t r' plan after' → (r ≡ r') × (after ≡ after')
-same_answer fault t r r' plan after after' p q = (plans-answer p ∙ sym (plans-answer q), p.plan ∙ sym q.plan)
+same_answer fault t r r' plan after after' p q = (plans_answer p ∙ sym (plans_answer q), p.plan ∙ sym q.plan)
 
 same_plan : (x : Slices) → over 16 40 (table_of x) ≡ false → SamePlan x
 same_plan x o =
@@ -88,7 +88,7 @@ module _ (a : Lent) (holds : HoldsTable 16 40 a) (number probes links : ℕ) (o 
   slse_not : (r : Planning) (plan after : List ℕ) → 40 ≤ length plan → PlansBySlse 16 40 x r plan after → r ≡ Refused 8 → ⊥
   slse_not r plan after fits p e =
       let k = few in
-      let n = refused_is _ 8 _ _ (eqb (plan_fault 16 40 x (length plan)) 0) (sym e ∙ plans-answer p) in
+      let n = refused_is _ 8 _ _ (eqb (plan_fault 16 40 x (length plan)) 0) (sym e ∙ plans_answer p) in
       let q = plan_enough 16 40 x (length plan) (omega arith) in
       let l = fault_most a holds number probes links o in
       omega arith
@@ -96,7 +96,7 @@ module _ (a : Lent) (holds : HoldsTable 16 40 a) (number probes links : ℕ) (o 
   turns_not : (r : Planning) (plan after work cleared : List ℕ) → 40 ≤ length plan → 160 ≤ length work → PlansByTurns 16 40 x r plan after work cleared → r ≡ Refused 8 → ⊥
   turns_not r plan after work cleared fits long p e =
       let k = few in
-      let n = refused_is _ 8 _ _ (eqb (turns_fault 16 40 x (length plan) (length work)) 0) (sym e ∙ plans-answer p.plans) in
+      let n = refused_is _ 8 _ _ (eqb (turns_fault 16 40 x (length plan) (length work)) 0) (sym e ∙ plans_answer p.plans) in
       let q = turns_enough 16 40 x (length plan) (omega arith) (length work) (omega arith) in
       let l = fault_most a holds number probes links o in
       omega arith

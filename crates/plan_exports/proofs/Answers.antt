@@ -7,11 +7,11 @@ use Rattle.plan_methods.specs.Planning.{planning_reply, PlansBySlse, PlansByTurn
 use Rattle.plan_methods.specs.declared.Planning.{Planning}
 use Rattle.plan_exports.specs.Packed.{packed_planning, SlsePacked, TurnsPacked}
 
-pub slse-packed : (pmax lmax : ℕ) (x : Slices) (a : Planning) (r : ℕ) (before after : List ℕ) → PlansBySlse pmax lmax x a before after → r ≡ packed_planning (planning_reply a)
+pub slse_packed : (pmax lmax : ℕ) (x : Slices) (a : Planning) (r : ℕ) (before after : List ℕ) → PlansBySlse pmax lmax x a before after → r ≡ packed_planning (planning_reply a)
     → SlsePacked pmax lmax x r before after
-slse-packed pmax lmax x a r before after g e = record { answer = e ∙ ap packed_planning g.answer; plan = g.plan }
+slse_packed pmax lmax x a r before after g e = record { answer = e ∙ ap packed_planning g.answer; plan = g.plan }
 
-pub turns-packed : (pmax lmax : ℕ) (x : Slices) (a : Planning) (r : ℕ) (before after work work' : List ℕ) → PlansByTurns pmax lmax x a before after work work'
+pub turns_packed : (pmax lmax : ℕ) (x : Slices) (a : Planning) (r : ℕ) (before after work work' : List ℕ) → PlansByTurns pmax lmax x a before after work work'
     → r ≡ packed_planning (planning_reply a) → TurnsPacked pmax lmax x r before after work work'
-turns-packed pmax lmax x a r before after work work' g e =
+turns_packed pmax lmax x a r before after work work' g e =
     record { answer = e ∙ ap packed_planning g.plans.answer; plan = g.plans.plan; cleared = g.cleared }

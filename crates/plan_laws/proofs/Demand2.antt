@@ -28,14 +28,14 @@ use Rattle.plan_theory.proofs.Slse.{slse_is_plan}
 use Rattle.plan_methods.specs.Planning.{plan_fault, turns_fault, Plans}
 use Rattle.plan_methods.specs.declared.Planning.{Planning}
 use Rattle.plan_methods.specs.declared.Planning.TheVariants.{Plan, Refused}
-use Rattle.plan_methods.proofs.Answers.{plans-answer}
-use Rattle.table_write.proofs.Answers.{writes-answer}
+use Rattle.plan_methods.proofs.Answers.{plans_answer}
+use Rattle.table_write.proofs.Answers.{writes_answer}
 use Rattle.plan_laws.specs.Demand2.{LeavesPlan, Demand2}
 
 -- what a call leaves, by its fault
 module _ (fault : ℕ) (t : Table) (r : Planning) (before after : List ℕ) (p : Plans fault t r before after) where
   answered : r ≡ cond (eqb fault 0) (Plan (kept_count t) (cost_of t (kept t))) (Refused fault)
-  answered = plans-answer p
+  answered = plans_answer p
 
   plans_none : fault ≡ 0 → Legal t → t.links ≤ length before → LeavesPlan t r before after
   plans_none z legal room =
@@ -106,7 +106,7 @@ demand_2 x fine fits =
       read_written = read_then_write;
       written_read = λ w out out' r b b' write enough holds read.
           let none : write_fault 256 2048 x (length out) ≡ 0 = rw (le-ltb (length out) (text_end t) enough) fine in
-          let whole : w ≡ Length (text_end t) = writes-answer write ∙ rw none in
+          let whole : w ≡ Length (text_end t) = writes_answer write ∙ rw none in
           let back = write_then_read x (text_end t) b b' out out' r fits (rw whole at write) holds read in
           (whole, back.0, back.1);
     }

@@ -25,16 +25,16 @@ use Rattle.plan_methods.specs.Planning.{plan_fault, turns_fault, planning_reply,
 use Rattle.plan_methods.specs.declared.Planning.{Planning}
 use Rattle.plan_methods.specs.declared.Planning.TheVariants.{Plan, Refused}
 
-pub plans-refused : (fault r : ℕ) (t : Table) (plan : List ℕ) → r ≡ fault → (r ≡ 0 → ⊥) → Plans fault t (Refused r) plan plan
-plans-refused fault r t plan e n =
+pub plans_refused : (fault r : ℕ) (t : Table) (plan : List ℕ) → r ≡ fault → (r ≡ 0 → ⊥) → Plans fault t (Refused r) plan plan
+plans_refused fault r t plan e n =
     let k = ne_eqb fault 0 (λ z. n (e ∙ z)) in
     record { answer = rw (e, k); plan = rw k }
 
-pub plans-made : (fault : ℕ) (t : Table) (r : Planning) (plan plan' : List ℕ) → fault ≡ 0 → t.links ≤ length plan
+pub plans_made : (fault : ℕ) (t : Table) (r : Planning) (plan plan' : List ℕ) → fault ≡ 0 → t.links ≤ length plan
     → plan' ≡ stored (λ i. plan_byte (kept t i)) t.links plan
     → r ≡ Plan (count t.links (is_kept plan')) (weigh t.links (is_kept plan') t.cost)
     → Plans fault t r plan plan'
-plans-made fault t r plan plan' z room p e =
+plans_made fault t r plan plan' z room p e =
     record {
       answer =
           ap planning_reply e
@@ -51,16 +51,16 @@ pub numbered : (number probes links : ℕ) (needs lows highs costs plan plan' : 
 unfolding rested dearer
 numbered number probes links needs lows highs costs plan plan' e = e
 
-pub turns-refused : (fault r : ℕ) (t : Table) (plan work : List ℕ) → r ≡ fault → (r ≡ 0 → ⊥) → PlansAndClears fault t (Refused r) plan plan work work
-turns-refused fault r t plan work e n =
-    record { plans = plans-refused fault r t plan e n; cleared = rw (ne_eqb fault 0 (λ z. n (e ∙ z))) }
+pub turns_refused : (fault r : ℕ) (t : Table) (plan work : List ℕ) → r ≡ fault → (r ≡ 0 → ⊥) → PlansAndClears fault t (Refused r) plan plan work work
+turns_refused fault r t plan work e n =
+    record { plans = plans_refused fault r t plan e n; cleared = rw (ne_eqb fault 0 (λ z. n (e ∙ z))) }
 
-pub turns-made : (fault : ℕ) (t : Table) (r : Planning) (plan plan' work work' : List ℕ) → fault ≡ 0 → Plans fault t r plan plan' → work' ≡ replicate (length work) 0
+pub turns_made : (fault : ℕ) (t : Table) (r : Planning) (plan plan' work work' : List ℕ) → fault ≡ 0 → Plans fault t r plan plan' → work' ≡ replicate (length work) 0
     → PlansAndClears fault t r plan plan' work work'
-turns-made fault t r plan plan' work work' z p w = record { plans = p; cleared = rw z w }
+turns_made fault t r plan plan' work work' z p w = record { plans = p; cleared = rw z w }
 
-lent-good : (lent needed : ℕ) → lent_fault lent needed ≡ 0 → needed ≤ lent
-lent-good lent needed e = go (dec_lt lent needed)
+lent_good : (lent needed : ℕ) → lent_fault lent needed ≡ 0 → needed ≤ lent
+lent_good lent needed e = go (dec_lt lent needed)
   where
     go : Dec (lent < needed) → needed ≤ lent
     go (yes l) = let a : ◌≡◌ {A = ℕ} 8 0 = rw (lt-ltb lent needed l) at e in absurd (omega arith)
@@ -84,11 +84,11 @@ module _ (pmax lmax probes links : ℕ) (needs lows highs costs : List ℕ) (pla
   few = let k = legal_slices pmax lmax slices passed in (k.few, k.within)
 
   pub in_plan : links ≤ plan
-  in_plan = lent-good plan links (or_left (lent_fault plan links) (slice_fault pmax lmax slices) e)
+  in_plan = lent_good plan links (or_left (lent_fault plan links) (slice_fault pmax lmax slices) e)
 
-  pub slse-ready : (order half digits counts : ℕ) → lmax ≤ order → lmax ≤ half → (1 < digits) × (digits ≤ 256) → pmax ≤ counts
+  pub slse_ready : (order half digits counts : ℕ) → lmax ≤ order → lmax ≤ half → (1 < digits) × (digits ≤ 256) → pmax ≤ counts
       → SlseReady links needs lows highs costs plan order half digits counts
-  slse-ready order half digits counts lo lh base lc =
+  slse_ready order half digits counts lo lh base lc =
       let k = few in
       record {
         probes = probes;
@@ -101,9 +101,9 @@ module _ (pmax lmax probes links : ℕ) (needs lows highs costs : List ℕ) (pla
         base = base;
       }
 
-  pub turns-room : (spares marks site order half digits : ℕ) → pmax ≤ spares → 4 * pmax ≤ marks → 8 * lmax + pmax + 2 ≤ site → lmax ≤ order → lmax ≤ half → (1 < digits) × (digits ≤ 256)
+  pub turns_room : (spares marks site order half digits : ℕ) → pmax ≤ spares → 4 * pmax ≤ marks → 8 * lmax + pmax + 2 ≤ site → lmax ≤ order → lmax ≤ half → (1 < digits) × (digits ≤ 256)
       → WorkingRoom probes links spares marks site order half digits
-  turns-room spares marks site order half digits ls lm lx lo lh base =
+  turns_room spares marks site order half digits ls lm lx lo lh base =
       let k = few in
       record {
         in_spares = omega (arith, k.0);
@@ -115,15 +115,15 @@ module _ (pmax lmax probes links : ℕ) (needs lows highs costs : List ℕ) (pla
       }
 
 -- and one with working bytes
-pub turns-passed : (pmax lmax : ℕ) (x : Slices) (plan work : ℕ) → turns_fault pmax lmax x plan work ≡ 0 → (4 * x.links ≤ work) × (plan_fault pmax lmax x plan ≡ 0)
-turns-passed pmax lmax x plan work e = (
-  lent-good work (4 * x.links) (or_left (lent_fault work (4 * x.links)) (plan_fault pmax lmax x plan) e),
+pub turns_passed : (pmax lmax : ℕ) (x : Slices) (plan work : ℕ) → turns_fault pmax lmax x plan work ≡ 0 → (4 * x.links ≤ work) × (plan_fault pmax lmax x plan ≡ 0)
+turns_passed pmax lmax x plan work e = (
+  lent_good work (4 * x.links) (or_left (lent_fault work (4 * x.links)) (plan_fault pmax lmax x plan) e),
   or_right (lent_fault work (4 * x.links)) (plan_fault pmax lmax x plan) e,
 )
 
 -- the answer, by the fault found
-pub plans-answer : {fault : ℕ} {t : Table} {r : Planning} {plan plan' : List ℕ} → Plans fault t r plan plan' → r ≡ cond (eqb fault 0) (Plan (kept_count t) (cost_of t (kept t))) (Refused fault)
-plans-answer {fault} {t} {r} p = go r (eqb fault 0) p.answer
+pub plans_answer : {fault : ℕ} {t : Table} {r : Planning} {plan plan' : List ℕ} → Plans fault t r plan plan' → r ≡ cond (eqb fault 0) (Plan (kept_count t) (cost_of t (kept t))) (Refused fault)
+plans_answer {fault} {t} {r} p = go r (eqb fault 0) p.answer
   where
     go : (r : Planning) (none : Bool) → planning_reply r ≡ cond none (values (plan_values t)) (refusal fault) → r ≡ cond none (Plan (kept_count t) (cost_of t (kept t))) (Refused fault)
     go (Plan k c) true e = cc

@@ -9,7 +9,7 @@ use Rattle.range.specs.Reply.{refusal, values, reply_of}
 use Rattle.table.specs.Table.{Table}
 use Rattle.wake_log.specs.declared.Answer.{Answer}
 use Rattle.wake_log.specs.Entry.{answer_of}
-use Rattle.wake_log.proofs.Answers.{answer-is}
+use Rattle.wake_log.proofs.Answers.{answer_is}
 use Rattle.probe_rules.specs.declared.Event.{Event}
 use Rattle.probe_rules.specs.Rules.{entry_of, sendable}
 use Rattle.probe_maps.specs.Maps.{Maps}
@@ -19,17 +19,17 @@ use Rattle.probe.specs.declared.Asked.{Asked}
 use Rattle.probe.specs.declared.Asked.TheVariants as asked
 use Rattle.probe.specs.declared.Resting.{Resting}
 use Rattle.probe.specs.declared.Resting.TheVariants as resting
-use Rattle.probe.specs.Answers.{Befallen, askedEvent, askedReply, Asks, restingReply}
+use Rattle.probe.specs.Answers.{Befallen, asked_event, asked_reply, Asks, resting_reply}
 
-pub befallen-answer : {fault : ℕ} {t : Table} {p : ℕ} {event : Event} {r : Answer} {before after : Maps} → Befallen fault t p event r before after
+pub befallen_answer : {fault : ℕ} {t : Table} {p : ℕ} {event : Event} {r : Answer} {before after : Maps} → Befallen fault t p event r before after
     → r ≡ answer_of fault (entry_of t p (befalls_maps t p event before))
-befallen-answer {fault} {t} {p} {event} {r} {before} b = answer-is r fault (entry_of t p (befalls_maps t p event before)) b.answer
+befallen_answer {fault} {t} {p} {event} {r} {before} b = answer_is r fault (entry_of t p (befalls_maps t p event before)) b.answer
 
-pub asks-answer : {fault : ℕ} {t : Table} {p : ℕ} {k : Kind} {i : ℕ} {e : List ℕ} {r : Asked} {before after : List ℕ} → Asks fault t p k i e r before after
-    → r ≡ cond (eqb fault 0) (cond (sendable (askedEvent k i) e) asked.Written asked.NotNow) (asked.Refused fault)
-asks-answer {fault} {k = k} {i = i} {e = e} {r = r} a = go r (eqb fault 0) (sendable (askedEvent k i) e) a.answer
+pub asks_answer : {fault : ℕ} {t : Table} {p : ℕ} {k : Kind} {i : ℕ} {e : List ℕ} {r : Asked} {before after : List ℕ} → Asks fault t p k i e r before after
+    → r ≡ cond (eqb fault 0) (cond (sendable (asked_event k i) e) asked.Written asked.NotNow) (asked.Refused fault)
+asks_answer {fault} {k = k} {i = i} {e = e} {r = r} a = go r (eqb fault 0) (sendable (asked_event k i) e) a.answer
   where
-    go : (r : Asked) (none may : Bool) → askedReply r ≡ cond none (values (cond may 1 0 ∷ [])) (refusal fault)
+    go : (r : Asked) (none may : Bool) → asked_reply r ≡ cond none (values (cond may 1 0 ∷ [])) (refusal fault)
         → r ≡ cond none (cond may asked.Written asked.NotNow) (asked.Refused fault)
     go asked.Written true true e = refl
     go asked.Written true false e = let z : ◌≡◌ {A = ℕ} 0 1 = cc in absurd (omega arith)
@@ -40,10 +40,10 @@ asks-answer {fault} {k = k} {i = i} {e = e} {r = r} a = go r (eqb fault 0) (send
     go (asked.Refused n) true may e = let z : ◌≡◌ {A = ℕ} 0 1 = cc in absurd (omega arith)
     go (asked.Refused n) false may e = cc
 
-pub resting-is : (r : Resting) (fault : ℕ) (b : Bool) → restingReply r ≡ reply_of fault (cond b 1 0 ∷ []) → r ≡ cond (eqb fault 0) (resting.Rests b) (resting.Refused fault)
-resting-is r fault b e = go r (eqb fault 0) b e
+pub resting_is : (r : Resting) (fault : ℕ) (b : Bool) → resting_reply r ≡ reply_of fault (cond b 1 0 ∷ []) → r ≡ cond (eqb fault 0) (resting.Rests b) (resting.Refused fault)
+resting_is r fault b e = go r (eqb fault 0) b e
   where
-    go : (r : Resting) (none b : Bool) → restingReply r ≡ cond none (values (cond b 1 0 ∷ [])) (refusal fault) → r ≡ cond none (resting.Rests b) (resting.Refused fault)
+    go : (r : Resting) (none b : Bool) → resting_reply r ≡ cond none (values (cond b 1 0 ∷ [])) (refusal fault) → r ≡ cond none (resting.Rests b) (resting.Refused fault)
     go (resting.Rests true) true true e = refl
     go (resting.Rests true) true false e = let z : ◌≡◌ {A = ℕ} 0 1 = cc in absurd (omega arith)
     go (resting.Rests false) true true e = let z : ◌≡◌ {A = ℕ} 0 1 = cc in absurd (omega arith)

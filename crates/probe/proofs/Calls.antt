@@ -28,7 +28,7 @@ use Rattle.probe_checks.proofs.Accepted.{state_parts}
 use Rattle.probe_maps.specs.MapRules.{befalls_maps, alter_maps}
 use Rattle.probe.specs.declared.Kind.{Kind}
 use Rattle.probe.specs.declared.Kind.TheVariants as kind
-use Rattle.probe.specs.Answers.{Befallen, askedEvent, askedBit, askedFrame}
+use Rattle.probe.specs.Answers.{Befallen, asked_event, asked_bit, asked_frame}
 
 pub refused_call : (fault : ℕ) (t : Table) (p : ℕ) (event : Event) (r : ℕ) (m : Maps) → r ≡ fault → (r ≡ 0 → ⊥) → Befallen fault t p event (Refused r) m m
 refused_call fault t p event r m same n =
@@ -51,9 +51,9 @@ accepted_call fault number probes links needs lows highs costs p event m entry a
     }
 
 -- the frame asked for is heard as what was asked for
-pub asked_event : (t : Table) → Legal t → (p i : ℕ) → OwnLink t p i → (k : Kind) → heard_of t (askedFrame t p k i) ≡ askedEvent k i
-asked_event t legal p i a kind.Offer = rw (between_is t legal i p (other t p i) a.0 (other_across t p i a.1))
-asked_event t legal p i a kind.Refusal = rw (between_is t legal i p (other t p i) a.0 (other_across t p i a.1))
+pub asked_event_lem : (t : Table) → Legal t → (p i : ℕ) → OwnLink t p i → (k : Kind) → heard_of t (asked_frame t p k i) ≡ asked_event k i
+asked_event_lem t legal p i a kind.Offer = rw (between_is t legal i p (other t p i) a.0 (other_across t p i a.1))
+asked_event_lem t legal p i a kind.Refusal = rw (between_is t legal i p (other t p i) a.0 (other_across t p i a.1))
 
 -- a state without a fault
 pub good_state : (x : Slices) (p : ℕ) (m : Maps) → AllWords m → state_fault x p m ≡ 0 → (slices_fault x ≡ 0) × GoodMaps (table_of x) p m
@@ -68,9 +68,9 @@ link_fault_lem r state x p m i s e = e ∙ ap (λ (n : ℕ). link_call_fault n (
 
 module _ (t : Table) (p : ℕ) (m : Maps) (good : GoodMaps t p m) where
   -- what an end is asked for may be sent by the bit that lets it
-  pub asked_bit : (k : Kind) (i : ℕ) → askedBit k m.standing m.refused_in i ≡ sendable (askedEvent k i) (bytes_of t.links m)
-  asked_bit kind.Offer i = sym (is_standing t.links m good.sound i)
-  asked_bit kind.Refusal i = sym (is_refused_in t.links m good.sound i)
+  pub asked_bit_lem : (k : Kind) (i : ℕ) → asked_bit k m.standing m.refused_in i ≡ sendable (asked_event k i) (bytes_of t.links m)
+  asked_bit_lem kind.Offer i = sym (is_standing t.links m good.sound i)
+  asked_bit_lem kind.Refusal i = sym (is_refused_in t.links m good.sound i)
 
   -- a link rests that is in both maps
   pub rests_bits : (i : ℕ) → (bit m.standing i && bit m.held i) ≡ rests (bytes_of t.links m) i

@@ -4,7 +4,7 @@
 ghost use Rattle.std.specs.Prelude.{◌≡◌};
 ghost use Rattle.table.specs.Slices.{slices_of};
 ghost use Rattle.probe_maps.specs.Maps.{rows};
-ghost use Rattle.probe.specs.Answers.{Opens, Hears, AsksFor, restingReply, whetherRests};
+ghost use Rattle.probe.specs.Answers.{Opens, Hears, AsksFor, resting_reply, whether_rests};
 
 pub mod steps;
 
@@ -232,7 +232,7 @@ pub fn rests(
 ) -> Resting
     ensures { let x = slices_of number probes links needs.now lows.now highs.now costs.now in
         let m = rows standing.now refused_out.now held.now refused_in.now in
-        restingReply result ≡ whetherRests x probe m link }
+        resting_reply result ≡ whether_rests x probe m link }
 {
     let mut own = [0u64; 32];
     let state = probe_state::states::check_state(

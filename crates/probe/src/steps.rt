@@ -1,7 +1,7 @@
 // The steps of an end that is asked. Its public functions call these, within the bounds that they ask.
 ghost use Rattle.std.specs.Prelude.{◌≡◌, ◌&&◌, ◌*◌, ◌<◌, length};
 ghost use Rattle.bit_maps.specs.BitMap.{bit};
-ghost use Rattle.probe.specs.Answers.{kind_of, askedBit};
+ghost use Rattle.probe.specs.Answers.{kind_of, asked_bit};
 
 use bit_maps::bits::has;
 
@@ -17,7 +17,7 @@ pub fn kind_of(kind: super::Kind) -> u8
 // Whether the frame may be sent now.
 pub fn is_sendable(kind: super::Kind, standing: &[u64], refused: &[u64], link: usize) -> bool
     requires { (link < 64 * length standing.now) × (link < 64 * length refused.now) }
-    ensures { result ≡ askedBit kind standing.now refused.now link }
+    ensures { result ≡ asked_bit kind standing.now refused.now link }
 {
     match kind {
         super::Kind::Offer => has(standing, link),

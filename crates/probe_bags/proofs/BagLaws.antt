@@ -21,7 +21,7 @@ use Rattle.wake_log.specs.declared.Entry.{Entry}
 use Rattle.wake_log.specs.declared.Answer.{Answer}
 use Rattle.wake_log.specs.declared.Answer.TheVariants.{Logged}
 use Rattle.wake_log.specs.Entry.{answer_of}
-use Rattle.wake_log.proofs.Answers.{answer-reply}
+use Rattle.wake_log.proofs.Answers.{answer_reply_lem}
 use Rattle.probe_frame.specs.Frame.{frame_of}
 use Rattle.probe_rules.specs.declared.Event.{Event}
 use Rattle.probe_rules.specs.Rules.{entry_of}
@@ -30,7 +30,7 @@ use Rattle.probe_maps.specs.Maps.{Maps, AllWords, maps_fault, state_fault}
 use Rattle.probe_maps.specs.SameRecords.{SameRecord}
 use Rattle.probe_maps.specs.MapRules.{befalls_maps, alter_maps}
 use Rattle.probe_maps.proofs.Faults.{good_maps, turns_back}
-use Rattle.probe.specs.Answers.{Hears, hearsFault}
+use Rattle.probe.specs.Answers.{Hears, hears_fault}
 use Rattle.probe_theory.specs.SameThroughCalls.{state_of_bytes}
 use Rattle.probe_checks.proofs.Accepted.{state_parts}
 use Rattle.probe_bags.specs.declared.Hearing.{Hearing}
@@ -263,10 +263,10 @@ module _ (x : Slices) (p : ℕ) where
   calls [] m = ([], m, no_call m)
   calls (l ∷ ls) m =
       let event = heard_of t (frame_of l) in
-      let fault = hearsFault x p m l 1 in
+      let fault = hears_fault x p m l 1 in
       let entry = entry_of t p (befalls_maps t p event m) in
       let m' : Maps = cond (eqb fault 0) (alter_maps t.links (befalls_maps t p event m) m) m in
-      let call : Hears x p l 1 (answer_of fault entry) m m' = record { answer = answer-reply (answer_of fault entry) fault entry refl; maps_after_lem = refl } in
+      let call : Hears x p l 1 (answer_of fault entry) m m' = record { answer = answer_reply_lem (answer_of fault entry) fault entry refl; maps_after_lem = refl } in
       let rest = calls ls m' in
       (answer_of fault entry ∷ rest.0, rest.1, one_call l ls 0 (answer_of fault entry) rest.0 m m' rest.1 call rest.2)
 

@@ -26,8 +26,8 @@ use Rattle.probe_rules.specs.Frames.{heard_of}
 use Rattle.probe_maps.specs.Maps.{Maps, maps_fault, state_fault}
 use Rattle.probe_maps.specs.MapRules.{befalls_maps, alter_maps}
 use Rattle.probe_checks.specs.Checks.{full_fault, heard_fault, hear_fault}
-use Rattle.probe.specs.Answers.{hearsFault, Hears}
-use Rattle.probe.proofs.Answers.{befallen-answer}
+use Rattle.probe.specs.Answers.{hears_fault, Hears}
+use Rattle.probe.proofs.Answers.{befallen_answer}
 use Rattle.probe_bags.specs.Bag.{events_of, maps_after, entries_after, frames_fault}
 use Rattle.probe_bags.specs.BagLaws.{Singly, no_call, one_call, first_refusal}
 use Rattle.probe_theory.proofs.EndLaws.{heard_own}
@@ -55,7 +55,7 @@ module _ (x : Slices) (p : ℕ) (fine : slices_fault x ≡ 0) where
   abbrev entry_for : List ℕ → Maps → Entry
   entry_for l m = entry_of t p (befalls_maps t p (says l) m)
 
-  own_fault : (l : List ℕ) (free : ℕ) (m : Maps) → Passing t p m → hearsFault x p m l (suc free) ≡ heard_fault t p l
+  own_fault : (l : List ℕ) (free : ℕ) (m : Maps) → Passing t p m → hears_fault x p m l (suc free) ≡ heard_fault t p l
   unfolding hear_fault
   own_fault l free m h =
       or_none (state_fault x p m) (or_else (heard_fault t p l) (full_fault (suc free))) (or_none (slices_fault x) (maps_fault t p m) fine ∙ h.passes)
@@ -63,7 +63,7 @@ module _ (x : Slices) (p : ℕ) (fine : slices_fault x ≡ 0) where
 
   module _ (l : List ℕ) (free : ℕ) (r : Answer) (m m' : Maps) (h : Passing t p m) (call : Hears x p l (suc free) r m m') where
     answer_by : r ≡ answer_of (heard_fault t p l) (entry_for l m)
-    answer_by = befallen-answer call ∙ ap (λ (n : ℕ). answer_of n (entry_for l m)) (own_fault l free m h)
+    answer_by = befallen_answer call ∙ ap (λ (n : ℕ). answer_of n (entry_for l m)) (own_fault l free m h)
 
     maps_by : m' ≡ cond (eqb (heard_fault t p l) 0) (stepped l m) m
     maps_by = call.maps_after_lem ∙ ap (λ (n : ℕ). cond (eqb n 0) (stepped l m) m) (own_fault l free m h)

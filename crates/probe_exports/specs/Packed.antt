@@ -13,7 +13,7 @@ use Rattle.probe_rules.specs.Rules.{entry_of, sendable}
 use Rattle.probe_rules.specs.Frames.{heard_of}
 use Rattle.probe_maps.specs.Maps.{Maps, bytes_of}
 use Rattle.probe_maps.specs.MapRules.{befalls_maps}
-use Rattle.probe.specs.Answers.{Befallen, askedEvent, askedOut, opensFault, hearsFault, askFault}
+use Rattle.probe.specs.Answers.{Befallen, asked_event, asked_out, opens_fault, hears_fault, ask_fault}
 use Rattle.probe.specs.declared.Kind.{Kind}
 use Rattle.probe_turning.specs.Turned.{to_maps_fault, to_bytes_fault, turned_maps, turned_bytes}
 use Rattle.probe_bags.specs.Bag.{frames_of, events_of, maps_after, entries_after, hears_bag_fault}
@@ -24,8 +24,8 @@ pub record BefallenPacked (fault : ℕ) (t : Table) (p : ℕ) (event : Event) (r
   pub lent : Befallen fault t p event (answer_of fault (entry_of t p (befalls_maps t p event before))) before after
 
 pub record AsksPacked (fault : ℕ) (t : Table) (p : ℕ) (k : Kind) (i : ℕ) (e : List ℕ) (r : ℕ) (before after : List ℕ) : Type 0 where
-  pub answer : r ≡ packed_value (reply_of fault (cond (sendable (askedEvent k i) e) 1 0 ∷ []))
-  pub line : after ≡ askedOut fault t p k i e before
+  pub answer : r ≡ packed_value (reply_of fault (cond (sendable (asked_event k i) e) 1 0 ∷ []))
+  pub line : after ≡ asked_out fault t p k i e before
 
 -- an event with a log: the entry stands behind its used ones, or it is unchanged
 pub record LogsAtEndPacked (fault : ℕ) (t : Table) (p : ℕ) (event : Event) (r : ℕ) (before after : Maps) (used : ℕ) (log log' : List ℕ) : Type 0 where
@@ -41,22 +41,22 @@ pub record HeardBagPacked (fault : ℕ) (t : Table) (p : ℕ) (ls : List (List �
 -- The calls of the end p, over the table in its slices: as `Opens`, `Hears` and `AsksFor`, the answer packed.
 
 abbrev pub OpensPacked : Slices → ℕ → ℕ → ℕ → Maps → Maps → Type 0
-OpensPacked x p free r before after = BefallenPacked (opensFault x p before free) (table_of x) p Opening r before after
+OpensPacked x p free r before after = BefallenPacked (opens_fault x p before free) (table_of x) p Opening r before after
 
 abbrev pub HearsPacked : Slices → ℕ → List ℕ → ℕ → ℕ → Maps → Maps → Type 0
 HearsPacked x p frame free r before after =
-    BefallenPacked (hearsFault x p before frame free) (table_of x) p (heard_of (table_of x) (frame_of frame)) r before after
+    BefallenPacked (hears_fault x p before frame free) (table_of x) p (heard_of (table_of x) (frame_of frame)) r before after
 
 abbrev pub AsksForPacked : Slices → ℕ → Kind → ℕ → Maps → ℕ → List ℕ → List ℕ → Type 0
-AsksForPacked x p k i m r before after = AsksPacked (askFault x p i m before) (table_of x) p k i (bytes_of x.links m) r before after
+AsksForPacked x p k i m r before after = AsksPacked (ask_fault x p i m before) (table_of x) p k i (bytes_of x.links m) r before after
 
 abbrev pub OpensLoggedPacked : Slices → ℕ → ℕ → Maps → Maps → ℕ → List ℕ → List ℕ → Type 0
 OpensLoggedPacked x p r before after used log log' =
-    LogsAtEndPacked (opensFault x p before (length log - used)) (table_of x) p Opening r before after used log log'
+    LogsAtEndPacked (opens_fault x p before (length log - used)) (table_of x) p Opening r before after used log log'
 
 abbrev pub HearsLoggedPacked : Slices → ℕ → List ℕ → ℕ → Maps → Maps → ℕ → List ℕ → List ℕ → Type 0
 HearsLoggedPacked x p frame r before after used log log' =
-    LogsAtEndPacked (hearsFault x p before frame (length log - used)) (table_of x) p (heard_of (table_of x) (frame_of frame)) r before after used log log'
+    LogsAtEndPacked (hears_fault x p before frame (length log - used)) (table_of x) p (heard_of (table_of x) (frame_of frame)) r before after used log log'
 
 -- as `HearsBag`
 abbrev pub HearsBagPacked : Slices → ℕ → List ℕ → ℕ → Maps → Maps → ℕ → List ℕ → List ℕ → Type 0

@@ -5,7 +5,7 @@ ghost use Rattle.std.specs.Prelude.{◌≡◌, ℕ, ◌≤◌};
 ghost use Rattle.table.specs.Slices.{slices_of};
 ghost use Rattle.probe_maps.specs.Maps.{rows};
 ghost use Rattle.probe.specs.declared.Kind.TheVariants.{Offer, Refusal};
-ghost use Rattle.probe.specs.Answers.{askedReply, restingReply, whetherRests};
+ghost use Rattle.probe.specs.Answers.{asked_reply, resting_reply, whether_rests};
 ghost use Rattle.probe_turning.specs.Turned.{turning_reply};
 ghost use Rattle.probe_bags.specs.declared.Hearing.TheVariants.{Heard};
 ghost use Rattle.probe_bags.specs.Bag.{hearing_reply};
@@ -18,7 +18,7 @@ use probe_bags::Hearing;
 use probe_turning::Turning;
 
 fn packed_asked(r: Asked) -> u64
-    ensures { result ≡ packed_value (askedReply r) }
+    ensures { result ≡ packed_value (asked_reply r) }
 {
     match r {
         Asked::Written => ANSWER_BASE + 1,
@@ -28,7 +28,7 @@ fn packed_asked(r: Asked) -> u64
 }
 
 fn packed_resting(r: Resting) -> u64
-    ensures { result ≡ packed_value (restingReply r) }
+    ensures { result ≡ packed_value (resting_reply r) }
 {
     match r {
         Resting::Rests(rests) => {
@@ -371,7 +371,7 @@ pub extern "C" fn planner_probe_rests(
 ) -> u64
     ensures { let x = slices_of number probes links needs.now lows.now highs.now costs.now in
         let m = rows standing.now refused_out.now held.now refused_in.now in
-        result ≡ packed_value (whetherRests x probe m link) }
+        result ≡ packed_value (whether_rests x probe m link) }
 {
     packed_resting(probe::rests(
         number,

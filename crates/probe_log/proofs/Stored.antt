@@ -14,7 +14,7 @@ use Rattle.probe_maps.specs.Maps.{Maps}
 use Rattle.probe_maps.specs.MapRules.{befalls_maps}
 use Rattle.wake_log.specs.declared.storing.Told.{Told}
 use Rattle.wake_log.proofs.Stored as wake
-use Rattle.wake_log.proofs.Answers.{answer-reply}
+use Rattle.wake_log.proofs.Answers.{answer_reply_lem}
 use Rattle.probe_bags.specs.Bag.{events_of, entries_after, bag_fault, HeardBag}
 use Rattle.probe_hearing.specs.declared.ToldBag.{ToldBag}
 use Rattle.probe_hearing.specs.Told.{ToldBagCall}
@@ -27,7 +27,7 @@ pub call_stored : (fault : ℕ) (t : Table) (p : ℕ) (event : Event) (used : �
 call_stored fault t p event used r before after log log' c s =
     let e = entry_of t p (befalls_maps t p event before) in
     let is = wake.entry_stored fault used e r log log' c.told s in
-    record { befallen = record { answer = answer-reply r.answer fault e is.0; maps_after_lem = c.maps_after_lem }; log_after = is.1 }
+    record { befallen = record { answer = answer_reply_lem r.answer fault e is.0; maps_after_lem = c.maps_after_lem }; log_after = is.1 }
 
 pub bag_stored : (state : ℕ) (t : Table) (p : ℕ) (ls : List (List ℕ)) (used : ℕ) (r : ToldBag) (before after : Maps) (log log' : List Entry)
     → ToldBagCall (bag_fault state t p ls (length log - used)) t p ls r before after → log' ≡ sets log used (take r.entries.count r.entries.entries)

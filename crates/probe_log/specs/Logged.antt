@@ -12,7 +12,7 @@ use Rattle.probe_rules.specs.Rules.{entry_of}
 use Rattle.probe_rules.specs.Frames.{heard_of}
 use Rattle.probe_maps.specs.Maps.{Maps}
 use Rattle.probe_maps.specs.MapRules.{befalls_maps, alter_maps}
-use Rattle.probe.specs.Answers.{Befallen, opensFault, hearsFault}
+use Rattle.probe.specs.Answers.{Befallen, opens_fault, hears_fault}
 use Rattle.wake_log.specs.declared.storing.Told.{Told}
 use Rattle.wake_log.specs.Log.{told_of}
 
@@ -30,16 +30,16 @@ pub record ToldCall (fault : ℕ) (t : Table) (p : ℕ) (event : Event) (used ro
 
 abbrev pub OpensLogged : Slices → ℕ → Answer → Maps → Maps → ℕ → List Entry → List Entry → Type 0
 OpensLogged x p r before after used log log' =
-    LogsAtEnd (opensFault x p before (length log - used)) (table_of x) p Opening r before after used log log'
+    LogsAtEnd (opens_fault x p before (length log - used)) (table_of x) p Opening r before after used log log'
 
 abbrev pub HearsLogged : Slices → ℕ → List ℕ → Answer → Maps → Maps → ℕ → List Entry → List Entry → Type 0
 HearsLogged x p frame r before after used log log' =
-    LogsAtEnd (hearsFault x p before frame (length log - used)) (table_of x) p (heard_of (table_of x) (frame_of frame)) r before after used log log'
+    LogsAtEnd (hears_fault x p before frame (length log - used)) (table_of x) p (heard_of (table_of x) (frame_of frame)) r before after used log log'
 
 abbrev pub OpensTold : Slices → ℕ → ℕ → ℕ → Told → Maps → Maps → Type 0
 OpensTold x p used room r before after =
-    ToldCall (opensFault x p before (room - used)) (table_of x) p Opening used room r before after
+    ToldCall (opens_fault x p before (room - used)) (table_of x) p Opening used room r before after
 
 abbrev pub HearsTold : Slices → ℕ → List ℕ → ℕ → ℕ → Told → Maps → Maps → Type 0
 HearsTold x p frame used room r before after =
-    ToldCall (hearsFault x p before frame (room - used)) (table_of x) p (heard_of (table_of x) (frame_of frame)) used room r before after
+    ToldCall (hears_fault x p before frame (room - used)) (table_of x) p (heard_of (table_of x) (frame_of frame)) used room r before after

@@ -25,9 +25,9 @@ use Rattle.probe.specs.declared.Kind.{Kind}
 use Rattle.probe.specs.declared.Kind.TheVariants as kind
 use Rattle.probe.specs.declared.Asked.{Asked}
 use Rattle.probe_checks.specs.Checks.{frame_kind_fault, to_fault, heard_fault}
-use Rattle.probe.specs.Answers.{Asks, kind_of, askedEvent, askedFrame, askedLine}
-use Rattle.probe.proofs.Calls.{asked_event}
-use Rattle.probe.proofs.Answers.{asks-answer}
+use Rattle.probe.specs.Answers.{Asks, kind_of, asked_event, asked_frame, asked_line}
+use Rattle.probe.proofs.Calls.{asked_event_lem}
+use Rattle.probe.proofs.Answers.{asks_answer}
 
 -- a list stored twice at the start
 sets_again : (l xs : List ℕ) → length xs ≤ length l → sets (sets l 0 xs) 0 xs ≡ sets l 0 xs
@@ -43,10 +43,10 @@ module _ (t : Table) (p : ℕ) (k : Kind) (i : ℕ) (e : List ℕ) (rest : ℕ) 
   fault out = or_else (lent_fault (length out) 15) rest
 
   abbrev may : Bool
-  may = sendable (askedEvent k i) e
+  may = sendable (asked_event k i) e
 
   abbrev line : List ℕ
-  line = askedLine t p k i
+  line = asked_line t p k i
 
   -- the slice after a call
   abbrev lent : List ℕ → List ℕ
@@ -67,7 +67,7 @@ module _ (t : Table) (p : ℕ) (k : Kind) (i : ℕ) (e : List ℕ) (rest : ℕ) 
       go (inl a) =
           let none = eqb-true (fault out) 0 (and_left (eqb (fault out) 0) may a) in
           let room = ltb-false (length out) 15 (when_none (ltb (length out) 15) 7 (or_left (lent_fault (length out) 15) rest none)) in
-          let n = length_frame (askedFrame t p k i) in
+          let n = length_frame (asked_frame t p k i) in
           rw a (sets_again out line (omega arith))
       go (inr a) = rw a refl
 
@@ -75,7 +75,7 @@ module _ (t : Table) (p : ℕ) (k : Kind) (i : ℕ) (e : List ℕ) (rest : ℕ) 
       → (r' ≡ r) × (out'' ≡ out')
   asks_again r r' out out' out'' a b =
       let long = ap length a.line ∙ same_length out in
-      (asks-answer b ∙ rw long (sym (asks-answer a)), b.line ∙ ap lent a.line ∙ lent_again out ∙ sym a.line)
+      (asks_answer b ∙ rw long (sym (asks_answer a)), b.line ∙ ap lent a.line ∙ lent_again out ∙ sym a.line)
 
 -- an end that is asked for a frame, and the other end of the link
 module _ (t : Table) (legal : Legal t) (digits : t.number < 65536) (p i : ℕ) (a : OwnLink t p i) where
@@ -85,7 +85,7 @@ module _ (t : Table) (legal : Legal t) (digits : t.number < 65536) (p i : ℕ) (
   between_ends : between t p w ≡ i
   between_ends = between_is t legal i p w a.0 (other_across t p i a.1)
 
-  asked_writable : (k : Kind) → Writable (askedFrame t p k i)
+  asked_writable : (k : Kind) → Writable (asked_frame t p k i)
   asked_writable k =
       let b = ends_below_lem t legal i p w a.0 (other_across t p i a.1) in
       writable t legal digits (kind_of k) p w (small k) b.0 b.1
@@ -94,23 +94,23 @@ module _ (t : Table) (legal : Legal t) (digits : t.number < 65536) (p i : ℕ) (
       small kind.Offer = omega arith
       small kind.Refusal = omega arith
 
-  pub asked_says : (k : Kind) → frame_of (askedLine t p k i) ≡ askedFrame t p k i
-  asked_says k = line_says (askedFrame t p k i) (asked_writable k)
+  pub asked_says : (k : Kind) → frame_of (asked_line t p k i) ≡ asked_frame t p k i
+  asked_says k = line_says (asked_frame t p k i) (asked_writable k)
 
-  pub asked_heard : (k : Kind) → heard_of t (frame_of (askedLine t p k i)) ≡ askedEvent k i
-  asked_heard k = ap (heard_of t) (asked_says k) ∙ asked_event t legal p i a k
+  pub asked_heard : (k : Kind) → heard_of t (frame_of (asked_line t p k i)) ≡ asked_event k i
+  asked_heard k = ap (heard_of t) (asked_says k) ∙ asked_event_lem t legal p i a k
 
   -- the checks after 1 and 2 are those of the frame
   abbrev checks : Frame → ℕ
   checks f = or_else (frame_kind_fault f) (or_else (number_fault t f) (to_fault t w f))
 
-  checks_none : (k : Kind) → checks (askedFrame t p k i) ≡ 0
+  checks_none : (k : Kind) → checks (asked_frame t p k i) ≡ 0
   checks_none kind.Offer = rw (eq-eqb t.number t.number refl, eq-eqb w w refl, between_ends, lt-ltb i t.links a.0)
   checks_none kind.Refusal = rw (eq-eqb t.number t.number refl, eq-eqb w w refl, between_ends, lt-ltb i t.links a.0)
 
-  pub asked_passes : (k : Kind) → heard_fault t w (askedLine t p k i) ≡ 0
+  pub asked_passes : (k : Kind) → heard_fault t w (asked_line t p k i) ≡ 0
   unfolding heard_fault
   asked_passes k =
-      or_none (frame_fault (askedLine t p k i)) (checks (frame_of (askedLine t p k i))) (line_passes (askedFrame t p k i) (asked_writable k))
+      or_none (frame_fault (asked_line t p k i)) (checks (frame_of (asked_line t p k i))) (line_passes (asked_frame t p k i) (asked_writable k))
       ∙ ap checks (asked_says k)
       ∙ checks_none k

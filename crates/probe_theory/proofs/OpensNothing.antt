@@ -12,7 +12,7 @@ use Rattle.table.specs.Legal.{Legal}
 use Rattle.probe_record.proofs.Bytes.{GoodRecord}
 use Rattle.wake_log.specs.declared.Entry.{Entry}
 use Rattle.wake_log.specs.declared.Answer.TheVariants.{Logged}
-use Rattle.wake_log.proofs.Answers.{logged-is}
+use Rattle.wake_log.proofs.Answers.{logged_is}
 use Rattle.probe_rules.specs.declared.Event.TheVariants.{Opening}
 use Rattle.probe_rules.specs.declared.Outcome.{Outcome}
 use Rattle.probe_rules.specs.declared.Outcome.TheVariants.{Opened}
@@ -26,7 +26,7 @@ use Rattle.probe_maps.proofs.SameAltered.{bytes_altered}
 use Rattle.probe_checks.specs.Checks.{open_fault}
 use Rattle.probe_checks.proofs.Accepted.{open_parts}
 use Rattle.probe.specs.Answers.{Befallen}
-use Rattle.probe.proofs.Answers.{befallen-answer}
+use Rattle.probe.proofs.Answers.{befallen_answer}
 use Rattle.probe_theory.specs.EndLaws.{OpensNothing}
 
 pub unaltered_says : (t : Table) (p : ℕ) (e : List ℕ) → GoodRecord t p e → {o : Outcome} → Befell t p e Opening o → alter o e ≡ e → OpensNothing t p e (what_of t p o)
@@ -54,7 +54,7 @@ unaltered_says t p e good (all_tried m h) s =
 
 pub opens_nothing : (t : Table) → Legal t → (p slices free : ℕ) (m : Maps) (entry : Entry) → AllWords m
     → Befallen (open_fault (or_else slices (maps_fault t p m)) t p free) t p Opening (Logged entry) m m → OpensNothing t p (bytes_of t.links m) entry.what
-opens_nothing t legal p slices free m entry words b = go (logged-is fault (entry_of t p o) entry (sym (befallen-answer b)))
+opens_nothing t legal p slices free m entry words b = go (logged_is fault (entry_of t p o) entry (sym (befallen_answer b)))
   where
     fault : ℕ
     fault = open_fault (or_else slices (maps_fault t p m)) t p free

@@ -30,7 +30,7 @@ use Rattle.probe_checks.proofs.Accepted.{hear_parts, heard_within}
 use Rattle.probe.specs.declared.Kind.{Kind}
 use Rattle.probe.specs.declared.Asked.{Asked}
 use Rattle.probe.specs.Answers.{Befallen, Asks}
-use Rattle.probe.proofs.Answers.{befallen-answer}
+use Rattle.probe.proofs.Answers.{befallen_answer}
 use Rattle.probe_theory.specs.SameThroughCalls.{OnBytes, SameThroughCalls, state_of_bytes}
 
 -- an event, with the same fault in both forms
@@ -41,7 +41,7 @@ module _ (t : Table) (p : ℕ) (event : Event) (r : Answer) (m m' : Maps) (e : L
   on_bytes : (fault : ℕ) → (fault ≡ 0 → EventWithin t.links event) → Befallen fault t p event r m m'
       → (e' : List ℕ) × SameRecord t.links m' e' × OnBytes fault t p event r e e'
   on_bytes fault within b =
-      (left fault, rw b.maps_after_lem (go (eqb fault 0) refl), record { answer = befallen-answer b ∙ ap (λ (l : List ℕ). answer_of fault (entry_of t p (befalls t p event l))) (sym same.bytes_are); bytes_after_lem = refl })
+      (left fault, rw b.maps_after_lem (go (eqb fault 0) refl), record { answer = befallen_answer b ∙ ap (λ (l : List ℕ). answer_of fault (entry_of t p (befalls t p event l))) (sym same.bytes_are); bytes_after_lem = refl })
     where
       go : (z : Bool) → eqb fault 0 ≡ z → SameRecord t.links (cond z (alter_maps t.links (befalls_maps t p event m) m) m) (cond z (alter (befalls t p event e) e) e)
       go true q =

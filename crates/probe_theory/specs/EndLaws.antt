@@ -19,7 +19,7 @@ use Rattle.probe_maps.specs.Maps.{Maps, rows, AllWords, bytes_of, maps_of, maps_
 use Rattle.probe.specs.declared.Kind.{Kind}
 use Rattle.probe.specs.declared.Asked.{Asked}
 use Rattle.probe_checks.specs.Checks.{heard_fault, open_fault, link_call_fault}
-use Rattle.probe.specs.Answers.{Befallen, Asks, askedEvent, askedFrame, askedLine}
+use Rattle.probe.specs.Answers.{Befallen, Asks, asked_event, asked_frame, asked_line}
 use Rattle.table.specs.Legal.{lent_fault}
 
 -- "A change is one byte altered": how many of the first n links have an outbound, and an inbound, byte that differs
@@ -71,6 +71,6 @@ module _ (t : Table) (p : ℕ) where
         → Asks (or_else (lent_fault (length out) 15) (link_call_fault state t p i)) t p k i e r out out'
         → Asks (or_else (lent_fault (length out') 15) (link_call_fault state t p i)) t p k i e r' out' out'' → (r' ≡ r) × (out'' ≡ out')
     -- the line says the frame; the other end does not turn it down, and hears what was asked for
-    pub line_says : t.number < 65536 → (k : Kind) (i : ℕ) → OwnLink t p i → frame_of (askedLine t p k i) ≡ askedFrame t p k i
-    pub line_passes : t.number < 65536 → (k : Kind) (i : ℕ) → OwnLink t p i → heard_fault t (other t p i) (askedLine t p k i) ≡ 0
-    pub line_heard : t.number < 65536 → (k : Kind) (i : ℕ) → OwnLink t p i → heard_of t (frame_of (askedLine t p k i)) ≡ askedEvent k i
+    pub line_says : t.number < 65536 → (k : Kind) (i : ℕ) → OwnLink t p i → frame_of (asked_line t p k i) ≡ asked_frame t p k i
+    pub line_passes : t.number < 65536 → (k : Kind) (i : ℕ) → OwnLink t p i → heard_fault t (other t p i) (asked_line t p k i) ≡ 0
+    pub line_heard : t.number < 65536 → (k : Kind) (i : ℕ) → OwnLink t p i → heard_of t (frame_of (asked_line t p k i)) ≡ asked_event k i

@@ -18,7 +18,7 @@ use Rattle.probe_maps.specs.SameRecords.{SameRecord}
 use Rattle.probe_checks.specs.Checks.{hear_fault, open_fault, link_call_fault}
 use Rattle.probe.specs.declared.Kind.{Kind}
 use Rattle.probe.specs.declared.Asked.{Asked}
-use Rattle.probe.specs.Answers.{Opens, Hears, Asks, AsksFor, whetherRests}
+use Rattle.probe.specs.Answers.{Opens, Hears, Asks, AsksFor, whether_rests}
 
 -- what 01's rules make of the bytes: the answer to an event, and the record after it
 pub record OnBytes (fault : ℕ) (t : Table) (p : ℕ) (event : Event) (r : Answer) (e e' : List ℕ) : Type 0 where
@@ -46,4 +46,4 @@ module _ (x : Slices) (p : ℕ) where
         → Asks (or_else (lent_fault (length out) 15) (link_call_fault (state_of_bytes e) t p i)) t p k i e r out out'
     -- "A probe rests a link when its own two bytes are both 1."
     pub rests : (i : ℕ) (m : Maps) (e : List ℕ) → SameRecord x.links m e
-        → whetherRests x p m i ≡ reply_of (link_call_fault (state_of_bytes e) t p i) (cond (rests e i) 1 0 ∷ [])
+        → whether_rests x p m i ≡ reply_of (link_call_fault (state_of_bytes e) t p i) (cond (rests e i) 1 0 ∷ [])

@@ -23,8 +23,8 @@ use Rattle.probe_turning.specs.declared.Turning.TheVariants as turning
 use Rattle.probe_turning.specs.Turned.{turning_reply, rows_lent_fault, to_maps_fault, to_bytes_fault, TurnsToMaps, TurnsToBytes}
 
 -- a promise fixes the answer
-pub turning-is : (r : Turning) (fault : ℕ) → turning_reply r ≡ reply_of fault [] → r ≡ cond (eqb fault 0) turning.Turned (turning.Refused fault)
-turning-is r fault e = go r (eqb fault 0) e
+pub turning_is : (r : Turning) (fault : ℕ) → turning_reply r ≡ reply_of fault [] → r ≡ cond (eqb fault 0) turning.Turned (turning.Refused fault)
+turning_is r fault e = go r (eqb fault 0) e
   where
     go : (r : Turning) (none : Bool) → turning_reply r ≡ cond none (values []) (refusal fault) → r ≡ cond none turning.Turned (turning.Refused fault)
     go turning.Turned true e = refl
@@ -47,23 +47,23 @@ module _ (links : ℕ) (out : Maps) (none : rows_lent_fault links out ≡ 0) whe
   abbrev words : ℕ
   words = words_for links
 
-  after-standing : or_else (lent_fault (length out.refused_out) words) (or_else (lent_fault (length out.held) words) (lent_fault (length out.refused_in) words)) ≡ 0
-  after-standing = or_right (lent_fault (length out.standing) words) _ none
+  after_standing : or_else (lent_fault (length out.refused_out) words) (or_else (lent_fault (length out.held) words) (lent_fault (length out.refused_in) words)) ≡ 0
+  after_standing = or_right (lent_fault (length out.standing) words) _ none
 
-  after-out : or_else (lent_fault (length out.held) words) (lent_fault (length out.refused_in) words) ≡ 0
-  after-out = or_right (lent_fault (length out.refused_out) words) _ after-standing
+  after_out : or_else (lent_fault (length out.held) words) (lent_fault (length out.refused_in) words) ≡ 0
+  after_out = or_right (lent_fault (length out.refused_out) words) _ after_standing
 
-  pub room-standing : words ≤ length out.standing
-  room-standing = lent (length out.standing) words (or_left (lent_fault (length out.standing) words) _ none)
+  pub room_standing : words ≤ length out.standing
+  room_standing = lent (length out.standing) words (or_left (lent_fault (length out.standing) words) _ none)
 
-  pub room-refused-out : words ≤ length out.refused_out
-  room-refused-out = lent (length out.refused_out) words (or_left (lent_fault (length out.refused_out) words) _ after-standing)
+  pub room_refused_out : words ≤ length out.refused_out
+  room_refused_out = lent (length out.refused_out) words (or_left (lent_fault (length out.refused_out) words) _ after_standing)
 
-  pub room-held : words ≤ length out.held
-  room-held = lent (length out.held) words (or_left (lent_fault (length out.held) words) _ after-out)
+  pub room_held : words ≤ length out.held
+  room_held = lent (length out.held) words (or_left (lent_fault (length out.held) words) _ after_out)
 
-  pub room-refused-in : words ≤ length out.refused_in
-  room-refused-in = lent (length out.refused_in) words (or_right (lent_fault (length out.held) words) (lent_fault (length out.refused_in) words) after-out)
+  pub room_refused_in : words ≤ length out.refused_in
+  room_refused_in = lent (length out.refused_in) words (or_right (lent_fault (length out.held) words) (lent_fault (length out.refused_in) words) after_out)
 
 bits : (links : ℕ) (row : List ℕ) → has_words links row ≡ true → links ≤ 64 * length row
 bits links row e = let q = eqb-true (length row) (words_for links) e in omega arith
@@ -85,30 +85,30 @@ module _ (t : Table) (m : Maps) (none : maps_length_fault t m ≡ 0) where
   all : (st && (ro && (he && ri))) ≡ true
   all = unless_none (st && (ro && (he && ri))) 19 none
 
-  pub bits-standing : t.links ≤ 64 * length m.standing
-  bits-standing = bits t.links m.standing (and_left st (ro && (he && ri)) all)
+  pub bits_standing : t.links ≤ 64 * length m.standing
+  bits_standing = bits t.links m.standing (and_left st (ro && (he && ri)) all)
 
-  pub bits-refused-out : t.links ≤ 64 * length m.refused_out
-  bits-refused-out = bits t.links m.refused_out (and_left ro (he && ri) (and_right st (ro && (he && ri)) all))
+  pub bits_refused_out : t.links ≤ 64 * length m.refused_out
+  bits_refused_out = bits t.links m.refused_out (and_left ro (he && ri) (and_right st (ro && (he && ri)) all))
 
-  pub bits-held : t.links ≤ 64 * length m.held
-  bits-held = bits t.links m.held (and_left he ri (and_right ro (he && ri) (and_right st (ro && (he && ri)) all)))
+  pub bits_held : t.links ≤ 64 * length m.held
+  bits_held = bits t.links m.held (and_left he ri (and_right ro (he && ri) (and_right st (ro && (he && ri)) all)))
 
-  pub bits-refused-in : t.links ≤ 64 * length m.refused_in
-  bits-refused-in = bits t.links m.refused_in (and_right he ri (and_right ro (he && ri) (and_right st (ro && (he && ri)) all)))
+  pub bits_refused_in : t.links ≤ 64 * length m.refused_in
+  bits_refused_in = bits t.links m.refused_in (and_right he ri (and_right ro (he && ri) (and_right st (ro && (he && ri)) all)))
 
 -- into maps
 module _ (x : Slices) (p : ℕ) (e : List ℕ) (out : Maps) where
-  pub maps-refused : (n : ℕ) → n ≡ to_maps_fault x p e out → (n ≡ 0 → ⊥) → TurnsToMaps x p e (turning.Refused n) out out
-  maps-refused n q some = record { answer = rw (← q, ne_eqb n 0 some); maps_after_lem = rw (← q, ne_eqb n 0 some) }
+  pub maps_refused : (n : ℕ) → n ≡ to_maps_fault x p e out → (n ≡ 0 → ⊥) → TurnsToMaps x p e (turning.Refused n) out out
+  maps_refused n q some = record { answer = rw (← q, ne_eqb n 0 some); maps_after_lem = rw (← q, ne_eqb n 0 some) }
 
-  pub maps-turned : (after : Maps) → to_maps_fault x p e out ≡ 0 → after ≡ stored_in out (maps_of x.links e) → TurnsToMaps x p e turning.Turned out after
-  maps-turned after none q = record { answer = rw none; maps_after_lem = rw none q }
+  pub maps_turned : (after : Maps) → to_maps_fault x p e out ≡ 0 → after ≡ stored_in out (maps_of x.links e) → TurnsToMaps x p e turning.Turned out after
+  maps_turned after none q = record { answer = rw none; maps_after_lem = rw none q }
 
 -- into bytes
 module _ (x : Slices) (p : ℕ) (m : Maps) (out : List ℕ) where
-  pub bytes-refused : (n : ℕ) → n ≡ to_bytes_fault x p m out → (n ≡ 0 → ⊥) → TurnsToBytes x p m (turning.Refused n) out out
-  bytes-refused n q some = record { answer = rw (← q, ne_eqb n 0 some); bytes_after_lem = rw (← q, ne_eqb n 0 some) }
+  pub bytes_refused : (n : ℕ) → n ≡ to_bytes_fault x p m out → (n ≡ 0 → ⊥) → TurnsToBytes x p m (turning.Refused n) out out
+  bytes_refused n q some = record { answer = rw (← q, ne_eqb n 0 some); bytes_after_lem = rw (← q, ne_eqb n 0 some) }
 
-  pub bytes-turned : (after : List ℕ) → to_bytes_fault x p m out ≡ 0 → after ≡ sets out 0 (bytes_of x.links m) → TurnsToBytes x p m turning.Turned out after
-  bytes-turned after none q = record { answer = rw none; bytes_after_lem = rw none q }
+  pub bytes_turned : (after : List ℕ) → to_bytes_fault x p m out ≡ 0 → after ≡ sets out 0 (bytes_of x.links m) → TurnsToBytes x p m turning.Turned out after
+  bytes_turned after none q = record { answer = rw none; bytes_after_lem = rw none q }

@@ -20,7 +20,7 @@ use Rattle.probe_turning.specs.declared.Turning.{Turning}
 use Rattle.probe_turning.specs.declared.Turning.TheVariants.{Turned}
 use Rattle.probe_turning.specs.Turned.{rows_lent_fault, to_maps_fault, to_bytes_fault, TurnsToMaps, TurnsToBytes, maps_in}
 use Rattle.probe_turning.specs.ThereAndBack.{ThereAndBack}
-use Rattle.probe_turning.proofs.Answers.{lent, turned_none, turning-is, room-standing, room-refused-out, room-held, room-refused-in}
+use Rattle.probe_turning.proofs.Answers.{lent, turned_none, turning_is, room_standing, room_refused_out, room_held, room_refused_in}
 
 -- what is stored stands at the start
 start_is : (d vs : List ℕ) (n : ℕ) → length vs ≡ n → n ≤ length d → take n (sets d 0 vs) ≡ vs
@@ -30,10 +30,10 @@ start_is d vs n long room =
 
 maps_start : (links : ℕ) (e : List ℕ) (out : Maps) → rows_lent_fault links out ≡ 0 → maps_in links (stored_in out (maps_of links e)) ≡ maps_of links e
 maps_start links e out room =
-    rows_same (start_is _ _ (words_for links) (length_map_of _ (words_for links)) (room-standing links out room))
-    (start_is _ _ (words_for links) (length_map_of _ (words_for links)) (room-refused-out links out room))
-    (start_is _ _ (words_for links) (length_map_of _ (words_for links)) (room-held links out room))
-    (start_is _ _ (words_for links) (length_map_of _ (words_for links)) (room-refused-in links out room))
+    rows_same (start_is _ _ (words_for links) (length_map_of _ (words_for links)) (room_standing links out room))
+    (start_is _ _ (words_for links) (length_map_of _ (words_for links)) (room_refused_out links out room))
+    (start_is _ _ (words_for links) (length_map_of _ (words_for links)) (room_held links out room))
+    (start_is _ _ (words_for links) (length_map_of _ (words_for links)) (room_refused_in links out room))
 
 module _ (x : Slices) (p : ℕ) where
   same : TurnsBack (table_of x) p
@@ -41,13 +41,13 @@ module _ (x : Slices) (p : ℕ) where
 
   maps_are : (e : List ℕ) (out after : Maps) (r : Turning) → to_maps_fault x p e out ≡ 0 → TurnsToMaps x p e r out after → (r ≡ Turned) × (maps_in x.links after ≡ maps_of x.links e)
   maps_are e out after r none t = (
-    rw none at (turning-is r (to_maps_fault x p e out) t.answer),
+    rw none at (turning_is r (to_maps_fault x p e out) t.answer),
     ap (maps_in x.links) (rw none at t.maps_after_lem) ∙ maps_start x.links e out (or_left (rows_lent_fault x.links out) _ none),
   )
 
   bytes_are : (m : Maps) (rec after : List ℕ) (r : Turning) → to_bytes_fault x p m rec ≡ 0 → TurnsToBytes x p m r rec after → (r ≡ Turned) × (take (2 * x.links) after ≡ bytes_of x.links m)
   bytes_are m rec after r none t = (
-    rw none at (turning-is r (to_bytes_fault x p m rec) t.answer),
+    rw none at (turning_is r (to_bytes_fault x p m rec) t.answer),
     ap (take (2 * x.links)) (rw none at t.bytes_after_lem)
         ∙ start_is rec (bytes_of x.links m) (2 * x.links) (length_bytes_of x.links m) (lent (length rec) (2 * x.links) (or_left (lent_fault (length rec) (2 * x.links)) (state_fault x p m) none)),
   )

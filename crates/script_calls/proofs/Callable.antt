@@ -12,7 +12,7 @@ use Rattle.fleet_calls.specs.Calls.{SameTable}
 use Rattle.script_theory.specs.Script.{Script, after_piece}
 use Rattle.script_output.specs.Handling.{before, handling_reply, piece_values, piece_call_fault}
 use Rattle.script_output.specs.declared.Handling.TheVariants.{Printed, Refused}
-use Rattle.script_output.proofs.Answers.{progressAfter}
+use Rattle.script_output.proofs.Answers.{progress_after}
 use Rattle.script_calls.specs.Calls.{PieceCall, PieceLeft, left_by_piece, KeptPiece, PieceCalls, GivenPieces, pieces_given}
 
 -- the call of a piece that does what `script_piece` promises
@@ -24,14 +24,14 @@ made_piece b y piece out =
       slices = y;
       piece = piece;
       out = out;
-      answer = cond (eqb fault 0) (Printed (length q.out) (progressAfter q)) (Refused fault);
+      answer = cond (eqb fault 0) (Printed (length q.out) (progress_after q)) (Refused fault);
       bytes = cond (eqb fault 0) q.bytes b.bytes;
       line = cond (eqb fault 0) (q.held ++ drop (length q.held) b.line) b.line;
       out' = printed_into fault q.out out;
     }
 
 made_reply : (fault : ℕ) (q : Script) (none : Bool)
-    → handling_reply (cond none (Printed (length q.out) (progressAfter q)) (Refused fault)) ≡ cond none (values (piece_values q)) (refusal fault)
+    → handling_reply (cond none (Printed (length q.out) (progress_after q)) (Refused fault)) ≡ cond none (values (piece_values q)) (refusal fault)
 made_reply fault q true = refl
 made_reply fault q false = refl
 

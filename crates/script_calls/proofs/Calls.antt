@@ -28,7 +28,7 @@ use Rattle.script_steps.proofs.PieceLaws.{usable_piece, held_few}
 use Rattle.script_output.specs.Handling.{before, site_fault, Handles, piece_call_fault, end_call_fault}
 use Rattle.script_output.specs.declared.Handling.{Handling}
 use Rattle.script_output.specs.declared.Handling.TheVariants.{Printed, Refused}
-use Rattle.script_output.proofs.Answers.{progressAfter, handles-answer}
+use Rattle.script_output.proofs.Answers.{progress_after, handles_answer}
 use Rattle.script_output.proofs.Calls.{next_call}
 use Rattle.script_calls.specs.Calls.{PieceCall, PieceLeft, fresh_piece, left_by_piece, KeptPiece, PieceCalls, left_after_pieces, handled_piece, text_of_pieces, printed_piece, printed_by_pieces, printed_end, ScriptOfCalls}
 use Rattle.script_calls.proofs.Same.{same_after_piece, same_end}
@@ -83,7 +83,7 @@ module _ (x : Slices) (fine : slices_fault x ≡ 0) where
 
   -- a call has printed, or its output slice is too short and nothing has changed
   data Called (b : PieceLeft) (c : PieceCall) : Type 0 where
-    printed : c.answer ≡ Printed (length (after b c).out) (progressAfter (after b c)) → c.bytes ≡ (after b c).bytes
+    printed : c.answer ≡ Printed (length (after b c).out) (progress_after (after b c)) → c.bytes ≡ (after b c).bytes
         → c.line ≡ (after b c).held ++ drop (length (after b c).held) b.line → c.out' ≡ (after b c).out ++ drop (length (after b c).out) c.out → Called b c
     short : c.answer ≡ Refused 8 → c.bytes ≡ b.bytes → c.line ≡ b.line → c.out' ≡ c.out → length c.out < length (after b c).out → Called b c
 
@@ -118,8 +118,8 @@ module _ (x : Slices) (fine : slices_fault x ≡ 0) where
     called = go (decided (ltb (length c.out) (length (after b c).out)))
       where
         go : (ltb (length c.out) (length (after b c).out) ≡ true) ⊎ (ltb (length c.out) (length (after b c).out) ≡ false) → Called b c
-        go (inl e) = let h = rw e at handles in short (handles-answer h) h.record_after_lem h.line_after h.out_after_lem (ltb-true _ _ e)
-        go (inr e) = let h = rw e at handles in printed (handles-answer h) h.record_after_lem h.line_after h.out_after_lem
+        go (inl e) = let h = rw e at handles in short (handles_answer h) h.record_after_lem h.line_after h.out_after_lem (ltb-true _ _ e)
+        go (inr e) = let h = rw e at handles in printed (handles_answer h) h.record_after_lem h.line_after h.out_after_lem
 
     held_16 : length (after b c).held ≤ 16
     held_16 = held_few x 1024 (script_of b) c.piece (let m = held_length b l in let n = l.few in omega (arith, m, n))
@@ -139,7 +139,7 @@ module _ (x : Slices) (fine : slices_fault x ≡ 0) where
         go (printed a r line o) = record { long = rw line line_long; few = rw a held_16; passes = rw r (usable_piece x 1024 fine (script_of b) c.piece l.passes) }
         go (short a r line o s) = record { long = rw line l.long; few = rw a l.few; passes = rw r l.passes }
 
-    printed_next : c.answer ≡ Printed (length (after b c).out) (progressAfter (after b c)) → c.bytes ≡ (after b c).bytes
+    printed_next : c.answer ≡ Printed (length (after b c).out) (progress_after (after b c)) → c.bytes ≡ (after b c).bytes
         → c.line ≡ (after b c).held ++ drop (length (after b c).held) b.line → script_of (left_by_piece b c) ≡ carried (after b c)
     printed_next a r line = rw (a, r, line) (next_call (after b c) b.line held_16)
 
@@ -215,7 +215,7 @@ module _ (x : Slices) (fine : slices_fault x ≡ 0) where
           is_printed (Printed length q) = true
           is_printed (Refused k) = false
 
-          unlike : Printed (length (after b c).out) (progressAfter (after b c)) ≡ Refused n → ⊥
+          unlike : Printed (length (after b c).out) (progress_after (after b c)) ≡ Refused n → ⊥
           unlike e = true≢false (ap is_printed e)
       go (short a r line o s) = (same 8 (sym e ∙ a), s)
 
@@ -223,7 +223,7 @@ module _ (x : Slices) (fine : slices_fault x ≡ 0) where
       → (c.answer ≡ Refused 8) × (left_by_piece b c ≡ b) × (c.out' ≡ c.out)
   short_here b l c k few =
       let h = rw (lt-ltb (length c.out) (length (after b c).out) few) at (handles b l c k) in
-      let a = handles-answer h in
+      let a = handles_answer h in
       (a, rw (a, h.record_after_lem, h.line_after), h.out_after_lem)
 
 module _ (x : Slices) (fine : slices_fault x ≡ 0) (line : List ℕ) (long : 16 ≤ length line) (cs : List PieceCall) (k : PieceCalls x (fresh_piece x line) cs) where

@@ -16,22 +16,22 @@ use Rattle.script_steps.specs.declared.Progress.{Progress}
 use Rattle.script_output.specs.declared.Handling.{Handling}
 use Rattle.script_output.specs.declared.Handling.TheVariants as handling
 use Rattle.script_output.specs.Handling.{Handles}
-use Rattle.script_output.proofs.Answers.{progressAfter, handles-answer}
+use Rattle.script_output.proofs.Answers.{progress_after, handles_answer}
 use Rattle.script_exports.specs.Packed.{PiecePacked}
 
 -- A piece: refused before the call, refused by it, or handled.
-pub piece-unhandled : (fault : ℕ) (q : Script) (rec line numbers out : List ℕ) → length numbers < 3
+pub piece_unhandled : (fault : ℕ) (q : Script) (rec line numbers out : List ℕ) → length numbers < 3
     → PiecePacked (or_else (cond (ltb (length numbers) 3) 8 0) fault) q 8 rec rec line line numbers numbers out out
-piece-unhandled fault q rec line numbers out l =
+piece_unhandled fault q rec line numbers out l =
     rw (lt-ltb (length numbers) 3 l) record { answer = refl; numbers_after = refl; record_after_lem = refl; line_after = refl; out_after_lem = refl }
 
 module _ (fault : ℕ) (q : Script) (a : Handling) (rec rec' line line' out out' : List ℕ) (h : Handles fault q a rec rec' line line' out out') where
   -- the call's refusal
   refused_is : (n : ℕ) → a ≡ handling.Refused n → (n ≡ fault) × (fault ≡ 0 → ⊥) × (rec' ≡ rec) × (line' ≡ line) × (out' ≡ out)
-  refused_is n e = go (decided (eqb fault 0)) (sym e ∙ handles-answer h) h.record_after_lem h.line_after h.out_after_lem
+  refused_is n e = go (decided (eqb fault 0)) (sym e ∙ handles_answer h) h.record_after_lem h.line_after h.out_after_lem
     where
       go : (eqb fault 0 ≡ true) ⊎ (eqb fault 0 ≡ false)
-          → handling.Refused n ≡ cond (eqb fault 0) (handling.Printed (length q.out) (progressAfter q)) (handling.Refused fault)
+          → handling.Refused n ≡ cond (eqb fault 0) (handling.Printed (length q.out) (progress_after q)) (handling.Refused fault)
           → rec' ≡ cond (eqb fault 0) q.bytes rec → line' ≡ cond (eqb fault 0) (q.held ++ drop (length q.held) line) line
           → out' ≡ cond (eqb fault 0) (q.out ++ drop (length q.out) out) out → (n ≡ fault) × (fault ≡ 0 → ⊥) × (rec' ≡ rec) × (line' ≡ line) × (out' ≡ out)
       go (inl f) s r l o = let w = rw f at s in let z : ◌≡◌ {A = ℕ} 0 1 = cc in absurd (omega arith)
@@ -43,23 +43,23 @@ module _ (fault : ℕ) (q : Script) (a : Handling) (rec rec' line line' out out'
       let f = ne_eqb fault 0 i.1 in
       record { answer = rw f i.0; numbers_after = rw f; record_after_lem = rw f i.2; line_after = rw f i.3; out_after_lem = rw f i.4 }
 
-  printed-is : (n : ℕ) (p : Progress) → a ≡ handling.Printed n p → (fault ≡ 0) × (n ≡ length q.out) × (p.used ≡ q.used) × (p.held ≡ length q.held) × (p.changed ≡ q.changed)
-  printed-is n p e = go (decided (eqb fault 0)) (sym e ∙ handles-answer h)
+  printed_is : (n : ℕ) (p : Progress) → a ≡ handling.Printed n p → (fault ≡ 0) × (n ≡ length q.out) × (p.used ≡ q.used) × (p.held ≡ length q.held) × (p.changed ≡ q.changed)
+  printed_is n p e = go (decided (eqb fault 0)) (sym e ∙ handles_answer h)
     where
       go : (eqb fault 0 ≡ true) ⊎ (eqb fault 0 ≡ false)
-          → handling.Printed n p ≡ cond (eqb fault 0) (handling.Printed (length q.out) (progressAfter q)) (handling.Refused fault)
+          → handling.Printed n p ≡ cond (eqb fault 0) (handling.Printed (length q.out) (progress_after q)) (handling.Refused fault)
           → (fault ≡ 0) × (n ≡ length q.out) × (p.used ≡ q.used) × (p.held ≡ length q.held) × (p.changed ≡ q.changed)
       go (inl f) s =
           let w = rw f at s in
           let m : n ≡ length q.out = cc in
-          let is : p ≡ progressAfter q = cc in
+          let is : p ≡ progress_after q = cc in
           (eqb-true fault 0 f, m, ap (λ (x : Progress). x.used) is, ap (λ (x : Progress). x.held) is, ap (λ (x : Progress). x.changed) is)
       go (inr f) s = let w = rw f at s in let z : ◌≡◌ {A = ℕ} 0 1 = cc in absurd (omega arith)
 
-  pub piece-handled : (n r : ℕ) (p : Progress) (numbers numbers' : List ℕ) → a ≡ handling.Printed n p → 3 ≤ length numbers → r ≡ n + 2 ^ 48
+  pub piece_handled : (n r : ℕ) (p : Progress) (numbers numbers' : List ℕ) → a ≡ handling.Printed n p → 3 ≤ length numbers → r ≡ n + 2 ^ 48
       → numbers' ≡ set (set (set numbers 0 p.used) 1 p.held) 2 p.changed → PiecePacked fault q r rec rec' line line' numbers numbers' out out'
-  piece-handled n r p numbers numbers' e l k s =
-      let i = printed-is n p e in
+  piece_handled n r p numbers numbers' e l k s =
+      let i = printed_is n p e in
       let f = eq-eqb fault 0 i.0 in
       record {
         answer = rw f (let m = i.1 in omega arith);

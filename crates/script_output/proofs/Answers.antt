@@ -33,10 +33,10 @@ unhandled fault n q rec line out e some =
     let f = ne_eqb fault 0 (λ z. some (e ∙ z)) in
     record { answer = rw f (ap refusal e); record_after_lem = rw f; line_after = rw f; out_after_lem = rw f }
 
-pub handled-all : (fault : ℕ) (q : Script) (r : Place) (rec rec' line line' out out' : List ℕ) → fault ≡ 0 → Buffered q 0 r rec' line' out out'
+pub handled_all : (fault : ℕ) (q : Script) (r : Place) (rec rec' line line' out out' : List ℕ) → fault ≡ 0 → Buffered q 0 r rec' line' out out'
     → line' ≡ q.held ++ drop (length q.held) line → length q.out ≤ length out → length out < 9223372036854775808
     → Handles fault q (handling.Printed r.at r.progress) rec rec' line line' out out'
-handled-all fault q r rec rec' line line' out out' f b s fits most =
+handled_all fault q r rec rec' line line' out out' f b s fits most =
     let none = eq-eqb fault 0 f in
     let e = b.at ∙ capped_below (0 + length q.out) (omega arith) in
     let z : r.at ≡ length q.out = omega arith in
@@ -51,15 +51,15 @@ handled-all fault q r rec rec' line line' out out' f b s fits most =
 abbrev pub most : ℕ → ℕ
 most h = cond (ltb h 16) h 16
 
-pub most-few : (h : ℕ) → most h ≤ 16
-most-few h = go (dec_lt h 16)
+pub most_few : (h : ℕ) → most h ≤ 16
+most_few h = go (dec_lt h 16)
   where
     go : Dec (h < 16) → most h ≤ 16
     go (yes l) = rw (lt-ltb h 16 l) (omega arith)
     go (no d) = rw (le-ltb h 16 (omega arith)) (omega arith)
 
-held-part : (line : List ℕ) (h : ℕ) → 16 ≤ length line → take (most h) line ≡ take h (take 16 line)
-held-part line h long = go (dec_lt h 16)
+held_part : (line : List ℕ) (h : ℕ) → 16 ≤ length line → take (most h) line ≡ take h (take 16 line)
+held_part line h long = go (dec_lt h 16)
   where
     go : Dec (h < 16) → take (most h) line ≡ take h (take 16 line)
     go (yes l) = rw (lt-ltb h 16 l) (sym (take-take h 16 line (omega arith)))
@@ -68,20 +68,20 @@ held-part line h long = go (dec_lt h 16)
         rw (le-ltb h 16 (omega arith)) (sym (take_all h (take 16 line) (omega arith)))
 
 -- the progress that a piece goes on from holds the same bytes
-pub begun-same : (b p : Progress) (rec line : List ℕ) → (b.used ≡ p.used) × (b.held ≡ most p.held) × (b.changed ≡ p.changed) → 16 ≤ length line
+pub begun_same : (b p : Progress) (rec line : List ℕ) → (b.used ≡ p.used) × (b.held ≡ most p.held) × (b.changed ≡ p.changed) → 16 ≤ length line
     → under_way b rec line ≡ before p rec line
-begun-same b p rec line e long = rw (e.0, e.1, e.2, held-part line p.held long)
+begun_same b p rec line e long = rw (e.0, e.1, e.2, held_part line p.held long)
 
 -- The faults of a piece, one after the other.
 module _ (x : Slices) (p : Script) (piece : List ℕ) (line room state : ℕ) (long : 16 ≤ line) (f : state ≡ site_fault x p.bytes) where
   abbrev printed : List ℕ
   printed = (after_piece x 1024 p piece).out
 
-  pub fault-site : (state ≡ 0 → ⊥) → state ≡ piece_fault x p piece line room
-  fault-site some = rw (le-ltb line 16 long) (or_here state (site_fault x p.bytes) (output_fault room printed) f some)
+  pub fault_site : (state ≡ 0 → ⊥) → state ≡ piece_fault x p piece line room
+  fault_site some = rw (le-ltb line 16 long) (or_here state (site_fault x p.bytes) (output_fault room printed) f some)
 
-  pub fault-short : (n : ℕ) → state ≡ 0 → n ≡ output_fault room printed → n ≡ piece_fault x p piece line room
-  fault-short n none e = rw (le-ltb line 16 long) (or_next state (site_fault x p.bytes) (output_fault room printed) n f none e)
+  pub fault_short : (n : ℕ) → state ≡ 0 → n ≡ output_fault room printed → n ≡ piece_fault x p piece line room
+  fault_short n none e = rw (le-ltb line 16 long) (or_next state (site_fault x p.bytes) (output_fault room printed) n f none e)
 
 -- what a piece's call has found, where it found no fault
 pub record Given (x : Slices) (q : Script) (rec line : List ℕ) (held room : ℕ) : Type 0 where
@@ -95,24 +95,24 @@ pub record Given (x : Slices) (q : Script) (rec line : List ℕ) (held room : �
 module _ (x : Slices) (b p : Progress) (piece rec line : List ℕ) (room fault : ℕ)
     (e : (b.used ≡ p.used) × (b.held ≡ most p.held) × (b.changed ≡ p.changed))
     (f : fault ≡ piece_fault x (under_way b rec line) piece (length line) room) where
-  pub call-is : fault ≡ piece_fault x (before p rec line) piece (length line) room
-  call-is = f ∙ go (dec_lt (length line) 16)
+  pub call_is : fault ≡ piece_fault x (before p rec line) piece (length line) room
+  call_is = f ∙ go (dec_lt (length line) 16)
     where
       go : Dec (length line < 16) → piece_fault x (under_way b rec line) piece (length line) room ≡ piece_fault x (before p rec line) piece (length line) room
       go (yes l) = rw (lt-ltb (length line) 16 l)
-      go (no d) = ap (λ (q : Script). piece_fault x q piece (length line) room) (begun-same b p rec line e (omega arith))
+      go (no d) = ap (λ (q : Script). piece_fault x q piece (length line) room) (begun_same b p rec line e (omega arith))
 
-  pub call-given : fault ≡ 0 → Given x (after_piece x 1024 (before p rec line) piece) rec line b.held room
-  call-given none =
+  pub call_given : fault ≡ 0 → Given x (after_piece x 1024 (before p rec line) piece) rec line b.held room
+  call_given none =
       let printed = (after_piece x 1024 (before p rec line) piece).out in
       let short = lent_fault (length line) 16 in
       let state = or_else (slices_fault x) (fleet_fault (table_of x) rec) in
       let last = output_fault room printed in
-      let z = sym call-is ∙ none in
+      let z = sym call_is ∙ none in
       let rest = or_right short (or_else state last) z in
       let good = or_left state last rest in
       record {
-        few = (let k = e.1 in let few = most-few p.held in omega arith);
+        few = (let k = e.1 in let few = most_few p.held in omega arith);
         long = ltb-false (length line) 16 (when_none (ltb (length line) 16) 7 (or_left short (or_else state last) z));
         fine = or_left (slices_fault x) (fleet_fault (table_of x) rec) good;
         good = or_right (slices_fault x) (fleet_fault (table_of x) rec) good;
@@ -126,16 +126,16 @@ call_passes x p piece rec line out fine good long fits =
     rw (le-ltb (length line) 16 long, fine, good) (long_enough (length out) (after_piece x 1024 (before p rec line) piece).out fits)
 
 -- how far the script q has come
-abbrev pub progressAfter : Script → Progress
-progressAfter q = record { used = q.used; held = length q.held; changed = q.changed }
+abbrev pub progress_after : Script → Progress
+progress_after q = record { used = q.used; held = length q.held; changed = q.changed }
 
 -- the answer, by the fault found
-pub handles-answer : {fault : ℕ} {q : Script} {r : Handling} {rec rec' line line' out out' : List ℕ} → Handles fault q r rec rec' line line' out out'
-    → r ≡ cond (eqb fault 0) (handling.Printed (length q.out) (progressAfter q)) (handling.Refused fault)
-handles-answer {fault} {q} {r} h = go r (eqb fault 0) h.answer
+pub handles_answer : {fault : ℕ} {q : Script} {r : Handling} {rec rec' line line' out out' : List ℕ} → Handles fault q r rec rec' line line' out out'
+    → r ≡ cond (eqb fault 0) (handling.Printed (length q.out) (progress_after q)) (handling.Refused fault)
+handles_answer {fault} {q} {r} h = go r (eqb fault 0) h.answer
   where
     go : (r : Handling) (none : Bool) → handling_reply r ≡ cond none (values (piece_values q)) (refusal fault)
-        → r ≡ cond none (handling.Printed (length q.out) (progressAfter q)) (handling.Refused fault)
+        → r ≡ cond none (handling.Printed (length q.out) (progress_after q)) (handling.Refused fault)
     go (handling.Printed n p) true e =
         let long : n ≡ length q.out = cc in
         let used : p.used ≡ q.used = cc in
@@ -150,11 +150,11 @@ handles-answer {fault} {q} {r} h = go r (eqb fault 0) h.answer
     go (handling.Refused n) false e = cc
 
 -- What is answered as printed stands within the lent slice.
-pub handled-within : (fault n : ℕ) (p : Progress) (q : Script) (r : Handling) (rec rec' line line' out out' : List ℕ) → Handles fault q r rec rec' line line' out out'
+pub handled_within : (fault n : ℕ) (p : Progress) (q : Script) (r : Handling) (rec rec' line line' out out' : List ℕ) → Handles fault q r rec rec' line line' out out'
     → r ≡ handling.Printed n p → length out' ≡ length out → n ≤ length out
-handled-within fault n p q r rec rec' line line' out out' h e l = go (eqb fault 0) (sym e ∙ handles-answer h) h.out_after_lem
+handled_within fault n p q r rec rec' line line' out out' h e l = go (eqb fault 0) (sym e ∙ handles_answer h) h.out_after_lem
   where
-    go : (b : Bool) → handling.Printed n p ≡ cond b (handling.Printed (length q.out) (progressAfter q)) (handling.Refused fault)
+    go : (b : Bool) → handling.Printed n p ≡ cond b (handling.Printed (length q.out) (progress_after q)) (handling.Refused fault)
         → out' ≡ cond b (q.out ++ drop (length q.out) out) out → n ≤ length out
     go true a o = let k = filled_within q.out out out' o l in let m : n ≡ length q.out = cc in omega arith
     go false a o = let z : ◌≡◌ {A = ℕ} 0 1 = cc in absurd (omega arith)

@@ -22,7 +22,7 @@ use Rattle.wake_log.specs.Entry.{answer_of, accepted_by}
 use Rattle.fleet_theory.specs.Fleet.{fleet_fault, event_line_fault, event_fault, entry_by, frame_changes}
 use Rattle.table.specs.Slices.{Slices, table_of, slices_fault}
 use Rattle.fleet_theory.proofs.Events.{unsent_of}
-use Rattle.fleet.specs.Answers.{Handled, changesBy}
+use Rattle.fleet.specs.Answers.{Handled, changes_by}
 use Rattle.fleet.proofs.Checks.{line_frame}
 use Rattle.fleet.proofs.Passing.{passed_line}
 use Rattle.fleet.proofs.Calls.{refused_call, handled_answer}
@@ -85,7 +85,7 @@ module _ (x : Slices) (used room : ℕ) (l r : List ℕ) where
 -- a line handled and its answer printed
 module _ (x : Slices) (fine : slices_fault x ≡ 0) (p : Progress) (room at : ℕ) (l rec rec' out out' : List ℕ) (good : fleet_fault (table_of x) rec ≡ 0) where
   pub line_buffered : (answer : Answer) (next used changed : ℕ) → Handled x p.used room l answer rec rec' → out' ≡ stored_within out at (answer_line answer)
-      → next ≡ capped (at + length (answer_line answer)) → used ≡ p.used + accepted_by answer → changed ≡ (p.changed + changesBy answer) % 4294967296
+      → next ≡ capped (at + length (answer_line answer)) → used ≡ p.used + accepted_by answer → changed ≡ (p.changed + changes_by answer) % 4294967296
       → Buffered (after_line x room (under_way p rec []) l) at (record { at = next; progress = record { used = used; held = 0; changed = changed } }) rec' [] out out'
   line_buffered answer next used changed h o n u c =
       record {

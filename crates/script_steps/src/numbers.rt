@@ -1,6 +1,6 @@
 // The numbers of a script under way, after an answer.
 ghost use Rattle.std.specs.Prelude.{◌≡◌, ◌+◌, ◌%◌, ◌≤◌};
-ghost use Rattle.fleet.specs.Answers.{changesBy};
+ghost use Rattle.fleet.specs.Answers.{changes_by};
 ghost use Rattle.wake_log.specs.Entry.{accepted_by};
 
 // The entries used after an answer.
@@ -16,7 +16,7 @@ pub fn add_used(used: u32, answer: wake_log::Answer) -> u32
 
 // The changes after an answer, as far as eight digits print them.
 pub fn add_changes(changed: u32, answer: wake_log::Answer) -> u32
-    ensures { result ≡ (changed + changesBy answer) % 4294967296 }
+    ensures { result ≡ (changed + changes_by answer) % 4294967296 }
 {
     match answer {
         wake_log::Answer::Logged(e) => {

@@ -11,15 +11,15 @@ use Rattle.table.specs.Checking.{checking_reply}
 use Rattle.table.specs.declared.Checking.{Checking}
 use Rattle.table.specs.declared.Checking.TheVariants.{Fine, Refused}
 
-pub checking-fine : (r fault : ℕ) → r ≡ fault → r ≡ 0 → checking_reply Fine ≡ reply_of fault []
-checking-fine r fault e z = rw (eq-eqb fault 0 (sym e ∙ z))
+pub checking_fine : (r fault : ℕ) → r ≡ fault → r ≡ 0 → checking_reply Fine ≡ reply_of fault []
+checking_fine r fault e z = rw (eq-eqb fault 0 (sym e ∙ z))
 
-pub checking-refused : (r fault : ℕ) → r ≡ fault → (r ≡ 0 → ⊥) → checking_reply (Refused r) ≡ reply_of fault []
-checking-refused r fault e n = rw (e, ne_eqb fault 0 (λ z. n (e ∙ z)))
+pub checking_refused : (r fault : ℕ) → r ≡ fault → (r ≡ 0 → ⊥) → checking_reply (Refused r) ≡ reply_of fault []
+checking_refused r fault e n = rw (e, ne_eqb fault 0 (λ z. n (e ∙ z)))
 
 -- the answer, by the fault found
-pub checking-is : (r : Checking) (fault : ℕ) → checking_reply r ≡ reply_of fault [] → r ≡ cond (eqb fault 0) Fine (Refused fault)
-checking-is r fault e = go r (eqb fault 0) e
+pub checking_is : (r : Checking) (fault : ℕ) → checking_reply r ≡ reply_of fault [] → r ≡ cond (eqb fault 0) Fine (Refused fault)
+checking_is r fault e = go r (eqb fault 0) e
   where
     go : (r : Checking) (none : Bool) → checking_reply r ≡ cond none (values []) (refusal fault) → r ≡ cond none Fine (Refused fault)
     go Fine true e = refl

@@ -23,16 +23,16 @@ use Rattle.table.specs.Slices.{Slices, table_of, slices_room_fault, slice_fault}
 use Rattle.table.specs.Text.{triple_line, of_text, text_end, head_fault, body_fault, text_fault, read_fault}
 use Rattle.table.specs.declared.Checking.{Checking}
 use Rattle.table.specs.declared.Checking.TheVariants.{Fine, Refused}
-use Rattle.table.proofs.Answers.{checking-is}
+use Rattle.table.proofs.Answers.{checking_is}
 use Rattle.table.proofs.Largest.{table_most, text_most}
 use Rattle.table_read.specs.Reading.{Lent, lent_of, reading_fault, Reads, ReadsTable}
 use Rattle.table_read.specs.declared.Reading.{Reading}
 use Rattle.table_read.specs.declared.Reading.TheVariants.{Refused as Unread}
-use Rattle.table_read.proofs.Answers.{reads-answer}
+use Rattle.table_read.proofs.Answers.{reads_answer}
 use Rattle.table_write.specs.Writing.{write_fault, Writes, WritesTable}
 use Rattle.table_write.specs.declared.Writing.{Writing}
 use Rattle.table_write.specs.declared.Writing.TheVariants.{Length, Refused as Unwritten}
-use Rattle.table_write.proofs.Answers.{writes-answer, room_enough}
+use Rattle.table_write.proofs.Answers.{writes_answer, room_enough}
 use Rattle.table_laws.specs.Functions.{lent_slices, HoldsTable}
 use Rattle.table_laws.proofs.Reading.{room_none, none_short, refusal_is}
 use Rattle.table_display.specs.Display.{over, HeldToPair, SameTable, SameText, NeverTooShort, DisplayTables}
@@ -63,11 +63,11 @@ lent_same {a} {b} n l h c = go n l h c
     go n l h c = rw (n, l, h, c)
 
 checks_same : (r r' : Checking) (fault fault' : ℕ) → fault ≡ fault' → checking_reply r ≡ reply_of fault [] → checking_reply r' ≡ reply_of fault' [] → r ≡ r'
-checks_same r r' fault fault' e w w' = checking-is r fault' (rw e at w) ∙ sym (checking-is r' fault' w')
+checks_same r r' fault fault' e w w' = checking_is r fault' (rw e at w) ∙ sym (checking_is r' fault' w')
 
 writes_same : {fault fault' : ℕ} {t : Table} {r r' : Writing} {out after after' : List ℕ} → fault ≡ fault'
     → Writes fault t r out after → Writes fault' t r' out after' → (r ≡ r') × (after ≡ after')
-writes_same e w w' = let v = rw e at w in (writes-answer v ∙ sym (writes-answer w'), v.out ∙ sym w'.out)
+writes_same e w w' = let v = rw e at w in (writes_answer v ∙ sym (writes_answer w'), v.out ∙ sym w'.out)
 
 reads_same : {fault fault' : ℕ} {t : Table} {r r' : Reading} {lent after after' : Lent} → fault ≡ fault'
     → Reads fault t r lent after → Reads fault' t r' lent after' → (r ≡ r') × (after ≡ after')
@@ -75,15 +75,15 @@ reads_same e w w' =
     let v = rw e at w in
     let f = v.lent in
     let f' = w'.lent in
-    (reads-answer v ∙ sym (reads-answer w'), lent_same (f.need ∙ sym f'.need) (f.low ∙ sym f'.low) (f.high ∙ sym f'.high) (f.cost ∙ sym f'.cost))
+    (reads_answer v ∙ sym (reads_answer w'), lent_same (f.need ∙ sym f'.need) (f.low ∙ sym f'.low) (f.high ∙ sym f'.high) (f.cost ∙ sym f'.cost))
 
 writes_three : {fault : ℕ} {t : Table} {r : Writing} {out after : List ℕ} → fault ≡ 3 → Writes fault t r out after → (r ≡ Unwritten 3) × (after ≡ out)
-writes_three e w = let v = rw e at w in (writes-answer v, v.out)
+writes_three e w = let v = rw e at w in (writes_answer v, v.out)
 
 reads_three : {fault : ℕ} {t : Table} {r : Reading} {lent after : Lent} → fault ≡ 3 → Reads fault t r lent after → (r ≡ Unread 3) × (after ≡ lent)
 reads_three e w =
     let v = rw e at w in
-    (reads-answer v, lent_same v.lent.need v.lent.low v.lent.high v.lent.cost)
+    (reads_answer v, lent_same v.lent.need v.lent.low v.lent.high v.lent.cost)
 
 -- Over the pair.
 module _ (pmax lmax : ℕ) where
@@ -118,7 +118,7 @@ module _ (pmax lmax : ℕ) where
   held_to_pair =
       record {
         slices = over_slices;
-        check = λ x r o room w. checking-is r (slice_fault pmax lmax x) w ∙ rw (over_slices x o room);
+        check = λ x r o room w. checking_is r (slice_fault pmax lmax x) w ∙ rw (over_slices x o room);
         write = λ x r out after o room l. writes_three (room_enough (length out) (text_end (table_of x)) _ l ∙ over_slices x o room);
         text = over_text;
         header = over_header;
@@ -183,14 +183,14 @@ module _ (a : Lent) (holds : HoldsTable 16 40 a) where
     check_not : (r : Checking) → ChecksTable 16 40 x r → r ≡ Refused 8 → ⊥
     check_not r w e =
         let fault = slice_fault 16 40 x in
-        let q = refused_is fault 8 (eqb fault 0) (sym e ∙ checking-is r fault w) in
+        let q = refused_is fault 8 (eqb fault 0) (sym e ∙ checking_is r fault w) in
         let l = fault_most in
         omega arith
 
     write_not : (r : Writing) (out after : List ℕ) → 618 ≤ length out → WritesTable 16 40 x r out after → r ≡ Unwritten 8 → ⊥
     write_not r out after long w e =
         let fault = write_fault 16 40 x (length out) in
-        let q = unwritten_is fault 8 (text_end (table_of x)) (eqb fault 0) (sym e ∙ writes-answer w) in
+        let q = unwritten_is fault 8 (text_end (table_of x)) (eqb fault 0) (sym e ∙ writes_answer w) in
         let k = within 16 40 (table_of x) o in
         let p = room_enough (length out) (text_end (table_of x)) (slice_fault 16 40 x) (omega (arith, k.0, k.1)) in
         let l = fault_most in

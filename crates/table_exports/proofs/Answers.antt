@@ -16,13 +16,13 @@ use Rattle.table_read.specs.declared.Reading.{Reading}
 use Rattle.table_write.specs.Writing.{write_fault, writing_reply, WritesTable}
 use Rattle.table_write.specs.declared.Writing.{Writing}
 use Rattle.table_write.specs.declared.Writing.TheVariants.{Length, Refused}
-use Rattle.table_write.proofs.Answers.{writes-answer}
+use Rattle.table_write.proofs.Answers.{writes_answer}
 use Rattle.packed_answers.specs.Packed.{packed_value}
 use Rattle.table_exports.specs.Packed.{packed_checking, packed_reading, ReadsPacked, WritesPacked}
 
 -- a check's number is the fault
-pub checking-packed : (fault : ℕ) → packed_checking (reply_of fault []) ≡ fault
-checking-packed fault = go (ℕ_discrete fault 0)
+pub checking_packed : (fault : ℕ) → packed_checking (reply_of fault []) ≡ fault
+checking_packed fault = go (ℕ_discrete fault 0)
   where
     go : Dec (fault ≡ 0) → packed_checking (reply_of fault []) ≡ fault
     go (yes z) = rw z
@@ -30,17 +30,17 @@ checking-packed fault = go (ℕ_discrete fault 0)
 
 -- within any limits
 module _ (pmax lmax : ℕ) where
-  pub reads-packed : (more : Bool) (s : List ℕ) (a : Reading) (r : ℕ) (before after : Lent) → ReadsTable pmax lmax more s a before after → r ≡ packed_reading (reading_reply a)
+  pub reads_packed : (more : Bool) (s : List ℕ) (a : Reading) (r : ℕ) (before after : Lent) → ReadsTable pmax lmax more s a before after → r ≡ packed_reading (reading_reply a)
       → ReadsPacked pmax lmax more s r before after
-  reads-packed more s a r before after g e = record { answer = e ∙ ap packed_reading g.answer; lent = g.lent }
+  reads_packed more s a r before after g e = record { answer = e ∙ ap packed_reading g.answer; lent = g.lent }
 
-  pub writes-packed : (x : Slices) (a : Writing) (r : ℕ) (before after : List ℕ) → WritesTable pmax lmax x a before after → r ≡ packed_value (writing_reply a)
+  pub writes_packed : (x : Slices) (a : Writing) (r : ℕ) (before after : List ℕ) → WritesTable pmax lmax x a before after → r ≡ packed_value (writing_reply a)
       → WritesPacked pmax lmax x r before after
-  writes-packed x a r before after g e = record { answer = e ∙ ap packed_value g.answer; out = g.out }
+  writes_packed x a r before after g e = record { answer = e ∙ ap packed_value g.answer; out = g.out }
 
   -- a length that is answered is that of the text
   pub length_is : (x : Slices) (a : Writing) (n : ℕ) (before after : List ℕ) → WritesTable pmax lmax x a before after → a ≡ Length n → n ≡ text_end (table_of x)
-  length_is x a n before after g e = go (eqb (write_fault pmax lmax x (length before)) 0) (sym e ∙ writes-answer g)
+  length_is x a n before after g e = go (eqb (write_fault pmax lmax x (length before)) 0) (sym e ∙ writes_answer g)
     where
       go : (b : Bool) → Length n ≡ cond b (Length (text_end (table_of x))) (Refused (write_fault pmax lmax x (length before))) → n ≡ text_end (table_of x)
       go true h = cc

@@ -21,8 +21,8 @@ use Rattle.table.specs.Same.{Same}
 use Rattle.table.specs.Slices.{Slices, table_of}
 use Rattle.table_read.specs.Reading.{Lent, reading_fault}
 use Rattle.table_write.specs.Writing.{write_fault}
-use Rattle.table_read.proofs.Answers.{reads-answer}
-use Rattle.table_write.proofs.Answers.{writes-answer}
+use Rattle.table_read.proofs.Answers.{reads_answer}
+use Rattle.table_write.proofs.Answers.{writes_answer}
 use Rattle.table_laws.specs.Functions.{lent_slices, HoldsTable, ReadTable, ReadThenWrite, WriteThenRead}
 use Rattle.table_laws.proofs.Tables.{same_text}
 use Rattle.table.proofs.Same.{same_fault}
@@ -57,7 +57,7 @@ read_then_write s out out' a b number probes links rest w read enough write =
     let legal = same_fault u t same 256 2048 ∙ text_legal 256 2048 false s good in
     let fault = writing_none t.number t.probes t.links b (length out) (omega arith) (holds 256 2048 false s _ a b read none) legal in
     let written = rw (n.0, n.1, n.2) at write in
-    (writes-answer written ∙ rw (fault, end), written.out ∙ rw (fault, text))
+    (writes_answer written ∙ rw (fault, end), written.out ∙ rw (fault, text))
 
 -- A text without a fault that has the entries of the table t, read into slices that hold them.
 module _ (s : List ℕ) (t : Table) (r : Reading) (b b' : Lent) (none : text_fault 256 2048 false s ≡ 0) (same : Same (of_text s) t)
@@ -67,7 +67,7 @@ module _ (s : List ℕ) (t : Table) (r : Reading) (b b' : Lent) (none : text_fau
   fault_none = or_none (text_fault 256 2048 false s) _ none ∙ rw (same.probes, same.links) (room_none t.probes t.links b enough)
 
   back_answer : r ≡ Read t.number t.probes t.links (text_end t)
-  back_answer = reads-answer read ∙ rw (fault_none, same.number, same.probes, same.links)
+  back_answer = reads_answer read ∙ rw (fault_none, same.number, same.probes, same.links)
 
   back_entries : Same (table_of (lent_slices t.number t.probes t.links b')) t
   back_entries =
@@ -88,7 +88,7 @@ pub write_then_read : WriteThenRead
 write_then_read x n b b' out out' r fits write enough read =
     let t = table_of x in
     let fault = write_fault 256 2048 x (length out) in
-    let w = answer_written (eqb fault 0) fault n t (writes-answer write) in
+    let w = answer_written (eqb fault 0) fault n t (writes_answer write) in
     let none = eqb-true fault 0 w.0 in
     let legal = writing_legal x (length out) none in
     let text : take n out' ≡ text_of t = rw (rw none at write.out) (take_at (text_of t) (drop (length (text_of t)) out) n (length_text t ∙ sym w.1)) in

@@ -20,7 +20,7 @@ use Rattle.table_text.proofs.Good.{text_head}
 use Rattle.table_read.specs.Reading.{Lent, reading_fault, filled_of, ReadsTable}
 use Rattle.table_read.specs.declared.Reading.{Reading}
 use Rattle.table_read.specs.declared.Reading.TheVariants.{Table as Read, Refused as Unread}
-use Rattle.table_read.proofs.Answers.{reads-answer, read-text, read_room}
+use Rattle.table_read.proofs.Answers.{reads_answer, read_text, read_room}
 use Rattle.table.specs.Same.{Same}
 use Rattle.table.specs.Slices.{table_of, slices_room_fault, slice_fault}
 use Rattle.table_laws.specs.Functions.{lent_slices, HoldsTable}
@@ -53,7 +53,7 @@ module _ (pmax lmax : ℕ) (more : Bool) (s : List ℕ) (r : Reading) (a b : Len
 
   module _ (none : fault ≡ 0) where
     pub accepted : text_fault pmax lmax more s ≡ 0
-    accepted = read-text pmax lmax more s (length a.needs) (length a.lows) (length a.highs) (length a.costs) none
+    accepted = read_text pmax lmax more s (length a.needs) (length a.lows) (length a.highs) (length a.costs) none
 
     room : HoldsTable t.probes t.links a
     room = room_good _ _ _ _ _ _ (read_room pmax lmax more s (length a.needs) (length a.lows) (length a.highs) (length a.costs) none)
@@ -87,12 +87,12 @@ module _ (pmax lmax : ℕ) (more : Bool) (s : List ℕ) (r : Reading) (a b : Len
 
   pub refusal_is : (refusal : ℕ) → r ≡ Unread refusal → (refusal ≡ fault) × (fault ≡ 0 → ⊥)
   refusal_is refusal e =
-      let n = answer_unread (eqb fault 0) fault refusal t (sym e ∙ reads-answer read) in
+      let n = answer_unread (eqb fault 0) fault refusal t (sym e ∙ reads_answer read) in
       (n.1, eqb-false fault 0 n.0)
 
   module _ (number probes links rest : ℕ) (e : r ≡ Read number probes links rest) where
     said : (eqb fault 0 ≡ true) × (number ≡ t.number) × (probes ≡ t.probes) × (links ≡ t.links) × (rest ≡ text_end t)
-    said = answer_read (eqb fault 0) fault number probes links rest t (sym e ∙ reads-answer read)
+    said = answer_read (eqb fault 0) fault number probes links rest t (sym e ∙ reads_answer read)
 
     pub read_none : fault ≡ 0
     read_none = eqb-true fault 0 said.0

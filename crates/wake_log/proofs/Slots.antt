@@ -13,7 +13,7 @@ use Rattle.wake_log.specs.declared.Slot.{Slot}
 use Rattle.wake_log.specs.declared.Slot.TheVariants.{Used, Unused}
 use Rattle.wake_log.specs.Log.{no_entry, is_used, slot_of, slot_reply, slot_values}
 use Rattle.wake_log.specs.Entry.{entry_values}
-use Rattle.wake_log.proofs.Answers.{entry-is}
+use Rattle.wake_log.proofs.Answers.{entry_is}
 
 pub slot_used : (log : List Entry) (used i : ℕ) → i < used → i < length log → slot_of log used i ≡ Used (get_or log i no_entry)
 slot_used log used i u l = rw (lt-ltb i used u, lt-ltb i (length log) l) refl
@@ -46,7 +46,7 @@ pub slot_is : (r : Slot) (log : List Entry) (used i : ℕ) → slot_reply r ≡ 
 slot_is r log used i e = go r (is_used (length log) used i) e
   where
     go : (r : Slot) (b : Bool) → slot_reply r ≡ values (cond b (entry_values (get_or log i no_entry)) []) → r ≡ cond b (Used (get_or log i no_entry)) Unused
-    go (Used d) true e = ap Used (entry-is d (get_or log i no_entry) (cc))
+    go (Used d) true e = ap Used (entry_is d (get_or log i no_entry) (cc))
     go (Used d) false e = let z : ◌≡◌ {A = ℕ} 0 1 = cc in absurd (omega arith)
     go Unused true e = let z : ◌≡◌ {A = ℕ} 0 1 = cc in absurd (omega arith)
     go Unused false e = refl

@@ -1,8 +1,8 @@
 use Rattle.table.specs.Slices.{slices_of}
-use Rattle.plan_exports.proofs.Answers.{slse-packed}
+use Rattle.plan_exports.proofs.Answers.{slse_packed}
 use Rattle.plan_exports.proofs.planner_plan_slse.Goals as goal
 
 pub returns : goal.returns
 returns c =
     let a = c.args in
-    slse-packed 256 2048 (slices_of a.number a.probes a.links a.needs.now a.lows.now a.highs.now a.costs.now) _ _ a.plan.now _ c.plan_by_slse.ensures c.packed_planning.ensures
+    slse_packed 256 2048 (slices_of a.number a.probes a.links a.needs.now a.lows.now a.highs.now a.costs.now) _ _ a.plan.now _ c.plan_by_slse.ensures c.packed_planning.ensures

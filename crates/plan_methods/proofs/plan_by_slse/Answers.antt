@@ -4,13 +4,13 @@ use mathlib.Core.Path.{sym, ◌∙◌}
 use native.Mathlib.Omega.{arith}
 use lib.ListN.{length, length-replicate}
 use Rattle.table.specs.Table.{of_slices}
-use Rattle.plan_methods.proofs.Answers.{plans-refused, slse-ready, few, legal}
+use Rattle.plan_methods.proofs.Answers.{plans_refused, slse_ready, few, legal}
 use Rattle.plan_methods.proofs.plan_by_slse.Goals as goal
 
 pub returns-then-fault-ne0 : goal.returns-then-fault-ne0
 returns-then-fault-ne0 c =
     let a = c.args in
-    plans-refused _ _ (of_slices a.number a.probes a.links a.needs.now a.lows.now a.highs.now a.costs.now) a.plan.now c.plan_fault-fault.ensures c.if-fault-ne0.true
+    plans_refused _ _ (of_slices a.number a.probes a.links a.needs.now a.lows.now a.highs.now a.costs.now) a.plan.now c.plan_fault-fault.ensures c.if-fault-ne0.true
 
 pub slse_answer-requires : goal.slse_answer-requires
 slse_answer-requires c =
@@ -18,7 +18,7 @@ slse_answer-requires c =
     let e = sym c.plan_fault-fault.ensures ∙ c.if-fault-ne0.false in
     let l = length-replicate {A = ℕ} 2048 0 in
     let p = length-replicate {A = ℕ} 256 0 in
-    slse-ready 256 2048 a.probes a.links a.needs.now a.lows.now a.highs.now a.costs.now (length a.plan.now) (omega arith) (omega arith) e _ _ _ _ (omega arith) (omega arith) (omega arith, omega arith) (omega arith)
+    slse_ready 256 2048 a.probes a.links a.needs.now a.lows.now a.highs.now a.costs.now (length a.plan.now) (omega arith) (omega arith) e _ _ _ _ (omega arith) (omega arith) (omega arith, omega arith) (omega arith)
 
 pub returns : goal.returns
 returns c =

@@ -10,7 +10,7 @@ use Rattle.probe_maps.specs.Maps.{Maps, AllWords, rows, state_fault}
 use Rattle.probe_maps.specs.GoodMaps.{GoodMaps}
 use Rattle.probe_checks.specs.Checks.{own_link_fault, link_call_fault}
 use Rattle.probe_checks.proofs.Accepted.{state_parts, link_parts}
-use Rattle.probe.proofs.Calls.{good_state, asked_bit}
+use Rattle.probe.proofs.Calls.{good_state, asked_bit_lem}
 use Rattle.probe.proofs.ask.Goals as goal
 
 pub returns-then-out-lt15 : goal.returns-then-out-lt15
@@ -67,7 +67,7 @@ returns-then-not-is_sendable c =
     let good : (none : c.link_call_fault-fault.result ≡ 0) → (slices_fault x ≡ 0) × GoodMaps (table_of x) c.args.probe m = λ none. good_state x c.args.probe m words (parts none).0 in
     let room = c.if-out-lt15.false in
     let none = c.if-fault-ne0.false in
-    let may = sym (asked_bit (table_of x) _ m (good none).1 c.args.kind c.args.link) ∙ sym c.is_sendable.ensures ∙ not-true _ c.if-not-is_sendable.true-raw in
+    let may = sym (asked_bit_lem (table_of x) _ m (good none).1 c.args.kind c.args.link) ∙ sym c.is_sendable.ensures ∙ not-true _ c.if-not-is_sendable.true-raw in
     record { answer = rw (le-ltb _ _ room, ← is-fault, eq-eqb _ _ none, may); line = rw (le-ltb _ _ room, ← is-fault, eq-eqb _ _ none, may) }
 
 pub other-to-requires : goal.other-to-requires
@@ -108,5 +108,5 @@ returns c =
     let none = c.if-fault-ne0.false in
     let room = c.if-out-lt15.false in
     let w = rw (c.kind_of.ensures, c.other-to.ensures) at c.write_frame.ensures in
-    let may = sym (asked_bit (table_of x) _ m (good none).1 c.args.kind c.args.link) ∙ sym c.is_sendable.ensures ∙ not-false _ c.if-not-is_sendable.false-raw in
+    let may = sym (asked_bit_lem (table_of x) _ m (good none).1 c.args.kind c.args.link) ∙ sym c.is_sendable.ensures ∙ not-false _ c.if-not-is_sendable.false-raw in
     record { answer = rw (le-ltb _ _ room, ← is-fault, eq-eqb _ _ none, may); line = rw (le-ltb _ _ room, ← is-fault, eq-eqb _ _ none, may) w }

@@ -3,10 +3,10 @@ use Rattle.table.specs.Table.{of_slices}
 use Rattle.probe_maps.specs.Maps.{rows}
 use Rattle.probe_frame.specs.Frame.{frame_of}
 use Rattle.probe_rules.specs.Frames.{heard_of}
-use Rattle.probe_exports.proofs.Answers.{logged-packed}
+use Rattle.probe_exports.proofs.Answers.{logged_packed}
 use Rattle.probe_exports.proofs.planner_probe_hear_logged.Goals as goal
 
 pub returns : goal.returns
 returns c =
     let a = c.args in
-    logged-packed _ (of_slices a.number a.probes a.links a.needs.now a.lows.now a.highs.now a.costs.now) a.probe (heard_of (of_slices a.number a.probes a.links a.needs.now a.lows.now a.highs.now a.costs.now) (frame_of a.frame.now)) _ _ (rows a.standing.now a.refused_out.now a.held.now a.refused_in.now) _ a.used a.log.now _ (rw c.free.ensures at c.hear-answer.ensures) c.store.ensures
+    logged_packed _ (of_slices a.number a.probes a.links a.needs.now a.lows.now a.highs.now a.costs.now) a.probe (heard_of (of_slices a.number a.probes a.links a.needs.now a.lows.now a.highs.now a.costs.now) (frame_of a.frame.now)) _ _ (rows a.standing.now a.refused_out.now a.held.now a.refused_in.now) _ a.used a.log.now _ (rw c.free.ensures at c.hear-answer.ensures) c.store.ensures

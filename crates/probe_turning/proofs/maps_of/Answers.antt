@@ -7,15 +7,15 @@ use Rattle.table.proofs.Slices.{legal_slices}
 use Rattle.probe_maps.specs.Maps.{Maps, rows}
 use Rattle.probe_maps.proofs.Rounds.{rows_same}
 use Rattle.probe_turning.proofs.Laws.{out_filled, in_filled}
-use Rattle.probe_turning.proofs.Answers.{maps-refused, maps-turned, room-standing, room-refused-out, room-held, room-refused-in}
+use Rattle.probe_turning.proofs.Answers.{maps_refused, maps_turned, room_standing, room_refused_out, room_held, room_refused_in}
 use Rattle.probe_turning.proofs.maps_of.Goals as goal
 
 pub returns-then-room-ne0 : goal.returns-then-room-ne0
-returns-then-room-ne0 c = maps-refused _ _ _ _ _ (or_here _ _ _ c.rows_fault-room.ensures c.if-room-ne0.true) c.if-room-ne0.true
+returns-then-room-ne0 c = maps_refused _ _ _ _ _ (or_here _ _ _ c.rows_fault-room.ensures c.if-room-ne0.true) c.if-room-ne0.true
 
 pub returns-then-fault-ne0 : goal.returns-then-fault-ne0
 returns-then-fault-ne0 c =
-    maps-refused _ _ _ _ _
+    maps_refused _ _ _ _ _
     (or_next _ _ _ _ c.rows_fault-room.ensures c.if-room-ne0.false (or_here _ _ _ c.slice_fault-fault.ensures c.if-fault-ne0.true))
     c.if-fault-ne0.true
 
@@ -28,7 +28,7 @@ record_fault-bad-requires c =
 
 pub returns-then-bad-ne0 : goal.returns-then-bad-ne0
 returns-then-bad-ne0 c =
-    maps-refused _ _ _ _ _
+    maps_refused _ _ _ _ _
     (or_next _ _ _ _ c.rows_fault-room.ensures c.if-room-ne0.false
     (or_next _ _ _ _ c.slice_fault-fault.ensures c.if-fault-ne0.false c.record_fault-bad.ensures))
     c.if-bad-ne0.true
@@ -37,25 +37,25 @@ pub fill-requires : goal.fill-requires
 fill-requires c =
     let a = c.args in
     let out : Maps = rows a.standing.now a.refused_out.now a.held.now a.refused_in.now in
-    (search rules, search rules, search rules, room-standing a.links out (sym c.rows_fault-room.ensures ∙ c.if-room-ne0.false))
+    (search rules, search rules, search rules, room_standing a.links out (sym c.rows_fault-room.ensures ∙ c.if-room-ne0.false))
 
 pub fill-requires-2 : goal.fill-requires-2
 fill-requires-2 c =
     let a = c.args in
     let out : Maps = rows a.standing.now a.refused_out.now a.held.now a.refused_in.now in
-    (search rules, search rules, omega (arith, c.ranges.links), room-refused-out a.links out (sym c.rows_fault-room.ensures ∙ c.if-room-ne0.false))
+    (search rules, search rules, omega (arith, c.ranges.links), room_refused_out a.links out (sym c.rows_fault-room.ensures ∙ c.if-room-ne0.false))
 
 pub fill-requires-3 : goal.fill-requires-3
 fill-requires-3 c =
     let a = c.args in
     let out : Maps = rows a.standing.now a.refused_out.now a.held.now a.refused_in.now in
-    (search rules, search rules, omega (arith, c.ranges.links), room-held a.links out (sym c.rows_fault-room.ensures ∙ c.if-room-ne0.false))
+    (search rules, search rules, omega (arith, c.ranges.links), room_held a.links out (sym c.rows_fault-room.ensures ∙ c.if-room-ne0.false))
 
 pub fill-requires-4 : goal.fill-requires-4
 fill-requires-4 c =
     let a = c.args in
     let out : Maps = rows a.standing.now a.refused_out.now a.held.now a.refused_in.now in
-    (search rules, search rules, omega (arith, c.ranges.links), room-refused-in a.links out (sym c.rows_fault-room.ensures ∙ c.if-room-ne0.false))
+    (search rules, search rules, omega (arith, c.ranges.links), room_refused_in a.links out (sym c.rows_fault-room.ensures ∙ c.if-room-ne0.false))
 
 pub returns : goal.returns
 returns c =
@@ -67,7 +67,7 @@ returns c =
     or_next _ _ _ _ c.rows_fault-room.ensures c.if-room-ne0.false
     (or_next _ _ _ _ c.slice_fault-fault.ensures c.if-fault-ne0.false c.record_fault-bad.ensures)
     in
-    maps-turned x a.probe e out _ (sym bad ∙ c.if-bad-ne0.false)
+    maps_turned x a.probe e out _ (sym bad ∙ c.if-bad-ne0.false)
     (rows_same (out_filled e 1 a.links a.standing.now _ c.fill.ensures)
     (out_filled e 2 a.links a.refused_out.now _ c.fill-2.ensures)
     (in_filled e 1 a.links a.held.now _ c.fill-3.ensures)

@@ -1,7 +1,7 @@
 use borrow.Author.Rules.{rules}
 use native.Mathlib.Omega.{arith}
 use Rattle.output.proofs.Printing.{printed_within}
-use Rattle.packed_answers.proofs.Answers.{prints-packed}
+use Rattle.packed_answers.proofs.Answers.{prints_packed}
 use Rattle.script_exports.proofs.planner_script_text.Goals as goal
 
 pub packed_output-requires : goal.packed_output-requires
@@ -13,4 +13,4 @@ packed_output-requires c =
 
 pub returns : goal.returns
 returns c =
-    prints-packed _ _ _ _ _ _ c.script_text.ensures c.packed_output.ensures
+    prints_packed _ _ _ _ _ _ c.script_text.ensures c.packed_output.ensures

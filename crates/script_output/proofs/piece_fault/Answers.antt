@@ -16,7 +16,7 @@ use Rattle.script_lines.proofs.Fitting.{capped_least, capped_within}
 use Rattle.script_theory.specs.Script.{after_piece}
 use Rattle.script_steps.specs.Within.{under_way}
 use Rattle.script_steps.proofs.PieceLaws.{piece_short}
-use Rattle.script_output.proofs.Answers.{fault-site, fault-short}
+use Rattle.script_output.proofs.Answers.{fault_site, fault_short}
 use Rattle.script_output.proofs.piece_fault.Goals as goal
 
 pub returns-then-line-lt16 : goal.returns-then-line-lt16
@@ -30,7 +30,7 @@ returns-then-fault-ne0 c =
     let a = c.args in
     let x = slices_of a.number a.probes a.links a.needs.now a.lows.now a.highs.now a.costs.now in
     let f = state_is a.number a.probes a.links a.needs.now a.lows.now a.highs.now a.costs.now 0 0 [] a.rec.now _ c.state_fault-fault.ensures.0 in
-    (fault-site x (under_way a.begun a.rec.now a.line.now) a.piece.now (length a.line.now) a.room _ c.if-line-lt16.false f c.if-fault-ne0.true, λ z. absurd (c.if-fault-ne0.true z))
+    (fault_site x (under_way a.begun a.rec.now a.line.now) a.piece.now (length a.line.now) a.room _ c.if-line-lt16.false f c.if-fault-ne0.true, λ z. absurd (c.if-fault-ne0.true z))
 
 pub returns-then-begun-piece : goal.returns-then-begun-piece
 returns-then-begun-piece c =
@@ -42,7 +42,7 @@ returns-then-begun-piece c =
     let n = length-take-le a.begun.held a.line.now (omega (arith, c.requires.0, c.if-line-lt16.false)) in
     let m = piece_short x 1024 p a.piece.now in
     let fits : length printed ≤ a.room = omega (arith, c.if-begun-piece.true) in
-    (fault-short x p a.piece.now (length a.line.now) a.room _ c.if-line-lt16.false f 0 c.if-fault-ne0.false (sym (long_enough a.room printed fits)), λ z. c.state_fault-fault.ensures.1 c.if-fault-ne0.false)
+    (fault_short x p a.piece.now (length a.line.now) a.room _ c.if-line-lt16.false f 0 c.if-fault-ne0.false (sym (long_enough a.room printed fits)), λ z. c.state_fault-fault.ensures.1 c.if-fault-ne0.false)
 
 pub count_piece-length-requires : goal.count_piece-length-requires
 count_piece-length-requires c =
@@ -63,7 +63,7 @@ returns-then-room-length c =
     let p = under_way a.begun a.rec.now a.line.now in
     let printed = (after_piece x 1024 p a.piece.now).out in
     let n = capped_least (length printed) in
-    (fault-short x p a.piece.now (length a.line.now) a.room _ c.if-line-lt16.false f 8 c.if-fault-ne0.false (too_short a.room printed (omega (arith, c.if-room-length.true, c.count_piece-length.ensures))), λ z. absurd (omega (arith, z)))
+    (fault_short x p a.piece.now (length a.line.now) a.room _ c.if-line-lt16.false f 8 c.if-fault-ne0.false (too_short a.room printed (omega (arith, c.if-room-length.true, c.count_piece-length.ensures))), λ z. absurd (omega (arith, z)))
 
 pub returns : goal.returns
 returns c =
@@ -73,4 +73,4 @@ returns c =
     let p = under_way a.begun a.rec.now a.line.now in
     let printed = (after_piece x 1024 p a.piece.now).out in
     let fits = capped_within (length printed) a.room c.requires.1 (omega (arith, c.if-room-length.false, c.count_piece-length.ensures)) in
-    (fault-short x p a.piece.now (length a.line.now) a.room _ c.if-line-lt16.false f 0 c.if-fault-ne0.false (sym (long_enough a.room printed fits)), λ z. c.state_fault-fault.ensures.1 c.if-fault-ne0.false)
+    (fault_short x p a.piece.now (length a.line.now) a.room _ c.if-line-lt16.false f 0 c.if-fault-ne0.false (sym (long_enough a.room printed fits)), λ z. c.state_fault-fault.ensures.1 c.if-fault-ne0.false)

@@ -5,7 +5,7 @@ use lib.ListN.{length}
 use Rattle.table.specs.Table.{of_slices}
 use Rattle.table.proofs.Faults.{room_good}
 use Rattle.plan_slse.proofs.Turns.{size}
-use Rattle.plan_methods.proofs.Answers.{plans-made, numbered}
+use Rattle.plan_methods.proofs.Answers.{plans_made, numbered}
 use Rattle.plan_methods.proofs.limited.slse_answer.Goals as goal
 
 pub slse_plan-requires : goal.slse_plan-requires
@@ -26,4 +26,4 @@ returns c =
     let a = c.args in
     let p = c.requires in
     let plan = numbered number probes a.links a.needs.now a.lows.now a.highs.now a.costs.now a.plan.now _ (c.slse_plan.ensures probes wide legal) in
-    plans-made 0 (of_slices number probes a.links a.needs.now a.lows.now a.highs.now a.costs.now) _ a.plan.now _ refl p.in_plan plan c.answer.ensures
+    plans_made 0 (of_slices number probes a.links a.needs.now a.lows.now a.highs.now a.costs.now) _ a.plan.now _ refl p.in_plan plan c.answer.ensures

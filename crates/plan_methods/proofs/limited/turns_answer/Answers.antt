@@ -5,7 +5,7 @@ use lib.ListN.{length}
 use Rattle.table.specs.Table.{of_slices}
 use Rattle.table.proofs.Faults.{room_good}
 use Rattle.plan_slse.proofs.Turns.{size}
-use Rattle.plan_methods.proofs.Answers.{plans-made, turns-made, numbered}
+use Rattle.plan_methods.proofs.Answers.{plans_made, turns_made, numbered}
 use Rattle.plan_methods.proofs.limited.turns_answer.Goals as goal
 
 pub by_turns-requires : goal.by_turns-requires
@@ -31,4 +31,4 @@ returns c =
     let t = of_slices number a.probes a.links a.needs.now a.lows.now a.highs.now a.costs.now in
     let b = c.by_turns in
     let plan = numbered number a.probes a.links a.needs.now a.lows.now a.highs.now a.costs.now a.plan.now _ b.ensures.plan_after in
-    turns-made 0 t _ a.plan.now _ a.work.now _ refl (plans-made 0 t _ a.plan.now _ refl p.2 plan c.answer.ensures) b.ensures.work_after
+    turns_made 0 t _ a.plan.now _ a.work.now _ refl (plans_made 0 t _ a.plan.now _ refl p.2 plan c.answer.ensures) b.ensures.work_after

@@ -5,20 +5,20 @@ use lib.ListN.{length}
 use Rattle.range.proofs.Faults.{or_left}
 use Rattle.table.specs.Text.{link_start}
 use Rattle.table.proofs.Faults.{room_good}
-use Rattle.table_write.proofs.Answers.{room_short, room_enough, writes-refused, writes-text}
+use Rattle.table_write.proofs.Answers.{room_short, room_enough, writes_refused, writes_text}
 use Rattle.table_write.proofs.limited.write_limited.Goals as goal
 
 pub returns-then-out-end : goal.returns-then-out-end
 returns-then-out-end c =
     let a = c.args in
     let short : length a.out.now < link_start a.probes a.links + 5 = omega (arith, c.text_end-end.ensures, c.if-out-end.true) in
-    writes-refused _ _ 8 _ (room_short _ _ _ short) (λ z. omega arith)
+    writes_refused _ _ 8 _ (room_short _ _ _ short) (λ z. omega arith)
 
 pub returns-then-fault-ne0 : goal.returns-then-fault-ne0
 returns-then-fault-ne0 c =
     let a = c.args in
     let enough : link_start a.probes a.links + 5 ≤ length a.out.now = omega (arith, c.text_end-end.ensures, c.if-out-end.false) in
-    writes-refused _ _ _ _ (c.slice_fault-fault.ensures ∙ sym (room_enough _ _ _ enough)) c.if-fault-ne0.true
+    writes_refused _ _ _ _ (c.slice_fault-fault.ensures ∙ sym (room_enough _ _ _ enough)) c.if-fault-ne0.true
 
 pub put_table-requires : goal.put_table-requires
 put_table-requires c =
@@ -32,4 +32,4 @@ returns c =
     let a = c.args in
     let e = c.text_end-end.ensures in
     let enough : link_start a.probes a.links + 5 ≤ length a.out.now = omega (arith, e, c.if-out-end.false) in
-    rw e (writes-text _ _ _ _ (room_enough _ _ _ enough ∙ sym c.slice_fault-fault.ensures ∙ c.if-fault-ne0.false) enough c.put_table.ensures)
+    rw e (writes_text _ _ _ _ (room_enough _ _ _ enough ∙ sym c.slice_fault-fault.ensures ∙ c.if-fault-ne0.false) enough c.put_table.ensures)
