@@ -78,9 +78,10 @@ returns-then-room-used c =
     let a = c.args in
     unsent_is a.number a.probes a.links a.needs.now a.lows.now a.highs.now a.costs.now a.used a.room a.line.now a.rec.now _ _ _
     says.event says.from (line_within t a.line.now passed) (c.unsent_fault-unsent.ensures a.links)) in
+    let sent : c.unsent_fault-unsent.result ≡ 0 = omega arith in
     let p = c.requires in
     let a = c.args in
-    full_refused a.number a.probes a.links a.needs.now a.lows.now a.highs.now a.costs.now a.used a.room a.line.now a.rec.now p.0 p.1 passed (sym unsent ∙ c.if-unsent-ne0.false) c.if-room-used.true
+    full_refused a.number a.probes a.links a.needs.now a.lows.now a.highs.now a.costs.now a.used a.room a.line.now a.rec.now p.0 p.1 passed (sym unsent ∙ sent) c.if-room-used.true
 
 pub overflow_cast-frame : goal.overflow_cast-frame
 overflow_cast-frame c =

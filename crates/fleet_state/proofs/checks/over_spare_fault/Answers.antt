@@ -1,9 +1,10 @@
 use borrow.Author.Rules.{rules}
-use Prim.Native.Nat.{ℕ}
+use Prim.Native.Nat.{ℕ, ◌≤◌}
 use mathlib.Core.Path.{◌≡◌, refl, sym, ◌∙◌}
 use native.Mathlib.Omega.{arith}
 use borrow.Author.Tests.{lt-ltb, le-ltb}
 use Rattle.range.specs.First.{first}
+use Rattle.table.specs.Table.{item}
 use Rattle.range.proofs.Faults.{first_none, first_some}
 use Rattle.fleet_state.proofs.checks.over_spare_fault.Invariants.{fault}
 use Rattle.fleet_state.proofs.checks.over_spare_fault.Goals as goal
@@ -40,7 +41,9 @@ pub loop-v-preserved : goal.loop-v-preserved
 loop-v-preserved c =
     let l = c.loop-v in
     let a = c.args in
-    (search rules, first_none (fault a.needs.now a.degrees.now a.standing.now a.held.now) l.v l.invariant.1 (rw (← c.spare_at-spare.ensures, le-ltb _ _ c.if-spare-standing.false, le-ltb _ _ c.if-spare-held.false)))
+    let stands : item a.standing.now l.v ≤ c.spare_at-spare.result = omega arith in
+    let holds : item a.held.now l.v ≤ c.spare_at-spare.result = omega arith in
+    (search rules, first_none (fault a.needs.now a.degrees.now a.standing.now a.held.now) l.v l.invariant.1 (rw (← c.spare_at-spare.ensures, le-ltb _ _ stands, le-ltb _ _ holds)))
 
 pub returns : goal.returns
 returns c =

@@ -35,7 +35,7 @@ read_frames-fault-requires c =
     let ls : List (List ℕ) = frames_of c.args.bag.now in
     let few : c.count_frames-count.result ≤ 64 → length ls ≤ 64 = λ l. (count_few (length ls) c.count_frames-count.result c.count_frames-count.ensures l).0 in
     let z = c.requires.0 c.if-state-ne0.false in
-    (z.0, z.1, few c.if-count-gt64.false, c.requires.1)
+    (z.0, z.1, few (omega arith), c.requires.1)
 
 pub returns-then-fault-ne0 : goal.returns-then-fault-ne0
 returns-then-fault-ne0 c =
@@ -43,7 +43,7 @@ returns-then-fault-ne0 c =
     let whole : Table = let a = c.args in of_slices a.number a.probes a.links [] a.lows.now a.highs.now [] in
     let few : c.count_frames-count.result ≤ 64 → length ls ≤ 64 = λ l. (count_few (length ls) c.count_frames-count.result c.count_frames-count.ensures l).0 in
     let none : c.args.state ≡ 0 = c.if-state-ne0.false in
-    let few-read : length ls ≤ 64 = few c.if-count-gt64.false in
+    let few-read : length ls ≤ 64 = few (omega arith) in
     let fault_is : c.read_frames-fault.result ≡ frames_fault whole c.args.probe ls = (
     let a = c.args in
     c.read_frames-fault.ensures.0 ∙ faults_same a.number a.links a.lows.now a.highs.now 0 a.probes [] [] [] [] a.probe ls) in
@@ -56,7 +56,7 @@ returns-then-probes-probe c =
     let whole : Table = let a = c.args in of_slices a.number a.probes a.links [] a.lows.now a.highs.now [] in
     let few : c.count_frames-count.result ≤ 64 → length ls ≤ 64 = λ l. (count_few (length ls) c.count_frames-count.result c.count_frames-count.ensures l).0 in
     let none : c.args.state ≡ 0 = c.if-state-ne0.false in
-    let few-read : length ls ≤ 64 = few c.if-count-gt64.false in
+    let few-read : length ls ≤ 64 = few (omega arith) in
     let fault_is : c.read_frames-fault.result ≡ frames_fault whole c.args.probe ls = (
     let a = c.args in
     c.read_frames-fault.ensures.0 ∙ faults_same a.number a.links a.lows.now a.highs.now 0 a.probes [] [] [] [] a.probe ls) in
@@ -69,8 +69,8 @@ returns-then-free-count c =
     let whole : Table = let a = c.args in of_slices a.number a.probes a.links [] a.lows.now a.highs.now [] in
     let few : c.count_frames-count.result ≤ 64 → length ls ≤ 64 = λ l. (count_few (length ls) c.count_frames-count.result c.count_frames-count.ensures l).0 in
     let none : c.args.state ≡ 0 = c.if-state-ne0.false in
-    let few-read : length ls ≤ 64 = few c.if-count-gt64.false in
-    let count-is : c.count_frames-count.result ≡ length ls = (count_few (length ls) c.count_frames-count.result c.count_frames-count.ensures c.if-count-gt64.false).1 in
+    let few-read : length ls ≤ 64 = few (omega arith) in
+    let count-is : c.count_frames-count.result ≡ length ls = (count_few (length ls) c.count_frames-count.result c.count_frames-count.ensures (omega arith)).1 in
     let fault_is : c.read_frames-fault.result ≡ frames_fault whole c.args.probe ls = (
     let a = c.args in
     c.read_frames-fault.ensures.0 ∙ faults_same a.number a.links a.lows.now a.highs.now 0 a.probes [] [] [] [] a.probe ls) in
@@ -84,8 +84,8 @@ returns c =
     let whole : Table = let a = c.args in of_slices a.number a.probes a.links [] a.lows.now a.highs.now [] in
     let few : c.count_frames-count.result ≤ 64 → length ls ≤ 64 = λ l. (count_few (length ls) c.count_frames-count.result c.count_frames-count.ensures l).0 in
     let none : c.args.state ≡ 0 = c.if-state-ne0.false in
-    let few-read : length ls ≤ 64 = few c.if-count-gt64.false in
-    let count-is : c.count_frames-count.result ≡ length ls = (count_few (length ls) c.count_frames-count.result c.count_frames-count.ensures c.if-count-gt64.false).1 in
+    let few-read : length ls ≤ 64 = few (omega arith) in
+    let count-is : c.count_frames-count.result ≡ length ls = (count_few (length ls) c.count_frames-count.result c.count_frames-count.ensures (omega arith)).1 in
     let fault_is : c.read_frames-fault.result ≡ frames_fault whole c.args.probe ls = (
     let a = c.args in
     c.read_frames-fault.ensures.0 ∙ faults_same a.number a.links a.lows.now a.highs.now 0 a.probes [] [] [] [] a.probe ls) in
