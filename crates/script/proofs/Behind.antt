@@ -1,7 +1,7 @@
 -- What is written behind a table's own text is what the whole input prints.
 use Rattle.std.proofs.Common.{◌≡◌, ℕ, ◌<◌, List, ◌++◌, Some, None, Option, length, take, drop, true, sym, ◌∙◌, ap, subst, append-nil}
 use Rattle.std.proofs.Math.Seq.{take-append_seam}
-use Rattle.std.specs.Io.KnownBytes.{Consumes, Appends}
+use Rattle.std.specs.Io.KnownBytes.{Appends}
 use Rattle.std.proofs.KnownBytes.{Appends-trans}
 use Rattle.output.specs.Output.{refusal_line, Prints}
 use Rattle.output.specs.declared.Output.TheVariants.{Length}

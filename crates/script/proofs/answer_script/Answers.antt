@@ -1,4 +1,4 @@
-use Rattle.std.proofs.Common.{rules, ◌≡◌, ℕ, ◌≤◌, List, arith, length, replicate}
+use Rattle.std.proofs.Common.{rules, ◌≡◌, ℕ, List, arith, length, replicate}
 use Rattle.range.proofs.Lists.{zeros_at}
 use Rattle.table.specs.Slices.{slices_of}
 use Rattle.table.proofs.Slices.{legal_slices}
