@@ -3,8 +3,7 @@
 use planner_tests::repository::top;
 use std::fs;
 
-/// The functions that both callers' calls go through, by library, and that the compiler leaves whole:
-/// offers by turn stand in `turns_answer`.
+/// The functions that both callers' calls go through, by library.
 const CORE: [(&str, &[&str]); 2] = [
     (
         "libtable_exports.a",
@@ -20,10 +19,14 @@ const CORE: [(&str, &[&str]); 2] = [
             "plan_order::sorting::pass",
             "plan_methods::limited::slse_plan",
             "plan_methods::limited::turns_answer",
+            TAKEN_IN,
             "plan_output::text::print_plan",
         ],
     ),
 ];
+
+/// One that the compiler may take into its only caller: then it has no section of its own.
+const TAKEN_IN: &str = "plan_turns::offers::make_offer";
 
 /// The library's copies of a function, by the sections that have its name.
 fn copies(library: &[u8], name: &str) -> usize {
@@ -42,7 +45,9 @@ fn stands_once() {
         let path = top().join("target/staticlib").join(file);
         let library = fs::read(&path).expect("a built library");
         for name in names {
-            assert_eq!(copies(&library, name), 1, "{name} in {file}");
+            let copies = copies(&library, name);
+            let none = copies == 0 && *name == TAKEN_IN;
+            assert!(copies == 1 || none, "{name} in {file}: {copies}");
         }
     }
 }
