@@ -1,3 +1,4 @@
+use mathlib.Core.Path.{◌≡◌}
 use native.Mathlib.Omega.{arith}
 use borrow.Author.Tests.{eq-eqb, ne_eqb}
 use Rattle.table.proofs.Lengths.{length_triple}
@@ -11,13 +12,15 @@ returns-then-byte-ne1 c =
 pub put_triple-requires : goal.put_triple-requires
 put_triple-requires c =
     let a = c.args in
-    let p = rw (eq-eqb a.byte 1 c.if-byte-ne1.false) at c.requires in
+    let one : a.byte ≡ 1 = omega arith in
+    let p = rw (eq-eqb a.byte 1 one) at c.requires in
     let l = length_triple a.low a.high a.cost in
     omega arith
 
 pub returns : goal.returns
 returns c =
     let a = c.args in
-    let n = eq-eqb a.byte 1 c.if-byte-ne1.false in
+    let one : a.byte ≡ 1 = omega arith in
+    let n = eq-eqb a.byte 1 one in
     let l = length_triple a.low a.high a.cost in
     (rw n c.put_triple.ensures, rw n (omega arith))

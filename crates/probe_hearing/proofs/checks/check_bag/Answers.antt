@@ -92,4 +92,4 @@ returns c =
     let a = c.args in
     let z = c.if-fault-ne0.false in
     let n = count-is in
-    (fault_of_none a.state whole a.probe ls a.free none few-read (sym fault_is ∙ z) c.if-probes-probe.false (omega (arith, n, c.if-free-count.false)), (λ f. (n, c.read_frames-fault.ensures.1 z ∙ ap (λ (vs : List Event). sets a.said.now 0 (map packed_event vs)) (events_same a.number a.links a.lows.now a.highs.now 0 a.probes [] [] [] [] ls))))
+    (fault_of_none a.state whole a.probe ls a.free none few-read (sym fault_is ∙ z) c.if-probes-probe.false (omega (arith, n)), (λ f. (n, c.read_frames-fault.ensures.1 z ∙ ap (λ (vs : List Event). sets a.said.now 0 (map packed_event vs)) (events_same a.number a.links a.lows.now a.highs.now 0 a.probes [] [] [] [] ls))))

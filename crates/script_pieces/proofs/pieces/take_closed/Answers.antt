@@ -17,7 +17,7 @@ take_lines-behind-requires c =
     let e = c.take_shared-first.ensures in
     let a = c.args in
     let x = slices_of a.number a.probes a.links a.needs.now a.lows.now a.highs.now a.costs.now in
-    (c.requires.0, still_usable x (under_way a.progress a.rec.now a.line.now) _ 0 _ _ _ _ _ c.requires.0 c.requires.1 e.2, c.requires.2, c.requires.3, c.if-p-ne0.false, at_most _ 0 _ _ _ _ _ e.2)
+    (c.requires.0, still_usable x (under_way a.progress a.rec.now a.line.now) _ 0 _ _ _ _ _ c.requires.0 c.requires.1 e.2, c.requires.2, c.requires.3, omega arith, at_most _ 0 _ _ _ _ _ e.2)
 
 pub overflow_add-result : goal.overflow_add-result
 overflow_add-result c =
