@@ -84,13 +84,6 @@ module _ (number probes links : ℕ) (needs lows highs costs : List ℕ) (used r
   abbrev unsent : ℕ
   unsent = unsent_fault (event_of t f) (marks t f.from r)
 
-  -- the faults of table and record, as the code finds them
-  pub state_is : (n : ℕ)
-      → n ≡ or_else (slice_fault 256 2048 (slices_of 0 probes links needs lows highs costs)) (fleet_fault (of_slices 0 probes links needs lows highs costs) r)
-      → n ≡ or_else (slices_fault x) (fleet_fault t r)
-  state_is n e =
-      e ∙ ap (or_else (slices_fault x)) (sym (fleet_same 0 probes links needs lows highs costs r) ∙ fleet_same number probes links needs lows highs costs r)
-
   pub state_refused : (n : ℕ) → n ≡ or_else (slices_fault x) (fleet_fault t r) → (n ≡ 0 → ⊥) → Handled x used room line (Refused n) r r
   state_refused n e some =
       refused_call x used room line r n
@@ -131,38 +124,17 @@ module _ (number probes links : ℕ) (needs lows highs costs : List ℕ) (used r
 
         -- by the kind k, the probe p and the event v that the code found
         pub line_accepted : used < room → (k p : ℕ) (v : Event) → k ≡ f.kind → p ≡ f.to → v ≡ event_of t f → (e : Entry) (r' : List ℕ)
-            → (let t₀ = of_slices 0 0 links needs lows highs costs in
-            let o = befalls t₀ p v (own t₀ p r) in
-            (e ≡ cond (eqb k 3) (record { probe = p; what = Restarted }) (entry_of t₀ p o)) × (r' ≡ cond (eqb k 3) (wiped t₀ p r) (alter_fleet t₀ p o r)))
+            → (let o = befalls t p v (own t p r) in
+            (e ≡ cond (eqb k 3) (record { probe = p; what = Restarted }) (entry_of t p o)) × (r' ≡ cond (eqb k 3) (wiped t p r) (alter_fleet t p o r)))
             → Handled x used room line (Logged e) r r'
         line_accepted l k p v ek ep ev e r' is =
             record {
-              answer = logged_answer (event_fault x r used room line) e (entry_by t r f) none
-                  (rw (ek, ep, ev) at is.0 ∙ ap (cond (restarts f) (record { probe = f.to; what = Restarted })) entry);
-              record_after_lem = altered (event_fault x r used room line) r (altered_by t r f) r' none
-                  (rw (ek, ep, ev) at is.1 ∙ ap₂ (cond (restarts f)) wipe (ap (λ (o : Outcome). alter_fleet t f.to o r) outcome));
+              answer = logged_answer (event_fault x r used room line) e (entry_by t r f) none (rw (ek, ep, ev) at is.0);
+              record_after_lem = altered (event_fault x r used room line) r (altered_by t r f) r' none (rw (ek, ep, ev) at is.1);
             }
           where
-            t₀ : Table
-            t₀ = of_slices 0 0 links needs lows highs costs
-
             none : event_fault x r used room line ≡ 0
             none = sym (last 0 (rw (lt-ltb used room l)))
-
-            bytes : own t₀ f.to r ≡ own t f.to r
-            bytes = sym (own_same 0 0 links needs lows highs costs f.to r) ∙ own_same number probes links needs lows highs costs f.to r
-
-            outcome : befalls t₀ f.to (event_of t f) (own t₀ f.to r) ≡ outcome_of t r f
-            outcome = befalls_same number probes links needs lows highs costs f.to (event_of t f) (own t₀ f.to r) ∙ ap (befalls t f.to (event_of t f)) bytes
-
-            entry : entry_of t₀ f.to (befalls t₀ f.to (event_of t f) (own t₀ f.to r)) ≡ entry_of t f.to (outcome_of t r f)
-            entry =
-                ap (entry_of t₀ f.to) outcome
-                ∙ sym (entry_same 0 0 links needs lows highs costs f.to (outcome_of t r f))
-                ∙ entry_same number probes links needs lows highs costs f.to (outcome_of t r f)
-
-            wipe : wiped t₀ f.to r ≡ wiped t f.to r
-            wipe = sym (wiped_same 0 0 links needs lows highs costs f.to r) ∙ wiped_same number probes links needs lows highs costs f.to r
 
 -- the answer, by the fault found
 pub handled_answer : {x : Slices} {used room : ℕ} {line : List ℕ} {r : Answer} {before after : List ℕ} → Handled x used room line r before after

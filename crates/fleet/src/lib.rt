@@ -2,8 +2,10 @@
 #![tactic(auto)]
 
 ghost use Rattle.std.specs.Prelude.{◌≡◌};
-ghost use Rattle.table.specs.Slices.{slices_of};
+ghost use Rattle.table.specs.Slices.{as_slices};
 ghost use Rattle.fleet.specs.Answers.{Handled, finishing_reply, whether_finished, changes_of};
+
+use table::TableSlices;
 
 pub mod line_checks;
 pub mod steps;
@@ -17,86 +19,38 @@ pub enum Finishing {
 
 // A line of any bytes: an opening, a frame heard, or a restart. `used` of the log's `room` entries are used.
 pub fn event(
-    number: u16,
-    probes: u16,
-    links: u16,
-    needs: &[u16],
-    lows: &[u16],
-    highs: &[u16],
-    costs: &[u16],
+    table: TableSlices<'_>,
     rec: &mut [u8],
     line: &[u8],
     used: usize,
     room: usize,
 ) -> wake_log::Answer
-    ensures { let x = slices_of number probes links needs.now lows.now highs.now costs.now in
-        Handled x used room line.now result rec.old rec.new }
+    ensures { Handled (as_slices table.entry) used room line.now result rec.old rec.new }
 {
     let mut degrees = [0u16; 256];
-    let fault = fleet_state::checks::state_fault(
-        probes as usize,
-        links as usize,
-        needs,
-        lows,
-        highs,
-        costs,
-        rec,
-        &mut degrees,
-    );
+    let fault = fleet_state::checks::state_fault(table, rec, &mut degrees);
     if fault != 0 {
         return wake_log::Answer::Refused(fault);
     }
-    steps::handle_line(
-        number,
-        probes as usize,
-        links as usize,
-        needs,
-        &degrees,
-        lows,
-        highs,
-        costs,
-        rec,
-        line,
-        used,
-        room,
-    )
+    steps::handle_line(table, &degrees, rec, line, used, room)
 }
 
 // Whether the fleet is finished.
-pub fn finished(
-    number: u16,
-    probes: u16,
-    links: u16,
-    needs: &[u16],
-    lows: &[u16],
-    highs: &[u16],
-    costs: &[u16],
-    rec: &[u8],
-) -> Finishing
-    ensures { let x = slices_of number probes links needs.now lows.now highs.now costs.now in
-        finishing_reply result ≡ whether_finished x rec.now }
+pub fn finished(table: TableSlices<'_>, rec: &[u8]) -> Finishing
+    ensures { finishing_reply result ≡ whether_finished (as_slices table.entry) rec.now }
 {
     let mut degrees = [0u16; 256];
-    let fault = fleet_state::checks::state_fault(
-        probes as usize,
-        links as usize,
-        needs,
-        lows,
-        highs,
-        costs,
-        rec,
-        &mut degrees,
-    );
+    let fault = fleet_state::checks::state_fault(table, rec, &mut degrees);
     if fault != 0 {
         return Finishing::Refused(fault);
     }
     Finishing::Says(fleet_finishing::finishing::is_finished(
-        probes as usize,
-        links as usize,
-        needs,
+        table.probes as usize,
+        table.links as usize,
+        table.needs,
         &degrees,
-        lows,
-        highs,
+        table.lows,
+        table.highs,
         rec,
     ))
 }

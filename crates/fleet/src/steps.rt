@@ -6,95 +6,75 @@ ghost use Rattle.wake_log.specs.declared.What.TheVariants.{Restarted};
 ghost use Rattle.probe_rules.specs.Rules.{befalls, entry_of};
 ghost use Rattle.probe_rules.specs.Within.{EventWithin};
 ghost use Rattle.fleet_theory.specs.Fleet.{own, fleet_fault, alter_fleet, wiped};
-ghost use Rattle.table.specs.Slices.{slices_fault, table_of, slices_of};
+ghost use Rattle.table.specs.Slices.{slices_fault, table_of, as_slices};
 ghost use Rattle.fleet.specs.Answers.{Handled};
+
+use table::TableSlices;
 
 // Lets the event befall the probe, or restarts it: the fleet's record altered, and the entry.
 fn apply(
     restart: bool,
     event: probe_rules::Event,
-    links: usize,
-    needs: &[u16],
+    table: TableSlices<'_>,
     degrees: &[u16],
-    lows: &[u16],
-    highs: &[u16],
-    costs: &[u16],
     probe: u16,
     rec: &mut [u8],
 ) -> wake_log::Entry
-    requires { OrderedLinks links lows.now highs.now costs.now × (length rec.old ≡ 8 * links) × EventWithin links event
-        × (probe < length degrees.now) × Degrees (of_slices 0 0 links [] lows.now highs.now []) degrees.now }
-    ensures { let t = of_slices 0 0 links needs.now lows.now highs.now costs.now in
+    requires { OrderedLinks table.links table.lows.now table.highs.now table.costs.now × (length rec.old ≡ 8 * table.links) × EventWithin table.links event
+        × (probe < length degrees.now) × Degrees (of_slices 0 0 table.links [] table.lows.now table.highs.now []) degrees.now }
+    ensures { let t = table_of (as_slices table.entry) in
         let o = befalls t probe event (own t probe rec.old) in
         (result ≡ cond restart (record { probe = probe; what = Restarted }) (entry_of t probe o))
         × (rec.new ≡ cond restart (wiped t probe rec.old) (alter_fleet t probe o rec.old)) }
 {
+    let links = table.links as usize;
     if restart {
-        fleet_rules::own_bytes::wipe(rec, links, lows, highs, probe as usize);
+        fleet_rules::own_bytes::wipe(rec, links, table.lows, table.highs, probe as usize);
         return wake_log::Entry {
             probe,
             what: wake_log::What::Restarted,
         };
     }
-    let outcome = fleet_rules::decisions::decide(
-        event,
-        rec,
-        links,
-        needs,
-        degrees,
-        lows,
-        highs,
-        costs,
-        probe as usize,
-    );
-    fleet_rules::own_bytes::alter_fleet(rec, outcome, lows, probe as usize);
-    probe_rules::outcomes::entry_of(outcome, lows, highs, probe)
+    let outcome = fleet_rules::decisions::decide(event, rec, table, degrees, probe as usize);
+    fleet_rules::own_bytes::alter_fleet(rec, outcome, table.lows, probe as usize);
+    probe_rules::outcomes::entry_of(outcome, table.lows, table.highs, probe)
 }
 
 // A line to a fleet whose table and record are already checked, and each probe's links counted. `used` of the log's `room` entries are used.
 pub fn handle_line(
-    number: u16,
-    probes: usize,
-    links: usize,
-    needs: &[u16],
+    table: TableSlices<'_>,
     degrees: &[u16],
-    lows: &[u16],
-    highs: &[u16],
-    costs: &[u16],
     rec: &mut [u8],
     line: &[u8],
     used: usize,
     room: usize,
 ) -> wake_log::Answer
-    requires { let x = slices_of number probes links needs.now lows.now highs.now costs.now in
-        (slices_fault x ≡ 0) × (fleet_fault (table_of x) rec.old ≡ 0) × (probes ≤ length degrees.now) × Degrees (table_of x) degrees.now }
-    ensures { let x = slices_of number probes links needs.now lows.now highs.now costs.now in
-        Handled x used room line.now result rec.old rec.new }
+    requires { let x = as_slices table in
+        (slices_fault x ≡ 0) × (fleet_fault (table_of x) rec.old ≡ 0) × (table.probes ≤ length degrees.now) × Degrees (table_of x) degrees.now }
+    ensures { Handled (as_slices table.entry) used room line.now result rec.old rec.new }
 {
+    let probes = table.probes as usize;
+    let links = table.links as usize;
     let frame = probe_frame::frame_line::read_frame(line);
-    let ends = super::line_checks::check_line(number, probes, links, lows, highs, frame);
+    let ends = super::line_checks::check_line(
+        table.number,
+        probes,
+        links,
+        table.lows,
+        table.highs,
+        frame,
+    );
     if ends.fault != 0 {
         return wake_log::Answer::Refused(ends.fault);
     }
     let event = super::line_checks::line_event(frame.kind, ends.link);
-    let unsent = super::line_checks::unsent_fault(event, lows, highs, rec, frame.from);
+    let unsent = super::line_checks::unsent_fault(event, table.lows, table.highs, rec, frame.from);
     if unsent != 0 {
         return wake_log::Answer::Refused(unsent);
     }
     if room <= used {
         return wake_log::Answer::Refused(26);
     }
-    let e = apply(
-        frame.kind == 3,
-        event,
-        links,
-        needs,
-        degrees,
-        lows,
-        highs,
-        costs,
-        frame.to as u16,
-        rec,
-    );
+    let e = apply(frame.kind == 3, event, table, degrees, frame.to as u16, rec);
     wake_log::Answer::Logged(e)
 }

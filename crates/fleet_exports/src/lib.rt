@@ -9,6 +9,7 @@ ghost use Rattle.fleet_exports.specs.Packed.{HandledPacked, LogsInFleetPacked};
 
 use fleet::Finishing;
 use packed_answers::{ANSWER_BASE, logs, packed_answer};
+use table::TableSlices;
 
 fn packed_finishing(r: Finishing) -> u64
     ensures { result ≡ packed_value (finishing_reply r) }
@@ -43,9 +44,16 @@ pub extern "C" fn planner_fleet_event(
     ensures { let x = slices_of number probes links needs.now lows.now highs.now costs.now in
         HandledPacked x used room line.now result rec.old rec.new }
 {
-    packed_answer(fleet::event(
-        number, probes, links, needs, lows, highs, costs, rec, line, used, room,
-    ))
+    let table = TableSlices {
+        number,
+        probes,
+        links,
+        needs,
+        lows,
+        highs,
+        costs,
+    };
+    packed_answer(fleet::event(table, rec, line, used, room))
 }
 
 // `fleet::event` with a log of packed entries, the first of them used; its answer packed.
@@ -66,7 +74,7 @@ pub extern "C" fn planner_fleet_event_logged(
     ensures { let x = slices_of number probes links needs.now lows.now highs.now costs.now in
         LogsInFleetPacked x used line.now result rec.old rec.new log.old log.new }
 {
-    let answer = fleet::event(
+    let table = TableSlices {
         number,
         probes,
         links,
@@ -74,11 +82,8 @@ pub extern "C" fn planner_fleet_event_logged(
         lows,
         highs,
         costs,
-        rec,
-        line,
-        used,
-        log.len(),
-    );
+    };
+    let answer = fleet::event(table, rec, line, used, log.len());
     logs::store(log, used, answer)
 }
 
@@ -97,5 +102,14 @@ pub extern "C" fn planner_fleet_finished(
     ensures { let x = slices_of number probes links needs.now lows.now highs.now costs.now in
         result ≡ packed_value (whether_finished x rec.now) }
 {
-    packed_finishing(fleet::finished(number, probes, links, needs, lows, highs, costs, rec))
+    let table = TableSlices {
+        number,
+        probes,
+        links,
+        needs,
+        lows,
+        highs,
+        costs,
+    };
+    packed_finishing(fleet::finished(table, rec))
 }

@@ -92,9 +92,9 @@ module _ (t : Table) (p : ℕ) (byte : ℕ → ℕ) (better : ℕ → ℕ → Bo
         chosen = g.found.is ∙ ap (best better (own_with t p byte value) t.links) e;
       }
 
--- what a pass tells does not hang on the needs
-pub surveyed_same : (value links : ℕ) (needs lows highs costs : List ℕ) (p : ℕ) (r : List ℕ) (s : Survey)
+-- what a pass tells does not hang on the number, the probe count and the needs
+pub surveyed_same : (value number probes links : ℕ) (needs lows highs costs : List ℕ) (p : ℕ) (r : List ℕ) (s : Survey)
     → (let t = of_slices 0 0 links [] lows highs costs in Surveyed t p (side_byte value (own t p r)) (side_better value t) value links s)
-    → (let t = of_slices 0 0 links needs lows highs costs in Surveyed t p (side_byte value (own t p r)) (side_better value t) value links s)
+    → (let t = of_slices number probes links needs lows highs costs in Surveyed t p (side_byte value (own t p r)) (side_better value t) value links s)
 unfolding dearer own
-surveyed_same value links needs lows highs costs p r s g = record { ones = g.ones; chosen = g.chosen }
+surveyed_same value number probes links needs lows highs costs p r s g = record { ones = g.ones; chosen = g.chosen }

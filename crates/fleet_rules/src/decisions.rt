@@ -6,9 +6,11 @@ ghost use Rattle.probe_rules.specs.Rules.{opening, offer, befalls};
 ghost use Rattle.probe_rules.specs.Within.{EventWithin};
 ghost use Rattle.fleet_theory.specs.Fleet.{own};
 ghost use Rattle.fleet_rules.specs.Survey.{side_byte, side_better, Surveyed};
+ghost use Rattle.table.specs.Slices.{as_slices, table_of};
 
 use super::Survey;
 use probe_rules::{Event, Outcome};
+use table::TableSlices;
 
 fn one_if(byte: u8) -> usize
     ensures { result ≡ cond (eqb byte 1) 1 0 }
@@ -76,23 +78,15 @@ fn survey(
     s
 }
 
-fn decide_opening(
-    rec: &[u8],
-    links: usize,
-    needs: &[u16],
-    degrees: &[u16],
-    lows: &[u16],
-    highs: &[u16],
-    costs: &[u16],
-    probe: usize,
-) -> Outcome
-    requires { OrderedLinks links lows.now highs.now costs.now × (length rec.now ≡ 8 * links)
-        × (probe < length degrees.now) × Degrees (of_slices 0 0 links [] lows.now highs.now []) degrees.now }
-    ensures { let t = of_slices 0 0 links needs.now lows.now highs.now costs.now in
+fn decide_opening(rec: &[u8], table: TableSlices<'_>, degrees: &[u16], probe: usize) -> Outcome
+    requires { OrderedLinks table.links table.lows.now table.highs.now table.costs.now × (length rec.now ≡ 8 * table.links)
+        × (probe < length degrees.now) × Degrees (of_slices 0 0 table.links [] table.lows.now table.highs.now []) degrees.now }
+    ensures { let t = table_of (as_slices table.entry) in
         result ≡ opening t probe (own t probe rec.now) }
 {
-    let s = survey(0, rec, links, lows, highs, costs, probe);
-    if table_links::spares::spare_at(degrees, needs, probe) <= s.count {
+    let links = table.links as usize;
+    let s = survey(0, rec, links, table.lows, table.highs, table.costs, probe);
+    if table_links::spares::spare_at(degrees, table.needs, probe) <= s.count {
         return Outcome::Enough;
     }
     if links <= s.best {
@@ -103,29 +97,26 @@ fn decide_opening(
 
 fn decide_offer(
     rec: &[u8],
-    links: usize,
-    needs: &[u16],
+    table: TableSlices<'_>,
     degrees: &[u16],
-    lows: &[u16],
-    highs: &[u16],
-    costs: &[u16],
     probe: usize,
     i: usize,
 ) -> Outcome
-    requires { OrderedLinks links lows.now highs.now costs.now × (length rec.now ≡ 8 * links) × (i < links)
-        × (probe < length degrees.now) × Degrees (of_slices 0 0 links [] lows.now highs.now []) degrees.now }
-    ensures { let t = of_slices 0 0 links needs.now lows.now highs.now costs.now in
+    requires { OrderedLinks table.links table.lows.now table.highs.now table.costs.now × (length rec.now ≡ 8 * table.links) × (i < table.links)
+        × (probe < length degrees.now) × Degrees (of_slices 0 0 table.links [] table.lows.now table.highs.now []) degrees.now }
+    ensures { let t = table_of (as_slices table.entry) in
         result ≡ offer t probe (own t probe rec.now) i }
 {
-    let s = survey(1, rec, links, lows, highs, costs, probe);
-    if s.count < table_links::spares::spare_at(degrees, needs, probe) {
+    let links = table.links as usize;
+    let s = survey(1, rec, links, table.lows, table.highs, table.costs, probe);
+    if s.count < table_links::spares::spare_at(degrees, table.needs, probe) {
         return Outcome::Taken(i);
     }
     let displaced = s.best;
     if links <= displaced {
         return Outcome::Refused(i);
     }
-    if table_links::order::dearer(costs, i, displaced) {
+    if table_links::order::dearer(table.costs, i, displaced) {
         return Outcome::TakenDisplacing { link: i, displaced };
     }
     Outcome::Refused(i)
@@ -135,29 +126,25 @@ fn decide_offer(
 pub fn decide(
     event: Event,
     rec: &[u8],
-    links: usize,
-    needs: &[u16],
+    table: TableSlices<'_>,
     degrees: &[u16],
-    lows: &[u16],
-    highs: &[u16],
-    costs: &[u16],
     probe: usize,
 ) -> Outcome
-    requires { OrderedLinks links lows.now highs.now costs.now × (length rec.now ≡ 8 * links) × EventWithin links event
-        × (probe < length degrees.now) × Degrees (of_slices 0 0 links [] lows.now highs.now []) degrees.now }
-    ensures { let t = of_slices 0 0 links needs.now lows.now highs.now costs.now in
+    requires { OrderedLinks table.links table.lows.now table.highs.now table.costs.now × (length rec.now ≡ 8 * table.links) × EventWithin table.links event
+        × (probe < length degrees.now) × Degrees (of_slices 0 0 table.links [] table.lows.now table.highs.now []) degrees.now }
+    ensures { let t = table_of (as_slices table.entry) in
         result ≡ befalls t probe event (own t probe rec.now) }
 {
     match event {
-        Event::Opening => decide_opening(rec, links, needs, degrees, lows, highs, costs, probe),
+        Event::Opening => decide_opening(rec, table, degrees, probe),
         Event::Offer(i) => {
-            if super::own_bytes::in_byte(rec, lows, highs, probe, i) != 0 {
+            if super::own_bytes::in_byte(rec, table.lows, table.highs, probe, i) != 0 {
                 return Outcome::NoChange(i);
             }
-            decide_offer(rec, links, needs, degrees, lows, highs, costs, probe, i)
+            decide_offer(rec, table, degrees, probe, i)
         }
         Event::Refusal(i) => {
-            if super::own_bytes::out_byte(rec, lows, highs, probe, i) == 2 {
+            if super::own_bytes::out_byte(rec, table.lows, table.highs, probe, i) == 2 {
                 return Outcome::NoChange(i);
             }
             Outcome::RefusalLearnt(i)

@@ -1,12 +1,14 @@
 // 20, 21 and 22 of a fleet's record.
 ghost use Rattle.std.specs.Prelude.{◌≡◌, [], ℕ, ◌+◌, ◌*◌, ◌-◌, ◌<◌, ◌≤◌, length, get_or};
 ghost use Rattle.range.specs.First.{or_else, first};
-ghost use Rattle.table.specs.Slices.{slices_of, table_of, slices_fault};
+ghost use Rattle.table.specs.Slices.{table_of, slices_fault, as_slices};
 ghost use Rattle.probe_record.specs.Record.{spare_fault};
 ghost use Rattle.table.specs.Table.{item, of_slices, Degrees};
 ghost use Rattle.fleet_theory.specs.Fleet.{own, wrong_byte, link_bytes_fault, fleet_fault};
 ghost use Rattle.fleet_state.specs.Faults.{over_fault, wrong_link};
 ghost use Rattle.fleet_state.specs.Within.{LegalWithoutCosts};
+
+use table::TableSlices;
 
 // 21, of a byte and its mark: a byte over 2, a mark over 1, or none while the byte permits its frame.
 fn is_wrong(byte: u8, mark: u8, permit: u8) -> bool
@@ -118,23 +120,24 @@ fn fleet_fault(
 }
 
 // The table's own, then 20, 21, 22; where there is none, each probe's links are counted into zeros.
-pub fn state_fault(
-    probes: usize,
-    links: usize,
-    needs: &[u16],
-    lows: &[u16],
-    highs: &[u16],
-    costs: &[u16],
-    rec: &[u8],
-    degrees: &mut [u16],
-) -> u8
+pub fn state_fault(table: TableSlices<'_>, rec: &[u8], degrees: &mut [u16]) -> u8
     requires { (length degrees.old ≡ 256) × ((v : ℕ) → get_or degrees.old v 0 ≡ 0) }
-    ensures { let x = slices_of 0 probes links needs.now lows.now highs.now costs.now in
+    ensures { let x = as_slices table.entry in
         (result ≡ or_else (slices_fault x) (fleet_fault (table_of x) rec.now)) × (result ≡ 0 → Degrees (table_of x) degrees.new) }
 {
-    let fault = table::checks::slice_fault(256, 2048, probes, links, needs, lows, highs, costs);
+    let probes = table.probes as usize;
+    let links = table.links as usize;
+    let fault = table::checks::slice_fault(256, 2048, table);
     if fault != 0 {
         return fault;
     }
-    fleet_fault(probes, links, needs, lows, highs, rec, degrees)
+    fleet_fault(
+        probes,
+        links,
+        table.needs,
+        table.lows,
+        table.highs,
+        rec,
+        degrees,
+    )
 }

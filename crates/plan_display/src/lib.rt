@@ -1,32 +1,23 @@
 // The plans of the well-head display: at most 16 probes and 40 links, by the same planner as the full ones, in slices of their size.
 #![tactic(auto)]
 
-ghost use Rattle.table.specs.Slices.{slices_of};
+ghost use Rattle.table.specs.Slices.{as_slices};
 ghost use Rattle.plan_methods.specs.Planning.{PlansBySlse, PlansByTurns};
 ghost use Rattle.plan_output.specs.Output.{PrintsText};
 
 use output::Output;
 use plan_methods::Planning;
 use plan_methods::limited::{plan_fault, slse_answer, turns_answer, turns_fault};
+use table::TableSlices;
 use table_display::{LMAX, PMAX};
 
 // `plan_methods::plan_by_slse` at the display's limits.
-pub fn plan_by_slse(
-    number: u16,
-    probes: u16,
-    links: u16,
-    needs: &[u16],
-    lows: &[u16],
-    highs: &[u16],
-    costs: &[u16],
-    plan: &mut [u8],
-) -> Planning
-    ensures { let x = slices_of number probes links needs.now lows.now highs.now costs.now in
-        PlansBySlse 16 40 x result plan.old plan.new }
+pub fn plan_by_slse(table: TableSlices<'_>, plan: &mut [u8]) -> Planning
+    ensures { PlansBySlse 16 40 (as_slices table.entry) result plan.old plan.new }
 {
-    let n = probes as usize;
-    let m = links as usize;
-    let fault = plan_fault(PMAX, LMAX, n, m, needs, lows, highs, costs, plan.len());
+    let n = table.probes as usize;
+    let m = table.links as usize;
+    let fault = plan_fault(PMAX, LMAX, table, plan.len());
     if fault != 0 {
         return Planning::Refused(fault);
     }
@@ -34,49 +25,16 @@ pub fn plan_by_slse(
     let mut half = [0u16; 40];
     let mut digits = [0u16; 16];
     let mut counts = [0u16; 16];
-    slse_answer(
-        plan,
-        &mut order,
-        &mut half,
-        &mut digits,
-        &mut counts,
-        m,
-        needs,
-        lows,
-        highs,
-        costs,
-    )
+    slse_answer(plan, &mut order, &mut half, &mut digits, &mut counts, table)
 }
 
 // `plan_methods::plan_by_turns` at the display's limits.
-pub fn plan_by_turns(
-    number: u16,
-    probes: u16,
-    links: u16,
-    needs: &[u16],
-    lows: &[u16],
-    highs: &[u16],
-    costs: &[u16],
-    plan: &mut [u8],
-    work: &mut [u8],
-) -> Planning
-    ensures { let x = slices_of number probes links needs.now lows.now highs.now costs.now in
-        PlansByTurns 16 40 x result plan.old plan.new work.old work.new }
+pub fn plan_by_turns(table: TableSlices<'_>, plan: &mut [u8], work: &mut [u8]) -> Planning
+    ensures { PlansByTurns 16 40 (as_slices table.entry) result plan.old plan.new work.old work.new }
 {
-    let n = probes as usize;
-    let m = links as usize;
-    let fault = turns_fault(
-        PMAX,
-        LMAX,
-        n,
-        m,
-        needs,
-        lows,
-        highs,
-        costs,
-        plan.len(),
-        work.len(),
-    );
+    let n = table.probes as usize;
+    let m = table.links as usize;
+    let fault = turns_fault(PMAX, LMAX, table, plan.len(), work.len());
     if fault != 0 {
         return Planning::Refused(fault);
     }
@@ -95,12 +53,7 @@ pub fn plan_by_turns(
         &mut order,
         &mut half,
         &mut digits,
-        n,
-        m,
-        needs,
-        lows,
-        highs,
-        costs,
+        table,
     )
 }
 
@@ -132,13 +85,15 @@ pub fn plan_text(text: &[u8], out: &mut [u8]) -> Output
                 &mut half,
                 &mut digits,
                 &mut degrees,
-                number,
-                probes as usize,
-                links as usize,
-                &needs,
-                &lows,
-                &highs,
-                &costs,
+                TableSlices {
+                    number,
+                    probes,
+                    links,
+                    needs: &needs,
+                    lows: &lows,
+                    highs: &highs,
+                    costs: &costs,
+                },
             )
         }
         table_read::Reading::Refused(fault) => output::refusals::print_refusal(out, fault),

@@ -12,6 +12,7 @@ ghost use Rattle.packed_answers.specs.Packed.{PrintsPacked};
 use packed_answers::ANSWER_BASE;
 use packed_answers::printed::packed_output;
 use plan_methods::{Planning, plan_by_slse, plan_by_turns};
+use table::TableSlices;
 
 fn packed_planning(r: Planning) -> u64
     ensures { result ≡ packed_planning (planning_reply r) }
@@ -37,7 +38,16 @@ pub extern "C" fn planner_plan_slse(
     ensures { let x = slices_of number probes links needs.now lows.now highs.now costs.now in
         SlsePacked 256 2048 x result plan.old plan.new }
 {
-    packed_planning(plan_by_slse(number, probes, links, needs, lows, highs, costs, plan))
+    let table = TableSlices {
+        number,
+        probes,
+        links,
+        needs,
+        lows,
+        highs,
+        costs,
+    };
+    packed_planning(plan_by_slse(table, plan))
 }
 
 // `plan_methods::plan_by_turns`, its answer packed.
@@ -56,7 +66,16 @@ pub extern "C" fn planner_plan_turns(
     ensures { let x = slices_of number probes links needs.now lows.now highs.now costs.now in
         TurnsPacked 256 2048 x result plan.old plan.new work.old work.new }
 {
-    packed_planning(plan_by_turns(number, probes, links, needs, lows, highs, costs, plan, work))
+    let table = TableSlices {
+        number,
+        probes,
+        links,
+        needs,
+        lows,
+        highs,
+        costs,
+    };
+    packed_planning(plan_by_turns(table, plan, work))
 }
 
 // `plan_output::plan_text`, its answer packed.
@@ -83,9 +102,16 @@ pub extern "C" fn planner_display_plan_slse(
     ensures { let x = slices_of number probes links needs.now lows.now highs.now costs.now in
         SlsePacked 16 40 x result plan.old plan.new }
 {
-    packed_planning(plan_display::plan_by_slse(
-        number, probes, links, needs, lows, highs, costs, plan,
-    ))
+    let table = TableSlices {
+        number,
+        probes,
+        links,
+        needs,
+        lows,
+        highs,
+        costs,
+    };
+    packed_planning(plan_display::plan_by_slse(table, plan))
 }
 
 // `plan_display::plan_by_turns`, its answer packed.
@@ -104,9 +130,16 @@ pub extern "C" fn planner_display_plan_turns(
     ensures { let x = slices_of number probes links needs.now lows.now highs.now costs.now in
         TurnsPacked 16 40 x result plan.old plan.new work.old work.new }
 {
-    packed_planning(plan_display::plan_by_turns(
-        number, probes, links, needs, lows, highs, costs, plan, work,
-    ))
+    let table = TableSlices {
+        number,
+        probes,
+        links,
+        needs,
+        lows,
+        highs,
+        costs,
+    };
+    packed_planning(plan_display::plan_by_turns(table, plan, work))
 }
 
 // `plan_display::plan_text`, its answer packed.

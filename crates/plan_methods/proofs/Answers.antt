@@ -46,10 +46,10 @@ plans_made fault t r plan plan' z room p e =
     same = stored_kept (kept t) t.links plan plan' room p
 
 -- the plan does not depend on the table's number
-pub numbered : (number probes links : ℕ) (needs lows highs costs plan plan' : List ℕ) → plan' ≡ stored (λ i. plan_byte (kept (of_slices 0 probes links needs lows highs costs) i)) links plan
+pub numbered : (other number probes links : ℕ) (needs lows highs costs plan plan' : List ℕ) → plan' ≡ stored (λ i. plan_byte (kept (of_slices other probes links needs lows highs costs) i)) links plan
     → plan' ≡ stored (λ i. plan_byte (kept (of_slices number probes links needs lows highs costs) i)) links plan
 unfolding rested dearer
-numbered number probes links needs lows highs costs plan plan' e = e
+numbered other number probes links needs lows highs costs plan plan' e = e
 
 pub turns_refused : (fault r : ℕ) (t : Table) (plan work : List ℕ) → r ≡ fault → (r ≡ 0 → ⊥) → PlansAndClears fault t (Refused r) plan plan work work
 turns_refused fault r t plan work e n =

@@ -1,8 +1,10 @@
 // The plan of a table in slices, by two methods.
 #![tactic(auto)]
 
-ghost use Rattle.table.specs.Slices.{slices_of};
+ghost use Rattle.table.specs.Slices.{as_slices};
 ghost use Rattle.plan_methods.specs.Planning.{PlansBySlse, PlansByTurns};
+
+use table::TableSlices;
 
 pub mod counts;
 pub mod limited;
@@ -15,22 +17,12 @@ pub enum Planning {
 }
 
 // The plan by S-LSE of a table that is given in slices by its number, probe count and link count.
-pub fn plan_by_slse(
-    number: u16,
-    probes: u16,
-    links: u16,
-    needs: &[u16],
-    lows: &[u16],
-    highs: &[u16],
-    costs: &[u16],
-    plan: &mut [u8],
-) -> Planning
-    ensures { let x = slices_of number probes links needs.now lows.now highs.now costs.now in
-        PlansBySlse 256 2048 x result plan.old plan.new }
+pub fn plan_by_slse(table: TableSlices<'_>, plan: &mut [u8]) -> Planning
+    ensures { PlansBySlse 256 2048 (as_slices table.entry) result plan.old plan.new }
 {
-    let n = probes as usize;
-    let m = links as usize;
-    let fault = limited::plan_fault(256, 2048, n, m, needs, lows, highs, costs, plan.len());
+    let n = table.probes as usize;
+    let m = table.links as usize;
+    let fault = limited::plan_fault(256, 2048, table, plan.len());
     if fault != 0 {
         return Planning::Refused(fault);
     }
@@ -38,49 +30,16 @@ pub fn plan_by_slse(
     let mut half = [0u16; 2048];
     let mut digits = [0u16; 256];
     let mut counts = [0u16; 256];
-    limited::slse_answer(
-        plan,
-        &mut order,
-        &mut half,
-        &mut digits,
-        &mut counts,
-        m,
-        needs,
-        lows,
-        highs,
-        costs,
-    )
+    limited::slse_answer(plan, &mut order, &mut half, &mut digits, &mut counts, table)
 }
 
 // The plan by offers in turn, with working bytes lent, at least four a link.
-pub fn plan_by_turns(
-    number: u16,
-    probes: u16,
-    links: u16,
-    needs: &[u16],
-    lows: &[u16],
-    highs: &[u16],
-    costs: &[u16],
-    plan: &mut [u8],
-    work: &mut [u8],
-) -> Planning
-    ensures { let x = slices_of number probes links needs.now lows.now highs.now costs.now in
-        PlansByTurns 256 2048 x result plan.old plan.new work.old work.new }
+pub fn plan_by_turns(table: TableSlices<'_>, plan: &mut [u8], work: &mut [u8]) -> Planning
+    ensures { PlansByTurns 256 2048 (as_slices table.entry) result plan.old plan.new work.old work.new }
 {
-    let n = probes as usize;
-    let m = links as usize;
-    let fault = limited::turns_fault(
-        256,
-        2048,
-        n,
-        m,
-        needs,
-        lows,
-        highs,
-        costs,
-        plan.len(),
-        work.len(),
-    );
+    let n = table.probes as usize;
+    let m = table.links as usize;
+    let fault = limited::turns_fault(256, 2048, table, plan.len(), work.len());
     if fault != 0 {
         return Planning::Refused(fault);
     }
@@ -99,11 +58,6 @@ pub fn plan_by_turns(
         &mut order,
         &mut half,
         &mut digits,
-        n,
-        m,
-        needs,
-        lows,
-        highs,
-        costs,
+        table,
     )
 }

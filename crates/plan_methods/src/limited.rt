@@ -3,7 +3,7 @@ ghost use Rattle.std.specs.Prelude.{◌≡◌, ℕ, ◌*◌, ◌<◌, ◌≤◌,
 ghost use Rattle.range.specs.Sum.{weigh, count};
 ghost use Rattle.range.specs.Lists.{stored};
 ghost use Rattle.table.specs.Table.{item, of_slices};
-ghost use Rattle.table.specs.Slices.{slices_of};
+ghost use Rattle.table.specs.Slices.{as_slices, table_of};
 ghost use Rattle.table.specs.Legal.{table_fault, room_fault};
 ghost use Rattle.plan_theory.specs.Plan.{kept, plan_byte, is_kept};
 ghost use Rattle.plan_turns_search.specs.Record.{WorkingRoom};
@@ -11,49 +11,29 @@ ghost use Rattle.plan_methods.specs.Planning.{plan_fault, turns_fault, SlseReady
 ghost use Rattle.plan_methods.specs.declared.Planning.TheVariants.{Plan};
 
 use super::Planning;
+use table::TableSlices;
 
 // The fault of a call with a plan of this length, within the limits pmax and lmax.
-pub fn plan_fault(
-    pmax: usize,
-    lmax: usize,
-    probes: usize,
-    links: usize,
-    needs: &[u16],
-    lows: &[u16],
-    highs: &[u16],
-    costs: &[u16],
-    plan: usize,
-) -> u8
-    ensures { let x = slices_of 0 probes links needs.now lows.now highs.now costs.now in
-        result ≡ plan_fault pmax lmax x plan }
+pub fn plan_fault(pmax: usize, lmax: usize, table: TableSlices<'_>, plan: usize) -> u8
+    ensures { result ≡ plan_fault pmax lmax (as_slices table.entry) plan }
 {
+    let links = table.links as usize;
     if plan < links {
         return 8;
     }
-    table::checks::slice_fault(pmax, lmax, probes, links, needs, lows, highs, costs)
+    table::checks::slice_fault(pmax, lmax, table)
 }
 
 // And with working bytes of this length.
-pub fn turns_fault(
-    pmax: usize,
-    lmax: usize,
-    probes: usize,
-    links: usize,
-    needs: &[u16],
-    lows: &[u16],
-    highs: &[u16],
-    costs: &[u16],
-    plan: usize,
-    work: usize,
-) -> u8
-    requires { links < 65536 }
-    ensures { let x = slices_of 0 probes links needs.now lows.now highs.now costs.now in
-        result ≡ turns_fault pmax lmax x plan work }
+pub fn turns_fault(pmax: usize, lmax: usize, table: TableSlices<'_>, plan: usize, work: usize) -> u8
+    requires { table.links < 65536 }
+    ensures { result ≡ turns_fault pmax lmax (as_slices table.entry) plan work }
 {
+    let links = table.links as usize;
     if work < 4 * links {
         return 8;
     }
-    plan_fault(pmax, lmax, probes, links, needs, lows, highs, costs, plan)
+    plan_fault(pmax, lmax, table, plan)
 }
 
 // The answer that goes with a plan.
@@ -78,18 +58,23 @@ pub fn slse_plan(
     half: &mut [u16],
     digits: &mut [u16],
     counts: &mut [u16],
-    links: usize,
-    needs: &[u16],
-    lows: &[u16],
-    highs: &[u16],
-    costs: &[u16],
+    table: TableSlices<'_>,
 )
-    requires { SlseReady links needs.now lows.now highs.now costs.now (length plan.old) (length order.old) (length half.old) (length digits.old) (length counts.old) }
-    ensures { (probes : ℕ) → let t = of_slices 0 probes links needs.now lows.now highs.now costs.now in
-        probes ≤ length counts.old → table_fault 256 2048 t ≡ 0 → plan.new ≡ stored (λ i. plan_byte (kept t i)) links plan.old }
+    requires { SlseReady table.links table.needs.now table.lows.now table.highs.now table.costs.now (length plan.old) (length order.old) (length half.old) (length digits.old) (length counts.old) }
+    ensures { (probes : ℕ) → let t = of_slices 0 probes table.entry.links table.entry.needs.now table.entry.lows.now table.entry.highs.now table.entry.costs.now in
+        probes ≤ length counts.old → table_fault 256 2048 t ≡ 0 → plan.new ≡ stored (λ i. plan_byte (kept t i)) table.entry.links plan.old }
 {
-    plan_order::sorting::order_links(order, half, digits, links, costs);
-    plan_slse::passes::plan_in_order(plan, counts, links, order, needs, lows, highs);
+    let links = table.links as usize;
+    plan_order::sorting::order_links(order, half, digits, links, table.costs);
+    plan_slse::passes::plan_in_order(
+        plan,
+        counts,
+        links,
+        order,
+        table.needs,
+        table.lows,
+        table.highs,
+    );
 }
 
 // The same plan, and its answer.
@@ -99,20 +84,15 @@ pub fn slse_answer(
     half: &mut [u16],
     digits: &mut [u16],
     counts: &mut [u16],
-    links: usize,
-    needs: &[u16],
-    lows: &[u16],
-    highs: &[u16],
-    costs: &[u16],
+    table: TableSlices<'_>,
 ) -> Planning
-    requires { SlseReady links needs.now lows.now highs.now costs.now (length plan.old) (length order.old) (length half.old) (length digits.old) (length counts.old) }
-    ensures { (number probes : ℕ) → let t = of_slices number probes links needs.now lows.now highs.now costs.now in
+    requires { SlseReady table.links table.needs.now table.lows.now table.highs.now table.costs.now (length plan.old) (length order.old) (length half.old) (length digits.old) (length counts.old) }
+    ensures { (number probes : ℕ) → let t = of_slices number probes table.entry.links table.entry.needs.now table.entry.lows.now table.entry.highs.now table.entry.costs.now in
         probes ≤ length counts.old → table_fault 256 2048 t ≡ 0 → Plans 0 t result plan.old plan.new }
 {
-    slse_plan(
-        plan, order, half, digits, counts, links, needs, lows, highs, costs,
-    );
-    answer(plan, links, costs)
+    let links = table.links as usize;
+    slse_plan(plan, order, half, digits, counts, table);
+    answer(plan, links, table.costs)
 }
 
 // The plan by offers in turn of a legal table, and its answer. Behind the working bytes are the slices that it works in.
@@ -125,23 +105,15 @@ pub fn turns_answer(
     order: &mut [u16],
     half: &mut [u16],
     digits: &mut [u16],
-    probes: usize,
-    links: usize,
-    needs: &[u16],
-    lows: &[u16],
-    highs: &[u16],
-    costs: &[u16],
+    table: TableSlices<'_>,
 ) -> Planning
-    requires { let t = of_slices 0 probes links needs.now lows.now highs.now costs.now in
-        (table_fault 256 2048 t ≡ 0) × (room_fault probes links (length needs.now) (length lows.now) (length highs.now) (length costs.now) ≡ 0)
-        × (links ≤ length plan.old) × (4 * links ≤ length work.old)
-        × WorkingRoom probes links (length spares.old) (length marks.old) (length site.old) (length order.old) (length half.old) (length digits.old) }
-    ensures { (number : ℕ) → let t = of_slices number probes links needs.now lows.now highs.now costs.now in
+    requires { (table_fault 256 2048 (table_of (as_slices table)) ≡ 0) × (room_fault table.probes table.links (length table.needs.now) (length table.lows.now) (length table.highs.now) (length table.costs.now) ≡ 0)
+        × (table.links ≤ length plan.old) × (4 * table.links ≤ length work.old)
+        × WorkingRoom table.probes table.links (length spares.old) (length marks.old) (length site.old) (length order.old) (length half.old) (length digits.old) }
+    ensures { (number : ℕ) → let t = of_slices number table.entry.probes table.entry.links table.entry.needs.now table.entry.lows.now table.entry.highs.now table.entry.costs.now in
         PlansAndClears 0 t result plan.old plan.new work.old work.new }
 {
-    plan_turns::method::by_turns(
-        plan, work, spares, marks, site, order, half, digits, probes, links, needs, lows, highs,
-        costs,
-    );
-    answer(plan, links, costs)
+    let links = table.links as usize;
+    plan_turns::method::by_turns(plan, work, spares, marks, site, order, half, digits, table);
+    answer(plan, links, table.costs)
 }

@@ -4,6 +4,7 @@
 ghost use Rattle.plan_output.specs.Output.{PrintsText};
 
 use output::Output;
+use table::TableSlices;
 
 pub mod text;
 
@@ -35,13 +36,15 @@ pub fn plan_text(text: &[u8], out: &mut [u8]) -> Output
                 &mut half,
                 &mut digits,
                 &mut degrees,
-                number,
-                probes as usize,
-                links as usize,
-                &needs,
-                &lows,
-                &highs,
-                &costs,
+                TableSlices {
+                    number,
+                    probes,
+                    links,
+                    needs: &needs,
+                    lows: &lows,
+                    highs: &highs,
+                    costs: &costs,
+                },
             )
         }
         table_read::Reading::Refused(fault) => output::refusals::print_refusal(out, fault),

@@ -6,7 +6,9 @@ ghost use Rattle.table.specs.Table.{item, of_slices, spare};
 ghost use Rattle.table.specs.Legal.{link_fault, table_fault};
 ghost use Rattle.plan_theory.specs.Plan.{kept, plan_byte};
 ghost use Rattle.plan_turns_search.specs.Record.{WorkingRoom, kept_byte};
+ghost use Rattle.table.specs.Slices.{as_slices, table_of};
 
+use table::TableSlices;
 use table_links::spares::spare_at;
 
 // Takes the probes' needs off their numbers of links, down to 0.
@@ -85,26 +87,32 @@ pub fn by_turns(
     order: &mut [u16],
     half: &mut [u16],
     digits: &mut [u16],
-    probes: usize,
-    links: usize,
-    needs: &[u16],
-    lows: &[u16],
-    highs: &[u16],
-    costs: &[u16],
+    table: TableSlices<'_>,
 )
-    requires { let t = of_slices 0 probes links needs.now lows.now highs.now costs.now in
-        (table_fault 256 2048 t ≡ 0)
-        × (probes ≤ length needs.now) × (links ≤ length lows.now) × (links ≤ length highs.now) × (links ≤ length costs.now)
-        × (links ≤ length plan.old) × (4 * links ≤ length work.old)
-        × WorkingRoom probes links (length spares.old) (length marks.old) (length site.old) (length order.old) (length half.old) (length digits.old) }
-    ensures plan_after { let t = of_slices 0 probes links needs.now lows.now highs.now costs.now in
-        plan.new ≡ stored (λ i. plan_byte (kept t i)) links plan.old }
+    requires { (table_fault 256 2048 (table_of (as_slices table)) ≡ 0)
+        × (table.probes ≤ length table.needs.now) × (table.links ≤ length table.lows.now) × (table.links ≤ length table.highs.now) × (table.links ≤ length table.costs.now)
+        × (table.links ≤ length plan.old) × (4 * table.links ≤ length work.old)
+        × WorkingRoom table.probes table.links (length spares.old) (length marks.old) (length site.old) (length order.old) (length half.old) (length digits.old) }
+    ensures plan_after { let t = table_of (as_slices table.entry) in
+        plan.new ≡ stored (λ i. plan_byte (kept t i)) table.entry.links plan.old }
     ensures work_after { work.new ≡ replicate (length work.old) 0 }
 {
+    let probes = table.probes as usize;
+    let links = table.links as usize;
     clear(work);
-    find_spares(spares, probes, links, needs, lows, highs);
+    find_spares(spares, probes, links, table.needs, table.lows, table.highs);
     plan_turns_search::chains::link_up(
-        marks, site, order, half, digits, probes, links, lows, highs, costs, spares,
+        marks,
+        site,
+        order,
+        half,
+        digits,
+        probes,
+        links,
+        table.lows,
+        table.highs,
+        table.costs,
+        spares,
     );
     super::turns::take_turns(work, marks, site, probes);
     write_plan(plan, work, links);

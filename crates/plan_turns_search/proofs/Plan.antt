@@ -86,9 +86,9 @@ past_ends {probes} {low} {high} {v} e m h = go (or_cases (eqb v low) (eqb v high
     go (inr q) = let a = eqb-true v high q in let k = e.below in omega arith
 
 -- what a legal table in slices gives
-module _ (probes links : ℕ) (needs lows highs costs : List ℕ) (legal : Legal (of_slices 0 probes links needs lows highs costs)) where
+module _ (number probes links : ℕ) (needs lows highs costs : List ℕ) (legal : Legal (of_slices number probes links needs lows highs costs)) where
   abbrev table : Table
-  table = of_slices 0 probes links needs lows highs costs
+  table = of_slices number probes links needs lows highs costs
 
   abbrev good : LegalTable 256 2048 table
   good = legal_table 256 2048 table legal

@@ -4,7 +4,7 @@ use mathlib.Core.Path.{◌≡◌, sym, ◌∙◌, ap}
 use mathlib.Core.Bool.{◌&&◌}
 use mathlib.Core.List.{List}
 use borrow.Author.Tests.{ne_eqb}
-use Rattle.table.specs.Table.{Table, of_slices, other}
+use Rattle.table.specs.Table.{Table, other}
 use Rattle.table.specs.Legal.{Legal}
 use Rattle.table.specs.Slices.{Slices, table_of, slices_fault}
 use Rattle.bit_maps.specs.BitMap.{bit}
@@ -13,12 +13,10 @@ use Rattle.wake_log.specs.declared.Entry.{Entry}
 use Rattle.wake_log.specs.Entry.{entry_values}
 use Rattle.wake_log.specs.declared.Answer.TheVariants.{Logged, Refused}
 use Rattle.probe_rules.specs.declared.Event.{Event}
-use Rattle.probe_rules.specs.declared.Outcome.{Outcome}
 use Rattle.probe_rules.specs.Rules.{befalls, entry_of, sendable, rests}
 use Rattle.probe_rules.specs.Frames.{heard_of}
 use Rattle.probe_rules.specs.Within.{OwnLink}
 use Rattle.probe_rules.proofs.Frames.{other_across, between_is}
-use Rattle.probe_rules.proofs.OutcomeLaws.{entry_same, befalls_same}
 use Rattle.probe_maps.specs.Maps.{Maps, AllWords, bytes_of, state_fault}
 use Rattle.probe_maps.specs.GoodMaps.{GoodMaps}
 use Rattle.probe_maps.proofs.Rounds.{is_standing, is_refused_in, is_held}
@@ -34,21 +32,11 @@ pub refused_call : (fault : ℕ) (t : Table) (p : ℕ) (event : Event) (r : ℕ)
 refused_call fault t p event r m same n =
     record { answer = rw (← same, ne_eqb r 0 n); maps_after_lem = rw (← same, ne_eqb r 0 n) }
 
-pub accepted_call : (fault number probes links : ℕ) (needs lows highs costs : List ℕ) (p : ℕ) (event : Event) (m : Maps) (entry : Entry) (after : Maps)
-    → fault ≡ 0
-    → entry ≡ entry_of (of_slices 0 0 links needs lows highs costs) p (befalls_maps (of_slices 0 0 links needs lows highs costs) p event m)
-    → after ≡ alter_maps links (befalls_maps (of_slices 0 0 links needs lows highs costs) p event m) m
-    → Befallen fault (of_slices number probes links needs lows highs costs) p event (Logged entry) m after
-accepted_call fault number probes links needs lows highs costs p event m entry after none is maps =
-    let e = bytes_of links m in
-    let same = befalls_same number probes links needs lows highs costs p event e in
-    let from = ap (λ (o : Outcome). entry_of (of_slices 0 0 links needs lows highs costs) p o) same in
-    let plain = sym (entry_same 0 0 links needs lows highs costs p (befalls (of_slices number probes links needs lows highs costs) p event e)) in
-    let full = entry_same number probes links needs lows highs costs p (befalls (of_slices number probes links needs lows highs costs) p event e) in
-    record {
-      answer = rw none (ap (λ (d : Entry). values (entry_values d)) (is ∙ from ∙ plain ∙ full));
-      maps_after_lem = rw none (maps ∙ ap (λ (o : Outcome). alter_maps links o m) same);
-    }
+pub accepted_call : (fault : ℕ) (t : Table) (p : ℕ) (event : Event) (m : Maps) (entry : Entry) (after : Maps) → fault ≡ 0
+    → entry ≡ entry_of t p (befalls_maps t p event m) → after ≡ alter_maps t.links (befalls_maps t p event m) m
+    → Befallen fault t p event (Logged entry) m after
+accepted_call fault t p event m entry after none is maps =
+    record { answer = rw none (ap (λ (d : Entry). values (entry_values d)) is); maps_after_lem = rw none maps }
 
 -- the frame asked for is heard as what was asked for
 pub asked_event_lem : (t : Table) → Legal t → (p i : ℕ) → OwnLink t p i → (k : Kind) → heard_of t (asked_frame t p k i) ≡ asked_event k i

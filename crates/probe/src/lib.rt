@@ -2,9 +2,11 @@
 #![tactic(auto)]
 
 ghost use Rattle.std.specs.Prelude.{◌≡◌};
-ghost use Rattle.table.specs.Slices.{slices_of};
+ghost use Rattle.table.specs.Slices.{as_slices};
 ghost use Rattle.probe_maps.specs.Maps.{rows};
 ghost use Rattle.probe.specs.Answers.{Opens, Hears, AsksFor, resting_reply, whether_rests};
+
+use table::TableSlices;
 
 pub mod steps;
 
@@ -32,13 +34,7 @@ pub enum Resting {
 
 // The probe opens. `free` entries of its log are free.
 pub fn open(
-    number: u16,
-    probes: u16,
-    links: u16,
-    needs: &[u16],
-    lows: &[u16],
-    highs: &[u16],
-    costs: &[u16],
+    table: TableSlices<'_>,
     probe: u16,
     standing: &mut [u64],
     refused_out: &mut [u64],
@@ -46,19 +42,13 @@ pub fn open(
     refused_in: &mut [u64],
     free: usize,
 ) -> wake_log::Answer
-    ensures { let x = slices_of number probes links needs.now lows.now highs.now costs.now in
-        let before = rows standing.old refused_out.old held.old refused_in.old in
+    ensures { let before = rows standing.old refused_out.old held.old refused_in.old in
         let after = rows standing.new refused_out.new held.new refused_in.new in
-        Opens x probe free result before after }
+        Opens (as_slices table.entry) probe free result before after }
 {
     let mut own = [0u64; 32];
     let state = probe_state::states::check_state(
-        probes as usize,
-        links as usize,
-        needs,
-        lows,
-        highs,
-        costs,
+        table,
         probe,
         standing,
         refused_out,
@@ -66,18 +56,19 @@ pub fn open(
         refused_in,
         &mut own,
     );
-    let fault = probe_checks::faults::open_fault(state, probes as usize, probe as usize, free);
+    let fault = probe_checks::faults::open_fault(
+        state,
+        table.probes as usize,
+        probe as usize,
+        free,
+    );
     if fault != 0 {
         return wake_log::Answer::Refused(fault);
     }
     let e = probe_decisions::steps::apply(
         probe_rules::Event::Opening,
         &mut own,
-        links as usize,
-        needs,
-        lows,
-        highs,
-        costs,
+        table,
         probe,
         standing,
         refused_out,
@@ -89,13 +80,7 @@ pub fn open(
 
 // The probe hears a frame, of any bytes.
 pub fn hear(
-    number: u16,
-    probes: u16,
-    links: u16,
-    needs: &[u16],
-    lows: &[u16],
-    highs: &[u16],
-    costs: &[u16],
+    table: TableSlices<'_>,
     probe: u16,
     standing: &mut [u64],
     refused_out: &mut [u64],
@@ -104,19 +89,13 @@ pub fn hear(
     frame: &[u8],
     free: usize,
 ) -> wake_log::Answer
-    ensures { let x = slices_of number probes links needs.now lows.now highs.now costs.now in
-        let before = rows standing.old refused_out.old held.old refused_in.old in
+    ensures { let before = rows standing.old refused_out.old held.old refused_in.old in
         let after = rows standing.new refused_out.new held.new refused_in.new in
-        Hears x probe frame.now free result before after }
+        Hears (as_slices table.entry) probe frame.now free result before after }
 {
     let mut own = [0u64; 32];
     let state = probe_state::states::check_state(
-        probes as usize,
-        links as usize,
-        needs,
-        lows,
-        highs,
-        costs,
+        table,
         probe,
         standing,
         refused_out,
@@ -126,10 +105,10 @@ pub fn hear(
     );
     let heard = probe_checks::faults::check_hearing(
         state,
-        number,
-        links as usize,
-        lows,
-        highs,
+        table.number,
+        table.links as usize,
+        table.lows,
+        table.highs,
         probe as usize,
         frame,
         free,
@@ -141,11 +120,7 @@ pub fn hear(
     let e = probe_decisions::steps::apply(
         event,
         &mut own,
-        links as usize,
-        needs,
-        lows,
-        highs,
-        costs,
+        table,
         probe,
         standing,
         refused_out,
@@ -157,13 +132,7 @@ pub fn hear(
 
 // The probe is asked for a frame on a link.
 pub fn ask(
-    number: u16,
-    probes: u16,
-    links: u16,
-    needs: &[u16],
-    lows: &[u16],
-    highs: &[u16],
-    costs: &[u16],
+    table: TableSlices<'_>,
     probe: u16,
     standing: &[u64],
     refused_out: &[u64],
@@ -173,21 +142,15 @@ pub fn ask(
     link: u16,
     out: &mut [u8],
 ) -> Asked
-    ensures { let x = slices_of number probes links needs.now lows.now highs.now costs.now in
-        let m = rows standing.now refused_out.now held.now refused_in.now in
-        AsksFor x probe kind link m result out.old out.new }
+    ensures { let m = rows standing.now refused_out.now held.now refused_in.now in
+        AsksFor (as_slices table.entry) probe kind link m result out.old out.new }
 {
     if out.len() < 15 {
         return Asked::Refused(8);
     }
     let mut own = [0u64; 32];
     let state = probe_state::states::check_state(
-        probes as usize,
-        links as usize,
-        needs,
-        lows,
-        highs,
-        costs,
+        table,
         probe,
         standing,
         refused_out,
@@ -197,9 +160,9 @@ pub fn ask(
     );
     let fault = probe_checks::faults::link_call_fault(
         state,
-        links as usize,
-        lows,
-        highs,
+        table.links as usize,
+        table.lows,
+        table.highs,
         probe as usize,
         link as usize,
     );
@@ -209,20 +172,14 @@ pub fn ask(
     if !steps::is_sendable(kind, standing, refused_in, link as usize) {
         return Asked::NotNow;
     }
-    let to = table_links::ends::other(lows, highs, probe, link as usize);
-    probe_frame::frame_line::write_frame(out, steps::kind_of(kind), number, probe, to);
+    let to = table_links::ends::other(table.lows, table.highs, probe, link as usize);
+    probe_frame::frame_line::write_frame(out, steps::kind_of(kind), table.number, probe, to);
     Asked::Written
 }
 
 // Whether the probe rests a link.
 pub fn rests(
-    number: u16,
-    probes: u16,
-    links: u16,
-    needs: &[u16],
-    lows: &[u16],
-    highs: &[u16],
-    costs: &[u16],
+    table: TableSlices<'_>,
     probe: u16,
     standing: &[u64],
     refused_out: &[u64],
@@ -230,18 +187,12 @@ pub fn rests(
     refused_in: &[u64],
     link: u16,
 ) -> Resting
-    ensures { let x = slices_of number probes links needs.now lows.now highs.now costs.now in
-        let m = rows standing.now refused_out.now held.now refused_in.now in
-        resting_reply result ≡ whether_rests x probe m link }
+    ensures { let m = rows standing.now refused_out.now held.now refused_in.now in
+        resting_reply result ≡ whether_rests (as_slices table.entry) probe m link }
 {
     let mut own = [0u64; 32];
     let state = probe_state::states::check_state(
-        probes as usize,
-        links as usize,
-        needs,
-        lows,
-        highs,
-        costs,
+        table,
         probe,
         standing,
         refused_out,
@@ -251,9 +202,9 @@ pub fn rests(
     );
     let fault = probe_checks::faults::link_call_fault(
         state,
-        links as usize,
-        lows,
-        highs,
+        table.links as usize,
+        table.lows,
+        table.highs,
         probe as usize,
         link as usize,
     );

@@ -41,10 +41,10 @@ module _ (links : ℕ) (a b c d : List ℕ) (sound : Sound links (rows a b c d))
         ∙ (dropped_in links _ _ (marked_in_lem links m (bytes_of links m) (sound_stands links m sound) i l) k w).maps_are
 
 -- the slices are those of an end of their table
-pub end_of : (links : ℕ) (needs lows highs costs own : List ℕ) (p : ℕ) (m : Maps) → OrderedLinks links lows highs costs
-    → own ≡ map_of (is_own (of_slices 0 0 links needs lows highs costs) p) 32 → GoodMaps (of_slices 0 0 links needs lows highs costs) p m
-    → EndOf (of_slices 0 0 links needs lows highs costs) p links needs costs own m
-end_of links needs lows highs costs own p m o e g =
+pub end_of : (number probes links : ℕ) (needs lows highs costs own : List ℕ) (p : ℕ) (m : Maps) → OrderedLinks links lows highs costs
+    → own ≡ map_of (is_own (of_slices number probes links needs lows highs costs) p) 32 → GoodMaps (of_slices number probes links needs lows highs costs) p m
+    → EndOf (of_slices number probes links needs lows highs costs) p links needs costs own m
+end_of number probes links needs lows highs costs own p m o e g =
     record {
       links_are = refl;
       few = o.few;

@@ -1,6 +1,5 @@
 // An end's maps altered by what befell it.
 ghost use Rattle.std.specs.Prelude.{◌≡◌, ℕ};
-ghost use Rattle.table.specs.Table.{of_slices};
 ghost use Rattle.table_links.specs.OrderedLinks.{OrderedLinks};
 ghost use Rattle.bit_maps.specs.BitMap.{map_of};
 ghost use Rattle.probe_rules.specs.Rules.{entry_of};
@@ -8,9 +7,11 @@ ghost use Rattle.probe_rules.specs.Within.{Within, EventWithin, IsHeard};
 ghost use Rattle.probe_maps.specs.Maps.{rows, is_own};
 ghost use Rattle.probe_maps.specs.GoodMaps.{Sound, GoodMaps};
 ghost use Rattle.probe_maps.specs.MapRules.{befalls_maps, alter_maps};
+ghost use Rattle.table.specs.Slices.{as_slices, table_of};
 
 use bit_maps::bits::move_bit;
 use probe_rules::Outcome;
+use table::TableSlices;
 
 // Puts the link into one map of a direction and out of the other, as the outcome says, for every number of links that the maps are of.
 fn alter(
@@ -52,32 +53,29 @@ fn alter(
 pub fn apply(
     event: probe_rules::Event,
     own: &mut [u64],
-    links: usize,
-    needs: &[u16],
-    lows: &[u16],
-    highs: &[u16],
-    costs: &[u16],
+    table: TableSlices<'_>,
     probe: u16,
     standing: &mut [u64],
     refused_out: &mut [u64],
     held: &mut [u64],
     refused_in: &mut [u64],
 ) -> wake_log::Entry
-    requires { let t = of_slices 0 0 links needs.now lows.now highs.now costs.now in
-        OrderedLinks links lows.now highs.now costs.now × (own.old ≡ map_of (is_own t probe) 32)
-        × GoodMaps t probe (rows standing.old refused_out.old held.old refused_in.old) × EventWithin links event }
-    ensures { let t = of_slices 0 0 links needs.now lows.now highs.now costs.now in
+    requires { let t = table_of (as_slices table) in
+        OrderedLinks table.links table.lows.now table.highs.now table.costs.now × (own.old ≡ map_of (is_own t probe) 32)
+        × GoodMaps t probe (rows standing.old refused_out.old held.old refused_in.old) × EventWithin table.links event }
+    ensures { let t = table_of (as_slices table.entry) in
         let before = rows standing.old refused_out.old held.old refused_in.old in
         let after = rows standing.new refused_out.new held.new refused_in.new in
         let o = befalls_maps t probe event before in
-        (result ≡ entry_of t probe o) × (after ≡ alter_maps links o before) × (IsHeard event → own.new ≡ own.old) }
+        (result ≡ entry_of t probe o) × (after ≡ alter_maps table.entry.links o before) × (IsHeard event → own.new ≡ own.old) }
 {
+    let links = table.links as usize;
     let outcome = super::decisions::decide(
         event,
         own,
         links,
-        needs,
-        costs,
+        table.needs,
+        table.costs,
         probe as usize,
         standing,
         refused_out,
@@ -85,5 +83,5 @@ pub fn apply(
         refused_in,
     );
     alter(outcome, standing, refused_out, held, refused_in);
-    probe_rules::outcomes::entry_of(outcome, lows, highs, probe)
+    probe_rules::outcomes::entry_of(outcome, table.lows, table.highs, probe)
 }

@@ -16,6 +16,7 @@ use packed_answers::{ANSWER_BASE, logs, packed_answer};
 use probe::{Asked, Kind, Resting};
 use probe_bags::Hearing;
 use probe_turning::Turning;
+use table::TableSlices;
 
 fn packed_asked(r: Asked) -> u64
     ensures { result ≡ packed_value (asked_reply r) }
@@ -82,7 +83,7 @@ pub extern "C" fn planner_probe_open(
         let after = rows standing.new refused_out.new held.new refused_in.new in
         OpensPacked x probe free result before after }
 {
-    packed_answer(probe::open(
+    let table = TableSlices {
         number,
         probes,
         links,
@@ -90,13 +91,8 @@ pub extern "C" fn planner_probe_open(
         lows,
         highs,
         costs,
-        probe,
-        standing,
-        refused_out,
-        held,
-        refused_in,
-        free,
-    ))
+    };
+    packed_answer(probe::open(table, probe, standing, refused_out, held, refused_in, free))
 }
 
 // `probe::hear`, its answer packed.
@@ -122,7 +118,7 @@ pub extern "C" fn planner_probe_hear(
         let after = rows standing.new refused_out.new held.new refused_in.new in
         HearsPacked x probe frame.now free result before after }
 {
-    packed_answer(probe::hear(
+    let table = TableSlices {
         number,
         probes,
         links,
@@ -130,6 +126,9 @@ pub extern "C" fn planner_probe_hear(
         lows,
         highs,
         costs,
+    };
+    packed_answer(probe::hear(
+        table,
         probe,
         standing,
         refused_out,
@@ -163,7 +162,7 @@ pub extern "C" fn planner_probe_open_logged(
         let after = rows standing.new refused_out.new held.new refused_in.new in
         OpensLoggedPacked x probe result before after used log.old log.new }
 {
-    let answer = probe::open(
+    let table = TableSlices {
         number,
         probes,
         links,
@@ -171,6 +170,9 @@ pub extern "C" fn planner_probe_open_logged(
         lows,
         highs,
         costs,
+    };
+    let answer = probe::open(
+        table,
         probe,
         standing,
         refused_out,
@@ -205,7 +207,7 @@ pub extern "C" fn planner_probe_hear_logged(
         let after = rows standing.new refused_out.new held.new refused_in.new in
         HearsLoggedPacked x probe frame.now result before after used log.old log.new }
 {
-    let answer = probe::hear(
+    let table = TableSlices {
         number,
         probes,
         links,
@@ -213,6 +215,9 @@ pub extern "C" fn planner_probe_hear_logged(
         lows,
         highs,
         costs,
+    };
+    let answer = probe::hear(
+        table,
         probe,
         standing,
         refused_out,
@@ -248,7 +253,7 @@ pub extern "C" fn planner_probe_hear_bag(
         let after = rows standing.new refused_out.new held.new refused_in.new in
         HearsBagPacked x probe bag.now result before after used log.old log.new }
 {
-    let told = probe_hearing::tell_bag(
+    let table = TableSlices {
         number,
         probes,
         links,
@@ -256,6 +261,9 @@ pub extern "C" fn planner_probe_hear_bag(
         lows,
         highs,
         costs,
+    };
+    let told = probe_hearing::tell_bag(
+        table,
         probe,
         standing,
         refused_out,
@@ -292,7 +300,7 @@ pub extern "C" fn planner_probe_ask_offer(
         let m = rows standing.now refused_out.now held.now refused_in.now in
         AsksForPacked x probe Offer link m result out.old out.new }
 {
-    packed_asked(probe::ask(
+    let table = TableSlices {
         number,
         probes,
         links,
@@ -300,6 +308,9 @@ pub extern "C" fn planner_probe_ask_offer(
         lows,
         highs,
         costs,
+    };
+    packed_asked(probe::ask(
+        table,
         probe,
         standing,
         refused_out,
@@ -333,7 +344,7 @@ pub extern "C" fn planner_probe_ask_refusal(
         let m = rows standing.now refused_out.now held.now refused_in.now in
         AsksForPacked x probe Refusal link m result out.old out.new }
 {
-    packed_asked(probe::ask(
+    let table = TableSlices {
         number,
         probes,
         links,
@@ -341,6 +352,9 @@ pub extern "C" fn planner_probe_ask_refusal(
         lows,
         highs,
         costs,
+    };
+    packed_asked(probe::ask(
+        table,
         probe,
         standing,
         refused_out,
@@ -373,7 +387,7 @@ pub extern "C" fn planner_probe_rests(
         let m = rows standing.now refused_out.now held.now refused_in.now in
         result ≡ packed_value (whether_rests x probe m link) }
 {
-    packed_resting(probe::rests(
+    let table = TableSlices {
         number,
         probes,
         links,
@@ -381,13 +395,8 @@ pub extern "C" fn planner_probe_rests(
         lows,
         highs,
         costs,
-        probe,
-        standing,
-        refused_out,
-        held,
-        refused_in,
-        link,
-    ))
+    };
+    packed_resting(probe::rests(table, probe, standing, refused_out, held, refused_in, link))
 }
 
 // `probe_turning::maps_of`, its answer packed.
@@ -412,7 +421,7 @@ pub extern "C" fn planner_probe_maps_of(
         let after = rows standing.new refused_out.new held.new refused_in.new in
         TurnsToMapsPacked x probe rec.now result before after }
 {
-    packed_turning(probe_turning::maps_of(
+    let table = TableSlices {
         number,
         probes,
         links,
@@ -420,6 +429,9 @@ pub extern "C" fn planner_probe_maps_of(
         lows,
         highs,
         costs,
+    };
+    packed_turning(probe_turning::maps_of(
+        table,
         probe,
         rec,
         standing,
@@ -450,7 +462,7 @@ pub extern "C" fn planner_probe_bytes_of(
         let m = rows standing.now refused_out.now held.now refused_in.now in
         TurnsToBytesPacked x probe m result rec.old rec.new }
 {
-    packed_turning(probe_turning::bytes_of(
+    let table = TableSlices {
         number,
         probes,
         links,
@@ -458,6 +470,9 @@ pub extern "C" fn planner_probe_bytes_of(
         lows,
         highs,
         costs,
+    };
+    packed_turning(probe_turning::bytes_of(
+        table,
         probe,
         standing,
         refused_out,

@@ -1,6 +1,5 @@
 // The frames of an accepted bag, heard one after the other.
 ghost use Rattle.std.specs.Prelude.{◌≡◌, [], map, ℕ, ◌≤◌, ◌<◌, length, get_or, take};
-ghost use Rattle.table.specs.Table.{of_slices};
 ghost use Rattle.table_links.specs.OrderedLinks.{OrderedLinks};
 ghost use Rattle.bit_maps.specs.BitMap.{map_of};
 ghost use Rattle.probe_rules.specs.Within.{OwnEvent};
@@ -9,8 +8,10 @@ ghost use Rattle.probe_maps.specs.GoodMaps.{GoodMaps};
 ghost use Rattle.bag_entries.specs.Entries.{entries_of};
 ghost use Rattle.probe_bags.specs.Bag.{maps_after, entries_after};
 ghost use Rattle.probe_hearing.specs.PackedEvents.{unpacked_event};
+ghost use Rattle.table.specs.Slices.{as_slices, table_of};
 
 use bag_entries::Entries;
+use table::TableSlices;
 use wake_log::{Entry, What};
 
 pub fn no_entries() -> Entries
@@ -30,22 +31,18 @@ pub fn hear_frames(
     said: &[u16],
     count: usize,
     own: &mut [u64],
-    links: usize,
-    needs: &[u16],
-    lows: &[u16],
-    highs: &[u16],
-    costs: &[u16],
+    table: TableSlices<'_>,
     probe: u16,
     standing: &mut [u64],
     refused_out: &mut [u64],
     held: &mut [u64],
     refused_in: &mut [u64],
 ) -> Entries
-    requires { let t = of_slices 0 0 links needs.now lows.now highs.now costs.now in
-        OrderedLinks links lows.now highs.now costs.now × (own.old ≡ map_of (is_own t probe) 32)
+    requires { let t = table_of (as_slices table) in
+        OrderedLinks table.links table.lows.now table.highs.now table.costs.now × (own.old ≡ map_of (is_own t probe) 32)
         × GoodMaps t probe (rows standing.old refused_out.old held.old refused_in.old) × (count ≤ 64) × (count ≤ length said.now)
         × ((k : ℕ) → k < count → OwnEvent t probe (unpacked_event (get_or said.now k 0))) }
-    ensures { let t = of_slices 0 0 links needs.now lows.now highs.now costs.now in
+    ensures { let t = table_of (as_slices table.entry) in
         let before = rows standing.old refused_out.old held.old refused_in.old in
         let after = rows standing.new refused_out.new held.new refused_in.new in
         let vs = map unpacked_event (take count said.now) in
@@ -61,11 +58,7 @@ pub fn hear_frames(
         entries[n] = probe_decisions::steps::apply(
             event,
             own,
-            links,
-            needs,
-            lows,
-            highs,
-            costs,
+            table,
             probe,
             standing,
             refused_out,

@@ -1,12 +1,13 @@
 // A bag of frames heard by one end: its frames counted, read and heard, each once; the entries told by value.
 #![tactic(auto)]
 
-ghost use Rattle.table.specs.Slices.{slices_of};
+ghost use Rattle.table.specs.Slices.{as_slices};
 ghost use Rattle.probe_maps.specs.Maps.{rows};
 ghost use Rattle.probe_hearing.specs.Told.{HearsBagTold};
 
 use bag_entries::Entries;
 use probe_bags::Hearing;
+use table::TableSlices;
 
 mod checks;
 mod events;
@@ -22,13 +23,7 @@ pub struct ToldBag {
 
 // The probe hears a bag, of any bytes; `used` of the log's `room` entries are used.
 pub fn tell_bag(
-    number: u16,
-    probes: u16,
-    links: u16,
-    needs: &[u16],
-    lows: &[u16],
-    highs: &[u16],
-    costs: &[u16],
+    table: TableSlices<'_>,
     probe: u16,
     standing: &mut [u64],
     refused_out: &mut [u64],
@@ -38,19 +33,13 @@ pub fn tell_bag(
     used: usize,
     room: usize,
 ) -> ToldBag
-    ensures { let x = slices_of number probes links needs.now lows.now highs.now costs.now in
-        let before = rows standing.old refused_out.old held.old refused_in.old in
+    ensures { let before = rows standing.old refused_out.old held.old refused_in.old in
         let after = rows standing.new refused_out.new held.new refused_in.new in
-        HearsBagTold x probe bag.now used room result before after }
+        HearsBagTold (as_slices table.entry) probe bag.now used room result before after }
 {
     let mut own = [0u64; 32];
     let state = probe_state::states::check_state(
-        probes as usize,
-        links as usize,
-        needs,
-        lows,
-        highs,
-        costs,
+        table,
         probe,
         standing,
         refused_out,
@@ -61,11 +50,11 @@ pub fn tell_bag(
     let mut said = [0u16; 64];
     let checked = checks::check_bag(
         state,
-        number,
-        probes as usize,
-        links as usize,
-        lows,
-        highs,
+        table.number,
+        table.probes as usize,
+        table.links as usize,
+        table.lows,
+        table.highs,
         probe as usize,
         bag,
         wake_log::storing::free(used, room),
@@ -81,11 +70,7 @@ pub fn tell_bag(
         &said,
         checked.count,
         &mut own,
-        links as usize,
-        needs,
-        lows,
-        highs,
-        costs,
+        table,
         probe,
         standing,
         refused_out,

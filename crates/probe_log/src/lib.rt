@@ -1,21 +1,16 @@
 // The events of one end, and the bags of frames that it hears, with its wake log: a lent slice of entries, and the count of its used ones.
 #![tactic(auto)]
 
-ghost use Rattle.table.specs.Slices.{slices_of};
+ghost use Rattle.table.specs.Slices.{as_slices};
 ghost use Rattle.probe_maps.specs.Maps.{rows};
 ghost use Rattle.probe_bags.specs.Bag.{HearsBag};
 ghost use Rattle.probe_log.specs.Logged.{OpensTold, HearsTold, OpensLogged, HearsLogged};
 
+use table::TableSlices;
 use wake_log::storing::Told;
 
 fn open_told(
-    number: u16,
-    probes: u16,
-    links: u16,
-    needs: &[u16],
-    lows: &[u16],
-    highs: &[u16],
-    costs: &[u16],
+    table: TableSlices<'_>,
     probe: u16,
     standing: &mut [u64],
     refused_out: &mut [u64],
@@ -24,19 +19,12 @@ fn open_told(
     used: usize,
     room: usize,
 ) -> Told
-    ensures { let x = slices_of number probes links needs.now lows.now highs.now costs.now in
-        let before = rows standing.old refused_out.old held.old refused_in.old in
+    ensures { let before = rows standing.old refused_out.old held.old refused_in.old in
         let after = rows standing.new refused_out.new held.new refused_in.new in
-        OpensTold x probe used room result before after }
+        OpensTold (as_slices table.entry) probe used room result before after }
 {
     let answer = probe::open(
-        number,
-        probes,
-        links,
-        needs,
-        lows,
-        highs,
-        costs,
+        table,
         probe,
         standing,
         refused_out,
@@ -48,13 +36,7 @@ fn open_told(
 }
 
 fn hear_told(
-    number: u16,
-    probes: u16,
-    links: u16,
-    needs: &[u16],
-    lows: &[u16],
-    highs: &[u16],
-    costs: &[u16],
+    table: TableSlices<'_>,
     probe: u16,
     standing: &mut [u64],
     refused_out: &mut [u64],
@@ -64,19 +46,12 @@ fn hear_told(
     used: usize,
     room: usize,
 ) -> Told
-    ensures { let x = slices_of number probes links needs.now lows.now highs.now costs.now in
-        let before = rows standing.old refused_out.old held.old refused_in.old in
+    ensures { let before = rows standing.old refused_out.old held.old refused_in.old in
         let after = rows standing.new refused_out.new held.new refused_in.new in
-        HearsTold x probe frame.now used room result before after }
+        HearsTold (as_slices table.entry) probe frame.now used room result before after }
 {
     let answer = probe::hear(
-        number,
-        probes,
-        links,
-        needs,
-        lows,
-        highs,
-        costs,
+        table,
         probe,
         standing,
         refused_out,
@@ -90,13 +65,7 @@ fn hear_told(
 
 // The probe opens; the entry goes behind the used ones.
 pub fn open_logged(
-    number: u16,
-    probes: u16,
-    links: u16,
-    needs: &[u16],
-    lows: &[u16],
-    highs: &[u16],
-    costs: &[u16],
+    table: TableSlices<'_>,
     probe: u16,
     standing: &mut [u64],
     refused_out: &mut [u64],
@@ -105,19 +74,12 @@ pub fn open_logged(
     log: &mut [wake_log::Entry],
     used: usize,
 ) -> wake_log::Answer
-    ensures { let x = slices_of number probes links needs.now lows.now highs.now costs.now in
-        let before = rows standing.old refused_out.old held.old refused_in.old in
+    ensures { let before = rows standing.old refused_out.old held.old refused_in.old in
         let after = rows standing.new refused_out.new held.new refused_in.new in
-        OpensLogged x probe result before after used log.old log.new }
+        OpensLogged (as_slices table.entry) probe result before after used log.old log.new }
 {
     let t = open_told(
-        number,
-        probes,
-        links,
-        needs,
-        lows,
-        highs,
-        costs,
+        table,
         probe,
         standing,
         refused_out,
@@ -132,13 +94,7 @@ pub fn open_logged(
 
 // The probe hears a frame; the entry goes behind the used ones.
 pub fn hear_logged(
-    number: u16,
-    probes: u16,
-    links: u16,
-    needs: &[u16],
-    lows: &[u16],
-    highs: &[u16],
-    costs: &[u16],
+    table: TableSlices<'_>,
     probe: u16,
     standing: &mut [u64],
     refused_out: &mut [u64],
@@ -148,19 +104,12 @@ pub fn hear_logged(
     log: &mut [wake_log::Entry],
     used: usize,
 ) -> wake_log::Answer
-    ensures { let x = slices_of number probes links needs.now lows.now highs.now costs.now in
-        let before = rows standing.old refused_out.old held.old refused_in.old in
+    ensures { let before = rows standing.old refused_out.old held.old refused_in.old in
         let after = rows standing.new refused_out.new held.new refused_in.new in
-        HearsLogged x probe frame.now result before after used log.old log.new }
+        HearsLogged (as_slices table.entry) probe frame.now result before after used log.old log.new }
 {
     let t = hear_told(
-        number,
-        probes,
-        links,
-        needs,
-        lows,
-        highs,
-        costs,
+        table,
         probe,
         standing,
         refused_out,
@@ -176,13 +125,7 @@ pub fn hear_logged(
 
 // The probe hears a bag, of any bytes; the entries of its frames go behind the used ones.
 pub fn hear_bag(
-    number: u16,
-    probes: u16,
-    links: u16,
-    needs: &[u16],
-    lows: &[u16],
-    highs: &[u16],
-    costs: &[u16],
+    table: TableSlices<'_>,
     probe: u16,
     standing: &mut [u64],
     refused_out: &mut [u64],
@@ -192,19 +135,12 @@ pub fn hear_bag(
     log: &mut [wake_log::Entry],
     used: usize,
 ) -> probe_bags::Hearing
-    ensures { let x = slices_of number probes links needs.now lows.now highs.now costs.now in
-        let before = rows standing.old refused_out.old held.old refused_in.old in
+    ensures { let before = rows standing.old refused_out.old held.old refused_in.old in
         let after = rows standing.new refused_out.new held.new refused_in.new in
-        HearsBag x probe bag.now result before after used log.old log.new }
+        HearsBag (as_slices table.entry) probe bag.now result before after used log.old log.new }
 {
     let t = probe_hearing::tell_bag(
-        number,
-        probes,
-        links,
-        needs,
-        lows,
-        highs,
-        costs,
+        table,
         probe,
         standing,
         refused_out,

@@ -1,19 +1,15 @@
 // The state that an end's calls start from.
 ghost use Rattle.std.specs.Prelude.{◌≡◌, length};
 ghost use Rattle.bit_maps.specs.BitMap.{map_of};
-ghost use Rattle.table.specs.Slices.{slices_of, table_of};
+ghost use Rattle.table.specs.Slices.{table_of, as_slices};
 ghost use Rattle.probe_maps.specs.Maps.{rows, is_own, state_fault};
 
 use super::{own, words};
+use table::TableSlices;
 
 // The table's checks, then 20, 21, 22. Where none is found, `own` has the probe's own links, with room for 2,048.
 pub fn check_state(
-    probes: usize,
-    links: usize,
-    needs: &[u16],
-    lows: &[u16],
-    highs: &[u16],
-    costs: &[u16],
+    table: TableSlices<'_>,
     probe: u16,
     standing: &[u64],
     refused_out: &[u64],
@@ -22,11 +18,12 @@ pub fn check_state(
     own: &mut [u64],
 ) -> u8
     requires { length own.old ≡ 32 }
-    ensures { let x = slices_of 0 probes links needs.now lows.now highs.now costs.now in
+    ensures { let x = as_slices table.entry in
         let m = rows standing.now refused_out.now held.now refused_in.now in
         (result ≡ state_fault x probe m) × (result ≡ 0 → own.new ≡ map_of (is_own (table_of x) probe) 32) }
 {
-    let fault = table::checks::slice_fault(256, 2048, probes, links, needs, lows, highs, costs);
+    let links = table.links as usize;
+    let fault = table::checks::slice_fault(256, 2048, table);
     if fault != 0 {
         return fault;
     }
@@ -40,11 +37,11 @@ pub fn check_state(
     if lengths != 0 {
         return lengths;
     }
-    own::own_map(links, lows, highs, probe, own);
+    own::own_map(links, table.lows, table.highs, probe, own);
     let bits = words::bits_fault(standing, refused_out, held, refused_in, own);
     if bits != 0 {
         return bits;
     }
-    let spare = own::spare(own, needs, probe as usize);
+    let spare = own::spare(own, table.needs, probe as usize);
     words::ones_fault(spare, standing, held)
 }

@@ -1,9 +1,11 @@
 // The record of an end turned from bytes into maps, and back.
 #![tactic(auto)]
 
-ghost use Rattle.table.specs.Slices.{slices_of};
+ghost use Rattle.table.specs.Slices.{as_slices};
 ghost use Rattle.probe_maps.specs.Maps.{rows};
 ghost use Rattle.probe_turning.specs.Turned.{TurnsToMaps, TurnsToBytes};
+
+use table::TableSlices;
 
 mod lengths;
 mod records;
@@ -18,13 +20,7 @@ pub enum Turning {
 
 // Turns a record of bytes, two a link, into maps at the start of the lent rows.
 pub fn maps_of(
-    number: u16,
-    probes: u16,
-    links: u16,
-    needs: &[u16],
-    lows: &[u16],
-    highs: &[u16],
-    costs: &[u16],
+    table: TableSlices<'_>,
     probe: u16,
     rec: &[u8],
     standing: &mut [u64],
@@ -32,12 +28,11 @@ pub fn maps_of(
     held: &mut [u64],
     refused_in: &mut [u64],
 ) -> Turning
-    ensures { let x = slices_of number probes links needs.now lows.now highs.now costs.now in
-        let before = rows standing.old refused_out.old held.old refused_in.old in
+    ensures { let before = rows standing.old refused_out.old held.old refused_in.old in
         let after = rows standing.new refused_out.new held.new refused_in.new in
-        TurnsToMaps x probe rec.now result before after }
+        TurnsToMaps (as_slices table.entry) probe rec.now result before after }
 {
-    let n = links as usize;
+    let n = table.links as usize;
     let room = lengths::rows_fault(
         n,
         standing.len(),
@@ -48,20 +43,18 @@ pub fn maps_of(
     if room != 0 {
         return Turning::Refused(room);
     }
-    let fault = table::checks::slice_fault(
-        256,
-        2048,
-        probes as usize,
-        n,
-        needs,
-        lows,
-        highs,
-        costs,
-    );
+    let fault = table::checks::slice_fault(256, 2048, table);
     if fault != 0 {
         return Turning::Refused(fault);
     }
-    let bad = probe_record::checks::record_fault(rec, n, needs, lows, highs, probe as usize);
+    let bad = probe_record::checks::record_fault(
+        rec,
+        n,
+        table.needs,
+        table.lows,
+        table.highs,
+        probe as usize,
+    );
     if bad != 0 {
         return Turning::Refused(bad);
     }
@@ -74,13 +67,7 @@ pub fn maps_of(
 
 // Turns maps into a record of bytes, at the start of the lent one.
 pub fn bytes_of(
-    number: u16,
-    probes: u16,
-    links: u16,
-    needs: &[u16],
-    lows: &[u16],
-    highs: &[u16],
-    costs: &[u16],
+    table: TableSlices<'_>,
     probe: u16,
     standing: &[u64],
     refused_out: &[u64],
@@ -88,21 +75,15 @@ pub fn bytes_of(
     refused_in: &[u64],
     rec: &mut [u8],
 ) -> Turning
-    ensures { let x = slices_of number probes links needs.now lows.now highs.now costs.now in
-        let m = rows standing.now refused_out.now held.now refused_in.now in
-        TurnsToBytes x probe m result rec.old rec.new }
+    ensures { let m = rows standing.now refused_out.now held.now refused_in.now in
+        TurnsToBytes (as_slices table.entry) probe m result rec.old rec.new }
 {
-    if rec.len() < 2 * (links as usize) {
+    if rec.len() < 2 * (table.links as usize) {
         return Turning::Refused(8);
     }
     let mut own = [0u64; 32];
     let state = probe_state::states::check_state(
-        probes as usize,
-        links as usize,
-        needs,
-        lows,
-        highs,
-        costs,
+        table,
         probe,
         standing,
         refused_out,
@@ -113,6 +94,13 @@ pub fn bytes_of(
     if state != 0 {
         return Turning::Refused(state);
     }
-    records::store(links as usize, standing, refused_out, held, refused_in, rec);
+    records::store(
+        table.links as usize,
+        standing,
+        refused_out,
+        held,
+        refused_in,
+        rec,
+    );
     Turning::Turned
 }

@@ -2,7 +2,7 @@
 #![tactic(auto)]
 
 ghost use Rattle.std.specs.Prelude.{◌≡◌, ◌≤◌, true, length, take};
-ghost use Rattle.table.specs.Slices.{slices_of, slices_fault};
+ghost use Rattle.table.specs.Slices.{slices_fault, as_slices};
 ghost use Rattle.output.specs.Output.{refusal_line, Prints};
 ghost use Rattle.output.specs.declared.Output.TheVariants.{Length};
 ghost use Rattle.script.specs.Writing.{AnswersInput, left_to_write, WritesEnding, WritesBehind, WritesAll};
@@ -13,6 +13,7 @@ use script_reads::reads::{UNREAD, end, handle_all, write};
 use script_table::input::read_table_text;
 use standard_io::Filling;
 use std::io::{Read, Write};
+use table::TableSlices;
 use table::degrees::count_degrees;
 
 // What is left to write: what the text's end printed; nothing where a read or write failed.
@@ -38,35 +39,25 @@ fn answer_script<R: Read, W: Write, E: Write>(
     input: &mut R,
     output: &mut W,
     errors: &mut E,
-    number: u16,
-    probes: u16,
-    links: u16,
-    needs: &[u16],
-    lows: &[u16],
-    highs: &[u16],
-    costs: &[u16],
+    table: TableSlices<'_>,
     text: &mut [u8],
     out: &mut [u8],
 ) -> Ending
-    requires { (slices_fault (slices_of number probes links needs.now lows.now highs.now costs.now) ≡ 0)
+    requires { (slices_fault (as_slices table) ≡ 0)
         × (length text.old ≤ 4096) × (20560 ≤ length out.old) }
-    ensures { let x = slices_of number probes links needs.now lows.now highs.now costs.now in
-        AnswersInput x result out.new (length text.old)
+    ensures { AnswersInput (as_slices table.entry) result out.new (length text.old)
         (R.remaining input.old) (R.remaining input.new) (W.contents output.old) (W.contents output.new) }
 {
     let mut bytes = [0u8; 16384];
-    let rec = &mut bytes[..8 * (links as usize)];
+    let rec = &mut bytes[..8 * (table.links as usize)];
     let mut line = [0u8; 16];
     let mut degrees = [0u16; 256];
-    count_degrees(&mut degrees, links as usize, lows, highs);
+    count_degrees(&mut degrees, table.links as usize, table.lows, table.highs);
     let stop = handle_all(
-        input, output, errors, number, probes, links, needs, &degrees, lows, highs, costs, rec,
-        &mut line, text, out,
+        input, output, errors, table, &degrees, rec, &mut line, text, out,
     );
     match stop {
-        Stop::AtEnd(progress) => Ending::Printed(end(
-            number, probes, links, needs, lows, highs, costs, rec, progress, out,
-        )),
+        Stop::AtEnd(progress) => Ending::Printed(end(table, rec, progress, out)),
         Stop::Failed => Ending::Failed,
     }
 }
@@ -121,13 +112,15 @@ fn answer_text<R: Read, W: Write, E: Write>(
                 input,
                 output,
                 errors,
-                number,
-                probes,
-                links,
-                &needs,
-                &lows,
-                &highs,
-                &costs,
+                TableSlices {
+                    number,
+                    probes,
+                    links,
+                    needs: &needs,
+                    lows: &lows,
+                    highs: &highs,
+                    costs: &costs,
+                },
                 &mut text[..4096],
                 &mut out,
             );

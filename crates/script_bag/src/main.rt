@@ -1,11 +1,12 @@
 // Document 02, No. 7, with a lent wake log, a program for the gate: probe 1 of M2 hears a bag with the offers of its two neighbours, and, fresh again, one with the same in the other order. The entries are printed as they stand in the log.
 #![tactic(auto)]
 
-ghost use Rattle.table.specs.Slices.{slices_of};
+ghost use Rattle.table.specs.Slices.{as_slices};
 ghost use Rattle.probe_maps.specs.Maps.{rows};
 ghost use Rattle.script_bag.specs.Kept.{KeepsBag};
 
 use std::io::Write;
+use table::TableSlices;
 use wake_log::{Entry, What};
 
 // Site M2.
@@ -22,13 +23,7 @@ const OFFERS: [u8; 60] = *b"01000100000001\n01000100020001\n01000100020001\n0100
 
 // Lends the log for a bag that the end hears.
 fn keep_bag(
-    number: u16,
-    probes: u16,
-    links: u16,
-    needs: &[u16],
-    lows: &[u16],
-    highs: &[u16],
-    costs: &[u16],
+    table: TableSlices<'_>,
     probe: u16,
     standing: &mut [u64],
     refused_out: &mut [u64],
@@ -38,20 +33,13 @@ fn keep_bag(
     entries: [Entry; 16],
     used: usize,
 ) -> [Entry; 16]
-    ensures { let x = slices_of number probes links needs.now lows.now highs.now costs.now in
-        let before = rows standing.old refused_out.old held.old refused_in.old in
+    ensures { let before = rows standing.old refused_out.old held.old refused_in.old in
         let after = rows standing.new refused_out.new held.new refused_in.new in
-        KeepsBag x probe bag.now before after used entries result }
+        KeepsBag (as_slices table.entry) probe bag.now before after used entries result }
 {
     let mut log = entries;
     probe_log::hear_bag(
-        number,
-        probes,
-        links,
-        needs,
-        lows,
-        highs,
-        costs,
+        table,
         probe,
         standing,
         refused_out,
@@ -71,13 +59,15 @@ fn hear_two<W: Write>(output: &mut W, bag: &[u8]) {
     let mut held = [0u64; 1];
     let mut into = [0u64; 1];
     let entries = keep_bag(
-        1,
-        4,
-        3,
-        &NEEDS,
-        &LOWS,
-        &HIGHS,
-        &COSTS,
+        TableSlices {
+            number: 1,
+            probes: 4,
+            links: 3,
+            needs: &NEEDS,
+            lows: &LOWS,
+            highs: &HIGHS,
+            costs: &COSTS,
+        },
         1,
         &mut standing,
         &mut out,

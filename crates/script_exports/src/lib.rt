@@ -13,6 +13,7 @@ use packed_answers::ANSWER_BASE;
 use packed_answers::printed::packed_output;
 use script_output::Handling;
 use script_steps::Progress;
+use table::TableSlices;
 
 // `script_output::script_text`, its answer packed.
 #[unsafe(no_mangle)]
@@ -43,6 +44,15 @@ pub extern "C" fn planner_script_piece(
         HandlesPiecePacked x piece.now result rec.old rec.new line.old line.new
         numbers.old numbers.new out.old out.new }
 {
+    let table = TableSlices {
+        number,
+        probes,
+        links,
+        needs,
+        lows,
+        highs,
+        costs,
+    };
     if numbers.len() < 3 {
         return 8;
     }
@@ -51,9 +61,7 @@ pub extern "C" fn planner_script_piece(
         held: numbers[1],
         changed: numbers[2],
     };
-    let handled = script_output::script_piece(
-        number, probes, links, needs, lows, highs, costs, rec, line, progress, piece, out,
-    );
+    let handled = script_output::script_piece(table, rec, line, progress, piece, out);
     match handled {
         Handling::Printed {
             length,
@@ -87,12 +95,19 @@ pub extern "C" fn planner_script_end(
         let printed = end_text x rec.now held changed in
         PrintsPacked (end_call_fault x rec.now printed out.old) printed result out.old out.new }
 {
+    let table = TableSlices {
+        number,
+        probes,
+        links,
+        needs,
+        lows,
+        highs,
+        costs,
+    };
     let progress = Progress {
         used: 0,
         held,
         changed,
     };
-    packed_output(script_output::script_end(
-        number, probes, links, needs, lows, highs, costs, rec, progress, out,
-    ))
+    packed_output(script_output::script_end(table, rec, progress, out))
 }

@@ -2,12 +2,13 @@
 #![tactic(auto)]
 
 ghost use Rattle.std.specs.Prelude.{◌≡◌};
-ghost use Rattle.table.specs.Slices.{slices_of};
+ghost use Rattle.table.specs.Slices.{as_slices};
 ghost use Rattle.wake_log.specs.Log.{slot_of};
 ghost use Rattle.probe_maps.specs.Maps.{rows};
 ghost use Rattle.script_m11.specs.Kept.{KeepsLine, KeepsOpening, KeepsFrame};
 
 use std::io::Write;
+use table::TableSlices;
 use wake_log::{Entry, Slot, What};
 
 // Site M2.
@@ -24,37 +25,22 @@ const LINES: [u8; 150] =
 
 // Lends the log for one line of the fleet.
 fn keep_line(
-    number: u16,
-    probes: u16,
-    links: u16,
-    needs: &[u16],
-    lows: &[u16],
-    highs: &[u16],
-    costs: &[u16],
+    table: TableSlices<'_>,
     rec: &mut [u8],
     line: &[u8],
     entries: [Entry; 16],
     used: usize,
 ) -> [Entry; 16]
-    ensures { let x = slices_of number probes links needs.now lows.now highs.now costs.now in
-        KeepsLine x used line.now rec.old rec.new entries result }
+    ensures { KeepsLine (as_slices table.entry) used line.now rec.old rec.new entries result }
 {
     let mut log = entries;
-    fleet_log::event_logged(
-        number, probes, links, needs, lows, highs, costs, rec, line, &mut log, used,
-    );
+    fleet_log::event_logged(table, rec, line, &mut log, used);
     log
 }
 
 // Lends the log for an opening of the end.
 fn keep_opening(
-    number: u16,
-    probes: u16,
-    links: u16,
-    needs: &[u16],
-    lows: &[u16],
-    highs: &[u16],
-    costs: &[u16],
+    table: TableSlices<'_>,
     probe: u16,
     standing: &mut [u64],
     refused_out: &mut [u64],
@@ -63,20 +49,13 @@ fn keep_opening(
     entries: [Entry; 16],
     used: usize,
 ) -> [Entry; 16]
-    ensures { let x = slices_of number probes links needs.now lows.now highs.now costs.now in
-        let before = rows standing.old refused_out.old held.old refused_in.old in
+    ensures { let before = rows standing.old refused_out.old held.old refused_in.old in
         let after = rows standing.new refused_out.new held.new refused_in.new in
-        KeepsOpening x probe before after used entries result }
+        KeepsOpening (as_slices table.entry) probe before after used entries result }
 {
     let mut log = entries;
     probe_log::open_logged(
-        number,
-        probes,
-        links,
-        needs,
-        lows,
-        highs,
-        costs,
+        table,
         probe,
         standing,
         refused_out,
@@ -90,13 +69,7 @@ fn keep_opening(
 
 // Lends the log for a frame that the end hears.
 fn keep_frame(
-    number: u16,
-    probes: u16,
-    links: u16,
-    needs: &[u16],
-    lows: &[u16],
-    highs: &[u16],
-    costs: &[u16],
+    table: TableSlices<'_>,
     probe: u16,
     standing: &mut [u64],
     refused_out: &mut [u64],
@@ -106,20 +79,13 @@ fn keep_frame(
     entries: [Entry; 16],
     used: usize,
 ) -> [Entry; 16]
-    ensures { let x = slices_of number probes links needs.now lows.now highs.now costs.now in
-        let before = rows standing.old refused_out.old held.old refused_in.old in
+    ensures { let before = rows standing.old refused_out.old held.old refused_in.old in
         let after = rows standing.new refused_out.new held.new refused_in.new in
-        KeepsFrame x probe frame.now before after used entries result }
+        KeepsFrame (as_slices table.entry) probe frame.now before after used entries result }
 {
     let mut log = entries;
     probe_log::hear_logged(
-        number,
-        probes,
-        links,
-        needs,
-        lows,
-        highs,
-        costs,
+        table,
         probe,
         standing,
         refused_out,
@@ -166,13 +132,15 @@ fn fleet<W: Write>(output: &mut W) {
     let mut entries = fresh();
     for k in 0..10 {
         let after = keep_line(
-            1,
-            4,
-            3,
-            &NEEDS,
-            &LOWS,
-            &HIGHS,
-            &COSTS,
+            TableSlices {
+                number: 1,
+                probes: 4,
+                links: 3,
+                needs: &NEEDS,
+                lows: &LOWS,
+                highs: &HIGHS,
+                costs: &COSTS,
+            },
             &mut rec,
             &LINES[15 * k..15 * k + 15],
             entries,
@@ -190,13 +158,15 @@ fn end<W: Write>(output: &mut W) {
     let mut held = [0u64; 1];
     let mut into = [0u64; 1];
     let one = keep_frame(
-        1,
-        4,
-        3,
-        &NEEDS,
-        &LOWS,
-        &HIGHS,
-        &COSTS,
+        TableSlices {
+            number: 1,
+            probes: 4,
+            links: 3,
+            needs: &NEEDS,
+            lows: &LOWS,
+            highs: &HIGHS,
+            costs: &COSTS,
+        },
         1,
         &mut standing,
         &mut out,
@@ -207,13 +177,15 @@ fn end<W: Write>(output: &mut W) {
         0,
     );
     let two = keep_opening(
-        1,
-        4,
-        3,
-        &NEEDS,
-        &LOWS,
-        &HIGHS,
-        &COSTS,
+        TableSlices {
+            number: 1,
+            probes: 4,
+            links: 3,
+            needs: &NEEDS,
+            lows: &LOWS,
+            highs: &HIGHS,
+            costs: &COSTS,
+        },
         1,
         &mut standing,
         &mut out,
@@ -223,13 +195,15 @@ fn end<W: Write>(output: &mut W) {
         1,
     );
     let three = keep_frame(
-        1,
-        4,
-        3,
-        &NEEDS,
-        &LOWS,
-        &HIGHS,
-        &COSTS,
+        TableSlices {
+            number: 1,
+            probes: 4,
+            links: 3,
+            needs: &NEEDS,
+            lows: &LOWS,
+            highs: &HIGHS,
+            costs: &COSTS,
+        },
         1,
         &mut standing,
         &mut out,

@@ -1,13 +1,14 @@
 // A piece of a script whose table and record are already checked. `script_piece` goes on with these, and so does the script program, which checks its table once.
 ghost use Rattle.std.specs.Prelude.{◌≡◌, cond, ◌≤◌, ltb, length};
 ghost use Rattle.table.specs.Table.{Degrees};
-ghost use Rattle.table.specs.Slices.{slices_of, table_of, slices_fault};
+ghost use Rattle.table.specs.Slices.{table_of, slices_fault, as_slices};
 ghost use Rattle.fleet_theory.specs.Fleet.{fleet_fault};
 ghost use Rattle.script_theory.specs.Script.{after_piece};
 ghost use Rattle.script_output.specs.Handling.{before, HandlesPiece};
 ghost use Rattle.script_output.specs.declared.Handling.TheVariants.{Printed};
 
 use script_steps::{Place, Progress};
+use table::TableSlices;
 
 // The progress that a piece goes on from: of an unfinished line at most 16 bytes are held.
 pub fn begun(progress: Progress) -> Progress
@@ -25,40 +26,19 @@ pub fn begun(progress: Progress) -> Progress
 
 // Handles a piece in a slice that holds its answers. Each probe's links are counted.
 pub fn handle_piece(
-    number: u16,
-    probes: u16,
-    links: u16,
-    needs: &[u16],
+    table: TableSlices<'_>,
     degrees: &[u16],
-    lows: &[u16],
-    highs: &[u16],
-    costs: &[u16],
     rec: &mut [u8],
     line: &mut [u8],
     progress: Progress,
     piece: &[u8],
     out: &mut [u8],
 ) -> Place
-    requires { let x = slices_of number probes links needs.now lows.now highs.now costs.now in
-        (slices_fault x ≡ 0) × (fleet_fault (table_of x) rec.old ≡ 0) × (probes ≤ length degrees.now) × Degrees (table_of x) degrees.now
+    requires { let x = as_slices table in
+        (slices_fault x ≡ 0) × (fleet_fault (table_of x) rec.old ≡ 0) × (table.probes ≤ length degrees.now) × Degrees (table_of x) degrees.now
         × (16 ≤ length line.old) × (length (after_piece x 1024 (before progress rec.old line.old) piece.now).out ≤ length out.old) }
-    ensures { let x = slices_of number probes links needs.now lows.now highs.now costs.now in
-        HandlesPiece x progress piece.now (Printed result.at result.progress)
+    ensures { HandlesPiece (as_slices table.entry) progress piece.now (Printed result.at result.progress)
         rec.old rec.new line.old line.new out.old out.new }
 {
-    script_pieces::pieces::take_piece(
-        number,
-        probes as usize,
-        links as usize,
-        needs,
-        degrees,
-        lows,
-        highs,
-        costs,
-        rec,
-        line,
-        begun(progress),
-        piece,
-        out,
-    )
+    script_pieces::pieces::take_piece(table, degrees, rec, line, begun(progress), piece, out)
 }

@@ -4,13 +4,14 @@
 ghost use Rattle.std.specs.Prelude.{◌≡◌, ℕ, ◌≤◌, ◌<◌, length, get_or};
 ghost use Rattle.output.specs.Output.{output_fault, Prints};
 ghost use Rattle.table.specs.Table.{Degrees};
-ghost use Rattle.table.specs.Slices.{slices_of, table_of};
+ghost use Rattle.table.specs.Slices.{table_of, as_slices};
 ghost use Rattle.script_theory.specs.Script.{end_text, script_output};
 ghost use Rattle.script_steps.specs.Within.{under_way};
 ghost use Rattle.script_output.specs.Handling.{piece_fault, HandlesPiece, end_call_fault};
 
 use output::Output;
 use script_steps::Progress;
+use table::TableSlices;
 
 pub mod checked;
 
@@ -24,13 +25,7 @@ pub enum Handling {
 // The fault of a piece: 8 for fewer than 16 bytes of `line`, the table's own, 20 to 22, and 8 where the output slice, of length `room`, does not hold what is printed.
 // Five bytes for each byte held or given hold any output; else it is counted, on a copy of the record. Where there is no fault, each probe's links are counted.
 fn piece_fault(
-    number: u16,
-    probes: u16,
-    links: u16,
-    needs: &[u16],
-    lows: &[u16],
-    highs: &[u16],
-    costs: &[u16],
+    table: TableSlices<'_>,
     rec: &[u8],
     line: &[u8],
     begun: Progress,
@@ -39,45 +34,23 @@ fn piece_fault(
     degrees: &mut [u16],
 ) -> u8
     requires { (begun.held ≤ 16) × (room < 9223372036854775808) × (length degrees.old ≡ 256) × ((v : ℕ) → get_or degrees.old v 0 ≡ 0) }
-    ensures { let x = slices_of number probes links needs.now lows.now highs.now costs.now in
+    ensures { let x = as_slices table.entry in
         (result ≡ piece_fault x (under_way begun rec.now line.now) piece.now (length line.now) room)
         × (result ≡ 0 → Degrees (table_of x) degrees.new) }
 {
     if line.len() < 16 {
         return 8;
     }
-    let probe_count = probes as usize;
-    let link_count = links as usize;
-    let fault = fleet_state::checks::state_fault(
-        probe_count,
-        link_count,
-        needs,
-        lows,
-        highs,
-        costs,
-        rec,
-        degrees,
-    );
+    let probe_count = table.probes as usize;
+    let link_count = table.links as usize;
+    let fault = fleet_state::checks::state_fault(table, rec, degrees);
     if fault != 0 {
         return fault;
     }
     if begun.held as usize + piece.len() <= room / 5 {
         return 0;
     }
-    let length = script_pieces::pieces::count_piece(
-        number,
-        probe_count,
-        link_count,
-        needs,
-        degrees,
-        lows,
-        highs,
-        costs,
-        rec,
-        line,
-        begun,
-        piece,
-    );
+    let length = script_pieces::pieces::count_piece(table, degrees, rec, line, begun, piece);
     if room < length {
         return 8;
     }
@@ -86,45 +59,22 @@ fn piece_fault(
 
 // Handles a piece of the text behind a table. `line` keeps an unfinished line from one piece to the next, in 16 bytes.
 pub fn script_piece(
-    number: u16,
-    probes: u16,
-    links: u16,
-    needs: &[u16],
-    lows: &[u16],
-    highs: &[u16],
-    costs: &[u16],
+    table: TableSlices<'_>,
     rec: &mut [u8],
     line: &mut [u8],
     progress: Progress,
     piece: &[u8],
     out: &mut [u8],
 ) -> Handling
-    ensures { let x = slices_of number probes links needs.now lows.now highs.now costs.now in
-        HandlesPiece x progress piece.now result rec.old rec.new line.old line.new out.old out.new }
+    ensures { HandlesPiece (as_slices table.entry) progress piece.now result rec.old rec.new line.old line.new out.old out.new }
 {
     let begun = checked::begun(progress);
     let mut degrees = [0u16; 256];
-    let fault = piece_fault(
-        number,
-        probes,
-        links,
-        needs,
-        lows,
-        highs,
-        costs,
-        rec,
-        line,
-        begun,
-        piece,
-        out.len(),
-        &mut degrees,
-    );
+    let fault = piece_fault(table, rec, line, begun, piece, out.len(), &mut degrees);
     if fault != 0 {
         return Handling::Refused(fault);
     }
-    let place = checked::handle_piece(
-        number, probes, links, needs, &degrees, lows, highs, costs, rec, line, progress, piece, out,
-    );
+    let place = checked::handle_piece(table, &degrees, rec, line, progress, piece, out);
     let reached = place.progress;
     Handling::Printed {
         length: place.at,
@@ -133,48 +83,28 @@ pub fn script_piece(
 }
 
 // Prints what the text's end prints.
-pub fn script_end(
-    number: u16,
-    probes: u16,
-    links: u16,
-    needs: &[u16],
-    lows: &[u16],
-    highs: &[u16],
-    costs: &[u16],
-    rec: &[u8],
-    progress: Progress,
-    out: &mut [u8],
-) -> Output
-    ensures { let x = slices_of number probes links needs.now lows.now highs.now costs.now in
+pub fn script_end(table: TableSlices<'_>, rec: &[u8], progress: Progress, out: &mut [u8]) -> Output
+    ensures { let x = as_slices table.entry in
         let printed = end_text x rec.now progress.held progress.changed in
         Prints (end_call_fault x rec.now printed out.old) printed result out.old out.new }
 {
     if out.len() < script_pieces::ending::end_length(progress.held) {
         return Output::Refused(8);
     }
-    let probe_count = probes as usize;
-    let link_count = links as usize;
+    let probe_count = table.probes as usize;
+    let link_count = table.links as usize;
     let mut degrees = [0u16; 256];
-    let fault = fleet_state::checks::state_fault(
-        probe_count,
-        link_count,
-        needs,
-        lows,
-        highs,
-        costs,
-        rec,
-        &mut degrees,
-    );
+    let fault = fleet_state::checks::state_fault(table, rec, &mut degrees);
     if fault != 0 {
         return Output::Refused(fault);
     }
     let length = script_pieces::ending::put_end(
         probe_count,
         link_count,
-        needs,
+        table.needs,
         &degrees,
-        lows,
-        highs,
+        table.lows,
+        table.highs,
         rec,
         progress.held,
         progress.changed,
@@ -201,13 +131,15 @@ pub fn script_text(text: &[u8], out: &mut [u8]) -> Output
             links,
             rest,
         } => script_pieces::whole::print_script(
-            number,
-            probes as usize,
-            links as usize,
-            &needs,
-            &lows,
-            &highs,
-            &costs,
+            TableSlices {
+                number,
+                probes,
+                links,
+                needs: &needs,
+                lows: &lows,
+                highs: &highs,
+                costs: &costs,
+            },
             &text[rest..],
             out,
         ),

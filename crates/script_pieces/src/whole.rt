@@ -2,13 +2,14 @@
 ghost use Rattle.std.specs.Prelude.{◌≡◌, ◌≤◌, ◌<◌, leb, length};
 ghost use Rattle.std.proofs.lemmas.List.Edits.{sets};
 ghost use Rattle.table.specs.Table.{Degrees};
-ghost use Rattle.table.specs.Slices.{slices_fault, table_of, slices_of};
+ghost use Rattle.table.specs.Slices.{slices_fault, table_of, as_slices};
 ghost use Rattle.output.specs.Output.{output_fault, Prints};
 ghost use Rattle.script_lines.specs.Fitting.{capped};
 ghost use Rattle.script_theory.specs.Script.{script_text};
 
 use output::Output;
 use script_steps::{Place, Progress};
+use table::TableSlices;
 
 // A script's start: nothing is printed, used, held or changed.
 fn begin() -> Place
@@ -25,30 +26,18 @@ fn begin() -> Place
 }
 
 // The lines behind a table, all of them, and the end, printed as far as they fit. Answers their length.
-fn put_script(
-    number: u16,
-    probes: usize,
-    links: usize,
-    needs: &[u16],
-    degrees: &[u16],
-    lows: &[u16],
-    highs: &[u16],
-    costs: &[u16],
-    text: &[u8],
-    out: &mut [u8],
-) -> usize
-    requires { let x = slices_of number probes links needs.now lows.now highs.now costs.now in
-        (slices_fault x ≡ 0) × (probes ≤ length degrees.now) × Degrees (table_of x) degrees.now }
-    ensures { let x = slices_of number probes links needs.now lows.now highs.now costs.now in
-        let printed = script_text x 1024 text.now in
+fn put_script(table: TableSlices<'_>, degrees: &[u16], text: &[u8], out: &mut [u8]) -> usize
+    requires { let x = as_slices table in
+        (slices_fault x ≡ 0) × (table.probes ≤ length degrees.now) × Degrees (table_of x) degrees.now }
+    ensures { let printed = script_text (as_slices table.entry) 1024 text.now in
         (result ≡ capped (length printed)) × (length printed ≤ length out.old → out.new ≡ sets out.old 0 printed) }
 {
+    let probes = table.probes as usize;
+    let links = table.links as usize;
     let mut bytes = [0u8; 16384];
     let rec = &mut bytes[..8 * links];
     let start = begin();
-    let closed = script_steps::steps::take_lines(
-        number, probes, links, needs, degrees, lows, highs, costs, rec, text, out, start,
-    );
+    let closed = script_steps::steps::take_lines(table, degrees, rec, text, out, start);
     let place = closed.place;
     let p = place.progress;
     let mut unclosed = 0;
@@ -56,73 +45,46 @@ fn put_script(
         unclosed = 1;
     }
     super::ending::put_end(
-        probes, links, needs, degrees, lows, highs, rec, unclosed, p.changed, out, place.at,
+        probes,
+        links,
+        table.needs,
+        degrees,
+        table.lows,
+        table.highs,
+        rec,
+        unclosed,
+        p.changed,
+        out,
+        place.at,
     )
 }
 
 // Whether a slice of this length holds what the lines behind a table print. Five bytes for each byte, and 11, hold any output; else it is counted.
-fn script_fits(
-    number: u16,
-    probes: usize,
-    links: usize,
-    needs: &[u16],
-    degrees: &[u16],
-    lows: &[u16],
-    highs: &[u16],
-    costs: &[u16],
-    text: &[u8],
-    room: usize,
-) -> bool
-    requires { let x = slices_of number probes links needs.now lows.now highs.now costs.now in
-        (slices_fault x ≡ 0) × (probes ≤ length degrees.now) × Degrees (table_of x) degrees.now × (room < 9223372036854775808) }
-    ensures { let x = slices_of number probes links needs.now lows.now highs.now costs.now in
-        result ≡ leb (length (script_text x 1024 text.now)) room }
+fn script_fits(table: TableSlices<'_>, degrees: &[u16], text: &[u8], room: usize) -> bool
+    requires { let x = as_slices table in
+        (slices_fault x ≡ 0) × (table.probes ≤ length degrees.now) × Degrees (table_of x) degrees.now × (room < 9223372036854775808) }
+    ensures { result ≡ leb (length (script_text (as_slices table.entry) 1024 text.now)) room }
 {
     if text.len() + 3 <= room / 5 {
         return true;
     }
     let mut none = [0u8; 1];
-    let length = put_script(
-        number,
-        probes,
-        links,
-        needs,
-        degrees,
-        lows,
-        highs,
-        costs,
-        text,
-        &mut none[..0],
-    );
+    let length = put_script(table, degrees, text, &mut none[..0]);
     length <= room
 }
 
 // Prints the lines behind a table, all of them, and the end.
-pub fn print_script(
-    number: u16,
-    probes: usize,
-    links: usize,
-    needs: &[u16],
-    lows: &[u16],
-    highs: &[u16],
-    costs: &[u16],
-    text: &[u8],
-    out: &mut [u8],
-) -> Output
-    requires { slices_fault (slices_of number probes links needs.now lows.now highs.now costs.now) ≡ 0 }
-    ensures { let x = slices_of number probes links needs.now lows.now highs.now costs.now in
-        let printed = script_text x 1024 text.now in
+pub fn print_script(table: TableSlices<'_>, text: &[u8], out: &mut [u8]) -> Output
+    requires { slices_fault (as_slices table) ≡ 0 }
+    ensures { let printed = script_text (as_slices table.entry) 1024 text.now in
         Prints (output_fault (length out.old) printed) printed result out.old out.new }
 {
+    let links = table.links as usize;
     let mut degrees = [0u16; 256];
-    table::degrees::count_degrees(&mut degrees, links, lows, highs);
+    table::degrees::count_degrees(&mut degrees, links, table.lows, table.highs);
     let room = out.len();
-    if !script_fits(
-        number, probes, links, needs, &degrees, lows, highs, costs, text, room,
-    ) {
+    if !script_fits(table, &degrees, text, room) {
         return Output::Refused(8);
     }
-    Output::Length(put_script(
-        number, probes, links, needs, &degrees, lows, highs, costs, text, out,
-    ))
+    Output::Length(put_script(table, &degrees, text, out))
 }

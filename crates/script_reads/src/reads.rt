@@ -2,7 +2,7 @@
 ghost use Rattle.std.specs.Prelude.{◌≡◌, ◌≤◌, true, length};
 ghost use Rattle.std.specs.Io.KnownBytes.{Appends};
 ghost use Rattle.table.specs.Table.{Degrees};
-ghost use Rattle.table.specs.Slices.{slices_of, table_of, slices_fault};
+ghost use Rattle.table.specs.Slices.{table_of, slices_fault, as_slices};
 ghost use Rattle.fleet_theory.specs.Fleet.{fleet_fault, start};
 ghost use Rattle.output.specs.Output.{Prints};
 ghost use Rattle.output.specs.declared.Output.TheVariants.{Length};
@@ -15,6 +15,7 @@ use output::Output;
 use script_steps::Progress;
 use standard_io::Got;
 use std::io::{Read, Write};
+use table::TableSlices;
 
 pub const UNREAD: [u8; 36] = *b"script: the input could not be read\n";
 
@@ -36,24 +37,17 @@ pub fn handle_all<R: Read, W: Write, E: Write>(
     input: &mut R,
     output: &mut W,
     errors: &mut E,
-    number: u16,
-    probes: u16,
-    links: u16,
-    needs: &[u16],
+    table: TableSlices<'_>,
     degrees: &[u16],
-    lows: &[u16],
-    highs: &[u16],
-    costs: &[u16],
     rec: &mut [u8],
     line: &mut [u8],
     text: &mut [u8],
     out: &mut [u8],
 ) -> Stop
-    requires { let x = slices_of number probes links needs.now lows.now highs.now costs.now in
-        (slices_fault x ≡ 0) × (rec.old ≡ (start x).bytes) × (probes ≤ length degrees.now) × Degrees (table_of x) degrees.now
+    requires { let x = as_slices table in
+        (slices_fault x ≡ 0) × (rec.old ≡ (start x).bytes) × (table.probes ≤ length degrees.now) × Degrees (table_of x) degrees.now
         × (16 ≤ length line.old) × (length text.old ≤ 4096) × (20560 ≤ length out.old) }
-    ensures { let x = slices_of number probes links needs.now lows.now highs.now costs.now in
-        HandlesInput x result line.old rec.new line.new (length text.old)
+    ensures { HandlesInput (as_slices table.entry) result line.old rec.new line.new (length text.old)
         (R.remaining input.old) (R.remaining input.new) (W.contents output.old) (W.contents output.new) }
 {
     let mut progress = Progress {
@@ -65,14 +59,8 @@ pub fn handle_all<R: Read, W: Write, E: Write>(
         match standard_io::read_some(input, text) {
             Got::Bytes(n) => {
                 let place = script_output::checked::handle_piece(
-                    number,
-                    probes,
-                    links,
-                    needs,
+                    table,
                     degrees,
-                    lows,
-                    highs,
-                    costs,
                     rec,
                     line,
                     progress,
@@ -96,27 +84,14 @@ pub fn handle_all<R: Read, W: Write, E: Write>(
 }
 
 // Prints what the text's end prints.
-pub fn end(
-    number: u16,
-    probes: u16,
-    links: u16,
-    needs: &[u16],
-    lows: &[u16],
-    highs: &[u16],
-    costs: &[u16],
-    rec: &[u8],
-    progress: Progress,
-    out: &mut [u8],
-) -> usize
-    requires { let x = slices_of number probes links needs.now lows.now highs.now costs.now in
+pub fn end(table: TableSlices<'_>, rec: &[u8], progress: Progress, out: &mut [u8]) -> usize
+    requires { let x = as_slices table in
         (slices_fault x ≡ 0) × (fleet_fault (table_of x) rec.now ≡ 0) × (16 ≤ length out.old) }
-    ensures { let x = slices_of number probes links needs.now lows.now highs.now costs.now in
+    ensures { let x = as_slices table.entry in
         let printed = end_text x rec.now progress.held progress.changed in
         Prints (end_call_fault x rec.now printed out.old) printed (Length result) out.old out.new }
 {
-    let printed = script_output::script_end(
-        number, probes, links, needs, lows, highs, costs, rec, progress, out,
-    );
+    let printed = script_output::script_end(table, rec, progress, out);
     match printed {
         Output::Length(length) => length,
         Output::Refused(_) => 0,

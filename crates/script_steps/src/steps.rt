@@ -2,7 +2,7 @@
 ghost use Rattle.std.specs.Prelude.{◌≡◌, [], ◌+◌, ◌≤◌, length};
 ghost use Rattle.fleet_theory.specs.Fleet.{fleet_fault};
 ghost use Rattle.table.specs.Table.{Degrees};
-ghost use Rattle.table.specs.Slices.{slices_fault, table_of, slices_of};
+ghost use Rattle.table.specs.Slices.{slices_fault, table_of, as_slices};
 ghost use Rattle.output.specs.Output.{refusal_line};
 ghost use Rattle.script_lines.specs.Fitting.{capped, stored_within};
 ghost use Rattle.script_theory.specs.Script.{after_line};
@@ -10,43 +10,24 @@ ghost use Rattle.script_steps.specs.Within.{under_way, Buffered};
 ghost use Rattle.script_steps.specs.Closing.{Closed};
 
 use super::{Lines, Place, Progress};
+use table::TableSlices;
 
 // A line, or 16 bytes of a longer one, to a fleet whose table and record are already checked; its answer is printed from an offset on, where it fits.
 pub fn answer_line(
-    number: u16,
-    probes: usize,
-    links: usize,
-    needs: &[u16],
+    table: TableSlices<'_>,
     degrees: &[u16],
-    lows: &[u16],
-    highs: &[u16],
-    costs: &[u16],
     rec: &mut [u8],
     line: &[u8],
     out: &mut [u8],
     place: Place,
 ) -> Place
-    requires { let x = slices_of number probes links needs.now lows.now highs.now costs.now in
-        (slices_fault x ≡ 0) × (fleet_fault (table_of x) rec.old ≡ 0) × (probes ≤ length degrees.now) × Degrees (table_of x) degrees.now × (place.at ≤ 9223372036854775808) }
-    ensures { let x = slices_of number probes links needs.now lows.now highs.now costs.now in
-        Buffered (after_line x 1024 (under_way place.progress rec.old []) line.now)
+    requires { let x = as_slices table in
+        (slices_fault x ≡ 0) × (fleet_fault (table_of x) rec.old ≡ 0) × (table.probes ≤ length degrees.now) × Degrees (table_of x) degrees.now × (place.at ≤ 9223372036854775808) }
+    ensures { Buffered (after_line (as_slices table.entry) 1024 (under_way place.progress rec.old []) line.now)
         place.at result rec.new [] out.old out.new }
 {
     let progress = place.progress;
-    let answer = fleet::steps::handle_line(
-        number,
-        probes,
-        links,
-        needs,
-        degrees,
-        lows,
-        highs,
-        costs,
-        rec,
-        line,
-        progress.used as usize,
-        1024,
-    );
+    let answer = fleet::steps::handle_line(table, degrees, rec, line, progress.used as usize, 1024);
     Place {
         at: script_lines::answers::put_answer(out, place.at, answer),
         progress: Progress {
@@ -76,24 +57,17 @@ fn refuse_line(out: &mut [u8], place: Place) -> Place
 
 // The lines that a piece closes, where no byte of its first line is held.
 pub fn take_lines(
-    number: u16,
-    probes: usize,
-    links: usize,
-    needs: &[u16],
+    table: TableSlices<'_>,
     degrees: &[u16],
-    lows: &[u16],
-    highs: &[u16],
-    costs: &[u16],
     rec: &mut [u8],
     piece: &[u8],
     out: &mut [u8],
     start: Place,
 ) -> Lines
-    requires { let x = slices_of number probes links needs.now lows.now highs.now costs.now in
-        (slices_fault x ≡ 0) × (fleet_fault (table_of x) rec.old ≡ 0) × (probes ≤ length degrees.now) × Degrees (table_of x) degrees.now
+    requires { let x = as_slices table in
+        (slices_fault x ≡ 0) × (fleet_fault (table_of x) rec.old ≡ 0) × (table.probes ≤ length degrees.now) × Degrees (table_of x) degrees.now
         × (start.progress.held ≡ 0) × (start.at ≤ 9223372036854775808) }
-    ensures { let x = slices_of number probes links needs.now lows.now highs.now costs.now in
-        Closed x (under_way start.progress rec.old []) piece.now start.at result rec.new [] out.old out.new }
+    ensures { Closed (as_slices table.entry) (under_way start.progress rec.old []) piece.now start.at result rec.new [] out.old out.new }
 {
     let mut place = start;
     let mut at = 0;
@@ -102,20 +76,7 @@ pub fn take_lines(
         if next - at != 15 {
             place = refuse_line(out, place);
         } else {
-            place = answer_line(
-                number,
-                probes,
-                links,
-                needs,
-                degrees,
-                lows,
-                highs,
-                costs,
-                rec,
-                &piece[at..next],
-                out,
-                place,
-            );
+            place = answer_line(table, degrees, rec, &piece[at..next], out, place);
         }
         at = next;
         next = super::line_bytes::line_end(piece, at);

@@ -3,6 +3,7 @@ use Rattle.std.specs.Prelude.{ℕ, ◌≤◌, ◌≡◌, List, length}
 use Rattle.range.specs.First.{or_else}
 use Rattle.table.specs.Table.{Table, of_slices}
 use Rattle.table.specs.Legal.{table_fault, room_fault}
+use Rattle.table.specs.declared.TableSlices.{TableSlices}
 
 pub record Slices : Type 0 where
   pub number : ℕ
@@ -42,3 +43,8 @@ pub record LegalSlices (pmax lmax : ℕ) (x : Slices) : Type 0 where
   pub in_lows : x.links ≤ length x.lows
   pub in_highs : x.links ≤ length x.highs
   pub in_costs : x.links ≤ length x.costs
+
+-- the slices that a program lends, with their numbers
+abbrev pub as_slices : TableSlices → Slices
+as_slices t =
+    slices_of t.number t.probes t.links t.needs.now t.lows.now t.highs.now t.costs.now

@@ -3,11 +3,11 @@ ghost use Rattle.std.specs.Prelude.{◌≡◌, true, [], ◌-◌, ◌<◌, ◌�
 ghost use Rattle.range.specs.First.{first};
 ghost use Rattle.table.specs.Table.{item, of_slices};
 ghost use Rattle.table.specs.Legal.{size_fault, ends_fault, order_fault, link_fault, table_fault, room_fault};
-ghost use Rattle.table.specs.Slices.{slice_fault, slices_of};
+ghost use Rattle.table.specs.Slices.{slice_fault, as_slices};
 ghost use Rattle.table.specs.Checking.{ChecksTable};
 
-use super::Checking;
 use super::numbers::wide;
+use super::{Checking, TableSlices};
 
 // 3
 pub fn size_fault(pmax: usize, lmax: usize, probes: usize, links: usize) -> u8
@@ -160,57 +160,30 @@ pub fn room_fault(
 }
 
 // 8, 3, then 4 and 5 link by link.
-pub fn slice_fault(
-    pmax: usize,
-    lmax: usize,
-    probes: usize,
-    links: usize,
-    needs: &[u16],
-    lows: &[u16],
-    highs: &[u16],
-    costs: &[u16],
-) -> u8
-    ensures { let x = slices_of 0 probes links needs.now lows.now highs.now costs.now in
-        result ≡ slice_fault pmax lmax x }
+pub fn slice_fault(pmax: usize, lmax: usize, table: TableSlices<'_>) -> u8
+    ensures { result ≡ slice_fault pmax lmax (as_slices table.entry) }
 {
+    let probes = table.probes as usize;
+    let links = table.links as usize;
     let room = room_fault(
         probes,
         links,
-        needs.len(),
-        lows.len(),
-        highs.len(),
-        costs.len(),
+        table.needs.len(),
+        table.lows.len(),
+        table.highs.len(),
+        table.costs.len(),
     );
     if room != 0 {
         return room;
     }
-    table_fault(pmax, lmax, probes, links, lows, highs)
+    table_fault(pmax, lmax, probes, links, table.lows, table.highs)
 }
 
 // The answer of a check within the limits pmax and lmax.
-pub fn check_limited(
-    pmax: usize,
-    lmax: usize,
-    probes: u16,
-    links: u16,
-    needs: &[u16],
-    lows: &[u16],
-    highs: &[u16],
-    costs: &[u16],
-) -> Checking
-    ensures { let x = slices_of 0 probes links needs.now lows.now highs.now costs.now in
-        ChecksTable pmax lmax x result }
+pub fn check_limited(pmax: usize, lmax: usize, table: TableSlices<'_>) -> Checking
+    ensures { ChecksTable pmax lmax (as_slices table.entry) result }
 {
-    let fault = slice_fault(
-        pmax,
-        lmax,
-        probes as usize,
-        links as usize,
-        needs,
-        lows,
-        highs,
-        costs,
-    );
+    let fault = slice_fault(pmax, lmax, table);
     if fault == 0 {
         Checking::Fine
     } else {

@@ -1,7 +1,7 @@
 // A table in slices: whether it is legal.
 #![tactic(auto)]
 
-ghost use Rattle.table.specs.Slices.{slices_of};
+ghost use Rattle.table.specs.Slices.{as_slices};
 ghost use Rattle.table.specs.Checking.{ChecksTable};
 
 pub mod checks;
@@ -21,6 +21,18 @@ pub const LINK_BYTES: usize = 13;
 
 pub const CLOSING_BYTES: usize = 5;
 
+// A table in slices, with its number, probe count and link count.
+#[derive(Clone, Copy)]
+pub struct TableSlices<'a> {
+    pub number: u16,
+    pub probes: u16,
+    pub links: u16,
+    pub needs: &'a [u16],
+    pub lows: &'a [u16],
+    pub highs: &'a [u16],
+    pub costs: &'a [u16],
+}
+
 // A table's answer: fine, or the number of its refusal.
 #[derive(Clone, Copy)]
 pub enum Checking {
@@ -29,17 +41,8 @@ pub enum Checking {
 }
 
 // Checks a table that is given in slices by its number, probe count and link count.
-pub fn check_table(
-    number: u16,
-    probes: u16,
-    links: u16,
-    needs: &[u16],
-    lows: &[u16],
-    highs: &[u16],
-    costs: &[u16],
-) -> Checking
-    ensures { let x = slices_of number probes links needs.now lows.now highs.now costs.now in
-        ChecksTable 256 2048 x result }
+pub fn check_table(table: TableSlices<'_>) -> Checking
+    ensures { ChecksTable 256 2048 (as_slices table.entry) result }
 {
-    checks::check_limited(256, 2048, probes, links, needs, lows, highs, costs)
+    checks::check_limited(256, 2048, table)
 }

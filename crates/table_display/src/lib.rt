@@ -2,13 +2,13 @@
 #![tactic(auto)]
 
 ghost use Rattle.std.specs.Prelude.{false};
-ghost use Rattle.table.specs.Slices.{slices_of};
+ghost use Rattle.table.specs.Slices.{as_slices};
 ghost use Rattle.table.specs.Checking.{ChecksTable};
 ghost use Rattle.table_read.specs.Reading.{lent_of, ReadsTable};
 ghost use Rattle.table_write.specs.Writing.{WritesTable};
 
-use table::Checking;
 use table::checks::check_limited;
+use table::{Checking, TableSlices};
 use table_read::Reading;
 use table_read::limited::read_limited;
 use table_write::Writing;
@@ -20,19 +20,10 @@ pub const PMAX: usize = 16;
 pub const LMAX: usize = 40;
 
 // `table::check_table` at the display's limits.
-pub fn check_table(
-    number: u16,
-    probes: u16,
-    links: u16,
-    needs: &[u16],
-    lows: &[u16],
-    highs: &[u16],
-    costs: &[u16],
-) -> Checking
-    ensures { let x = slices_of number probes links needs.now lows.now highs.now costs.now in
-        ChecksTable 16 40 x result }
+pub fn check_table(table: TableSlices<'_>) -> Checking
+    ensures { ChecksTable 16 40 (as_slices table.entry) result }
 {
-    check_limited(PMAX, LMAX, probes, links, needs, lows, highs, costs)
+    check_limited(PMAX, LMAX, table)
 }
 
 // `table_read::read_table` at the display's limits.
@@ -51,20 +42,8 @@ pub fn read_table(
 }
 
 // `table_write::write_table` at the display's limits.
-pub fn write_table(
-    number: u16,
-    probes: u16,
-    links: u16,
-    needs: &[u16],
-    lows: &[u16],
-    highs: &[u16],
-    costs: &[u16],
-    out: &mut [u8],
-) -> Writing
-    ensures { let x = slices_of number probes links needs.now lows.now highs.now costs.now in
-        WritesTable 16 40 x result out.old out.new }
+pub fn write_table(table: TableSlices<'_>, out: &mut [u8]) -> Writing
+    ensures { WritesTable 16 40 (as_slices table.entry) result out.old out.new }
 {
-    write_limited(
-        PMAX, LMAX, number, probes, links, needs, lows, highs, costs, out,
-    )
+    write_limited(PMAX, LMAX, table, out)
 }

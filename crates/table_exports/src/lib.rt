@@ -11,7 +11,7 @@ ghost use Rattle.table_exports.specs.Packed.{ReadsPacked, WritesPacked, packed_c
 ghost use Rattle.table_write.specs.declared.Writing.TheVariants.{Length};
 
 use packed_answers::ANSWER_BASE;
-use table::Checking;
+use table::{Checking, TableSlices};
 use table_read::Reading;
 use table_write::Writing;
 
@@ -62,7 +62,16 @@ pub extern "C" fn planner_check_table(
     ensures { let x = slices_of number probes links needs.now lows.now highs.now costs.now in
         result ≡ slices_fault x }
 {
-    packed_checking(table::check_table(number, probes, links, needs, lows, highs, costs))
+    let table = TableSlices {
+        number,
+        probes,
+        links,
+        needs,
+        lows,
+        highs,
+        costs,
+    };
+    packed_checking(table::check_table(table))
 }
 
 // `table_read::read_table`, its answer packed.
@@ -112,7 +121,16 @@ pub extern "C" fn planner_write_table(
     ensures { let x = slices_of number probes links needs.now lows.now highs.now costs.now in
         WritesPacked 256 2048 x result out.old out.new }
 {
-    packed_writing(table_write::write_table(number, probes, links, needs, lows, highs, costs, out))
+    let table = TableSlices {
+        number,
+        probes,
+        links,
+        needs,
+        lows,
+        highs,
+        costs,
+    };
+    packed_writing(table_write::write_table(table, out))
 }
 
 // `table_display::check_table`: 0 where the table is fine.
@@ -129,7 +147,16 @@ pub extern "C" fn planner_display_check_table(
     ensures { let x = slices_of number probes links needs.now lows.now highs.now costs.now in
         result ≡ slice_fault 16 40 x }
 {
-    packed_checking(table_display::check_table(number, probes, links, needs, lows, highs, costs))
+    let table = TableSlices {
+        number,
+        probes,
+        links,
+        needs,
+        lows,
+        highs,
+        costs,
+    };
+    packed_checking(table_display::check_table(table))
 }
 
 // `table_display::read_table`, its answer packed.
@@ -163,7 +190,14 @@ pub extern "C" fn planner_display_write_table(
     ensures { let x = slices_of number probes links needs.now lows.now highs.now costs.now in
         WritesPacked 16 40 x result out.old out.new }
 {
-    packed_writing(table_display::write_table(
-        number, probes, links, needs, lows, highs, costs, out,
-    ))
+    let table = TableSlices {
+        number,
+        probes,
+        links,
+        needs,
+        lows,
+        highs,
+        costs,
+    };
+    packed_writing(table_display::write_table(table, out))
 }

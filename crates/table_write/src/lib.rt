@@ -1,8 +1,10 @@
 // A table in slices, written as text.
 #![tactic(auto)]
 
-ghost use Rattle.table.specs.Slices.{slices_of};
+ghost use Rattle.table.specs.Slices.{as_slices};
 ghost use Rattle.table_write.specs.Writing.{WritesTable};
+
+use table::TableSlices;
 
 pub mod limited;
 pub mod line;
@@ -16,20 +18,8 @@ pub enum Writing {
 }
 
 // Writes a table that is given in slices by its number, probe count and link count.
-pub fn write_table(
-    number: u16,
-    probes: u16,
-    links: u16,
-    needs: &[u16],
-    lows: &[u16],
-    highs: &[u16],
-    costs: &[u16],
-    out: &mut [u8],
-) -> Writing
-    ensures { let x = slices_of number probes links needs.now lows.now highs.now costs.now in
-        WritesTable 256 2048 x result out.old out.new }
+pub fn write_table(table: TableSlices<'_>, out: &mut [u8]) -> Writing
+    ensures { WritesTable 256 2048 (as_slices table.entry) result out.old out.new }
 {
-    limited::write_limited(
-        256, 2048, number, probes, links, needs, lows, highs, costs, out,
-    )
+    limited::write_limited(256, 2048, table, out)
 }

@@ -2,10 +2,12 @@
 ghost use Rattle.std.specs.Prelude.{◌≡◌, ◌≤◌, length};
 ghost use Rattle.std.proofs.lemmas.List.Edits.{sets};
 ghost use Rattle.range.specs.Lists.{joined};
-ghost use Rattle.table.specs.Table.{item, of_slices};
+ghost use Rattle.table.specs.Table.{item};
 ghost use Rattle.table.specs.Text.{need_line, triple_line, need_start, link_start, text_end, text_of};
+ghost use Rattle.table.specs.Slices.{as_slices, table_of};
 
 use super::line::{put_closing, put_need, put_triple};
+use table::TableSlices;
 use table::starts::{link_start, need_start};
 
 fn put_needs(out: &mut [u8], probes: usize, needs: &[u16])
@@ -39,26 +41,15 @@ fn put_links(
     }
 }
 
-pub fn put_table(
-    out: &mut [u8],
-    number: u16,
-    probes: u16,
-    links: u16,
-    needs: &[u16],
-    lows: &[u16],
-    highs: &[u16],
-    costs: &[u16],
-)
-    requires { let t = of_slices number probes links needs.now lows.now highs.now costs.now in
-        (text_end t ≤ length out.old)
-        × (probes ≤ length needs.now) × (links ≤ length lows.now) × (links ≤ length highs.now) × (links ≤ length costs.now) }
-    ensures { let t = of_slices number probes links needs.now lows.now highs.now costs.now in
-        out.new ≡ sets out.old 0 (text_of t) }
+pub fn put_table(out: &mut [u8], table: TableSlices<'_>)
+    requires { (text_end (table_of (as_slices table)) ≤ length out.old)
+        × (table.probes ≤ length table.needs.now) × (table.links ≤ length table.lows.now) × (table.links ≤ length table.highs.now) × (table.links ≤ length table.costs.now) }
+    ensures { out.new ≡ sets out.old 0 (text_of (table_of (as_slices table.entry))) }
 {
-    let n = probes as usize;
-    let m = links as usize;
-    put_triple(out, 0, number, probes, links);
-    put_needs(out, n, needs);
-    put_links(out, n, m, lows, highs, costs);
+    let n = table.probes as usize;
+    let m = table.links as usize;
+    put_triple(out, 0, table.number, table.probes, table.links);
+    put_needs(out, n, table.needs);
+    put_links(out, n, m, table.lows, table.highs, table.costs);
     put_closing(out, link_start(n, m));
 }

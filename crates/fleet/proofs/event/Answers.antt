@@ -5,10 +5,10 @@ use lib.ListN.{length}
 use Rattle.range.specs.First.{or_else}
 use Rattle.range.proofs.Faults.{or_left, or_right}
 use Rattle.fleet_theory.specs.Fleet.{fleet_fault}
-use Rattle.table.specs.Slices.{Slices, table_of, slices_fault, slices_of}
+use Rattle.table.specs.Slices.{Slices, table_of, slices_fault, as_slices}
 use Rattle.range.proofs.Lists.{zeros_at}
 use Rattle.table.proofs.Slices.{legal_slices}
-use Rattle.fleet.proofs.Calls.{state_is, state_refused}
+use Rattle.fleet.proofs.Calls.{state_refused}
 use Rattle.fleet.proofs.event.Goals as goal
 
 pub state_fault-fault-requires : goal.state_fault-fault-requires
@@ -17,14 +17,14 @@ state_fault-fault-requires c = (search rules, zeros_at 256)
 pub returns-then-fault-ne0 : goal.returns-then-fault-ne0
 returns-then-fault-ne0 c =
     let a = c.args in
-    state_refused a.number a.probes a.links a.needs.now a.lows.now a.highs.now a.costs.now a.used a.room a.line.now a.rec.now _ (state_is a.number a.probes a.links a.needs.now a.lows.now a.highs.now a.costs.now a.used a.room a.line.now a.rec.now _ c.state_fault-fault.ensures.0) c.if-fault-ne0.true
+    state_refused a.table.number a.table.probes a.table.links a.table.needs.now a.table.lows.now a.table.highs.now a.table.costs.now a.used a.room a.line.now a.rec.now _ c.state_fault-fault.ensures.0 c.if-fault-ne0.true
 
 pub handle_line-requires : goal.handle_line-requires
 handle_line-requires c =
     let a = c.args in
-    let x : Slices = slices_of a.number a.probes a.links a.needs.now a.lows.now a.highs.now a.costs.now in
+    let x : Slices = as_slices a.table in
     let told = c.state_fault-fault in
-    let z : or_else (slices_fault x) (fleet_fault (table_of x) a.rec.now) ≡ 0 = sym (state_is a.number a.probes a.links a.needs.now a.lows.now a.highs.now a.costs.now a.used a.room a.line.now a.rec.now _ told.ensures.0) ∙ c.if-fault-ne0.false in
+    let z : or_else (slices_fault x) (fleet_fault (table_of x) a.rec.now) ≡ 0 = sym told.ensures.0 ∙ c.if-fault-ne0.false in
     let fine = or_left (slices_fault x) (fleet_fault (table_of x) a.rec.now) z in
     let g = legal_slices 256 2048 x fine in
     let room : length told.new.degrees ≡ 256 = told.auto.degrees in

@@ -8,10 +8,10 @@ use Rattle.range.proofs.Faults.{or_left, or_right}
 use Rattle.range.proofs.Lists.{zeros_at}
 use Rattle.table.proofs.Slices.{legal_slices}
 use Rattle.fleet_theory.specs.Fleet.{fleet_fault}
-use Rattle.table.specs.Slices.{Slices, table_of, slices_fault, slices_of}
+use Rattle.table.specs.Slices.{Slices, table_of, slices_fault, as_slices}
 use Rattle.fleet_state.proofs.Legal.{fits}
 use Rattle.fleet_state.proofs.CheckLaws.{fleet_good}
-use Rattle.fleet.proofs.Calls.{state_is, finishing_refused, finishing_says}
+use Rattle.fleet.proofs.Calls.{finishing_refused, finishing_says}
 use Rattle.fleet.proofs.finished.Goals as goal
 
 pub state_fault-fault-requires : goal.state_fault-fault-requires
@@ -20,20 +20,20 @@ state_fault-fault-requires c = (search rules, zeros_at 256)
 pub returns-then-fault-ne0 : goal.returns-then-fault-ne0
 returns-then-fault-ne0 c =
     let a = c.args in
-    finishing_refused _ _ _ (state_is a.number a.probes a.links a.needs.now a.lows.now a.highs.now a.costs.now 0 0 [] a.rec.now _ c.state_fault-fault.ensures.0) c.if-fault-ne0.true
+    finishing_refused _ _ _ c.state_fault-fault.ensures.0 c.if-fault-ne0.true
 
 pub is_finished-requires : goal.is_finished-requires
 is_finished-requires c =
     let a = c.args in
-    let x : Slices = slices_of a.number a.probes a.links a.needs.now a.lows.now a.highs.now a.costs.now in
+    let x : Slices = as_slices a.table in
     let told = c.state_fault-fault in
-    let z : or_else (slices_fault x) (fleet_fault (table_of x) a.rec.now) ≡ 0 = sym (state_is a.number a.probes a.links a.needs.now a.lows.now a.highs.now a.costs.now 0 0 [] a.rec.now _ told.ensures.0) ∙ c.if-fault-ne0.false in
+    let z : or_else (slices_fault x) (fleet_fault (table_of x) a.rec.now) ≡ 0 = sym told.ensures.0 ∙ c.if-fault-ne0.false in
     let f = fleet_good (table_of x) a.rec.now (or_right (slices_fault x) (fleet_fault (table_of x) a.rec.now) z) in
     let g = legal_slices 256 2048 x (or_left (slices_fault x) (fleet_fault (table_of x) a.rec.now) z) in
     let room : length told.new.degrees ≡ 256 = told.auto.degrees in
-    (fits a.number a.probes a.links a.needs.now a.lows.now a.highs.now a.costs.now g, omega (arith, f.0), omega (arith, g.few, room), told.ensures.1 c.if-fault-ne0.false)
+    (fits a.table.number a.table.probes a.table.links a.table.needs.now a.table.lows.now a.table.highs.now a.table.costs.now g, omega (arith, f.0), omega (arith, g.few, room), told.ensures.1 c.if-fault-ne0.false)
 
 pub returns : goal.returns
 returns c =
     let a = c.args in
-    finishing_says _ _ _ (sym (state_is a.number a.probes a.links a.needs.now a.lows.now a.highs.now a.costs.now 0 0 [] a.rec.now _ c.state_fault-fault.ensures.0) ∙ c.if-fault-ne0.false) (c.is_finished.ensures a.number a.costs.now)
+    finishing_says _ _ _ (sym c.state_fault-fault.ensures.0 ∙ c.if-fault-ne0.false) (c.is_finished.ensures a.table.number a.table.costs.now)

@@ -2,14 +2,14 @@ use Prim.Native.Nat.{ℕ}
 use mathlib.Core.Path.{sym, ◌∙◌}
 use native.Mathlib.Omega.{arith}
 use lib.ListN.{length, length-replicate}
-use Rattle.table.specs.Table.{of_slices}
 use Rattle.plan_methods.proofs.Answers.{plans_refused, slse_ready, few, legal}
+use Rattle.table.specs.Slices.{as_slices, table_of}
 use Rattle.plan_display.proofs.plan_by_slse.Goals as goal
 
 pub returns-then-fault-ne0 : goal.returns-then-fault-ne0
 returns-then-fault-ne0 c =
     let a = c.args in
-    plans_refused _ _ (of_slices a.number a.probes a.links a.needs.now a.lows.now a.highs.now a.costs.now) a.plan.now c.plan_fault-fault.ensures c.if-fault-ne0.true
+    plans_refused _ _ (table_of (as_slices a.table)) a.plan.now c.plan_fault-fault.ensures c.if-fault-ne0.true
 
 pub slse_answer-requires : goal.slse_answer-requires
 slse_answer-requires c =
@@ -17,13 +17,13 @@ slse_answer-requires c =
     let e = sym c.plan_fault-fault.ensures ∙ c.if-fault-ne0.false in
     let l = length-replicate {A = ℕ} 40 0 in
     let p = length-replicate {A = ℕ} 16 0 in
-    slse_ready 16 40 a.probes a.links a.needs.now a.lows.now a.highs.now a.costs.now (length a.plan.now) (omega arith) (omega arith) e _ _ _ _ (omega arith) (omega arith) (omega arith, omega arith) (omega arith)
+    slse_ready 16 40 a.table.probes a.table.links a.table.needs.now a.table.lows.now a.table.highs.now a.table.costs.now (length a.plan.now) (omega arith) (omega arith) e _ _ _ _ (omega arith) (omega arith) (omega arith, omega arith) (omega arith)
 
 pub returns : goal.returns
 returns c =
     let a = c.args in
     let e = sym c.plan_fault-fault.ensures ∙ c.if-fault-ne0.false in
     let p = length-replicate {A = ℕ} 16 0 in
-    let k = few 16 40 a.probes a.links a.needs.now a.lows.now a.highs.now a.costs.now (length a.plan.now) (omega arith) (omega arith) e in
-    let t = legal 16 40 a.probes a.links a.needs.now a.lows.now a.highs.now a.costs.now (length a.plan.now) (omega arith) (omega arith) e in
-    rw e (c.slse_answer.ensures a.number a.probes (omega (arith, k.0)) t)
+    let k = few 16 40 a.table.probes a.table.links a.table.needs.now a.table.lows.now a.table.highs.now a.table.costs.now (length a.plan.now) (omega arith) (omega arith) e in
+    let t = legal 16 40 a.table.probes a.table.links a.table.needs.now a.table.lows.now a.table.highs.now a.table.costs.now (length a.plan.now) (omega arith) (omega arith) e in
+    rw e (c.slse_answer.ensures a.table.number a.table.probes (omega (arith, k.0)) t)

@@ -2,8 +2,8 @@ use borrow.Author.Rules.{rules}
 use Prim.Native.Nat.{ℕ}
 use mathlib.Core.Path.{◌≡◌, sym, ◌∙◌, ap}
 use Rattle.range.specs.First.{or_else}
-use Rattle.table.specs.Table.{Table, of_slices}
-use Rattle.table.specs.Slices.{Slices, slices_of, table_of, slices_fault}
+use Rattle.table.specs.Table.{Table}
+use Rattle.table.specs.Slices.{Slices, table_of, slices_fault, as_slices}
 use Rattle.table.proofs.Slices.{legal_slices}
 use Rattle.table_links.proofs.OrderedLinks.{ordered_links}
 use Rattle.table_links.proofs.Search.{ordered}
@@ -19,15 +19,15 @@ use Rattle.probe.proofs.hear.Goals as goal
 
 pub check_hearing-heard-requires : goal.check_hearing-heard-requires
 check_hearing-heard-requires c =
-    let x : Slices = let a = c.args in slices_of a.number a.probes a.links a.needs.now a.lows.now a.highs.now a.costs.now in
+    let x : Slices = as_slices c.args.table in
     let m : Maps = let a = c.args in rows a.standing.now a.refused_out.now a.held.now a.refused_in.now in
     let parts : (none : c.check_state-state.result ≡ 0) → (slices_fault x ≡ 0) × (maps_fault (table_of x) c.args.probe m ≡ 0) = λ none. state_parts x c.args.probe m (sym c.check_state-state.ensures.0 ∙ none) in
-    λ none. let a = c.args in ordered 256 2048 0 a.probes a.links a.needs.now a.lows.now a.highs.now a.costs.now (parts none).0
+    λ none. let a = c.args in ordered 256 2048 0 a.table.probes a.table.links a.table.needs.now a.table.lows.now a.table.highs.now a.table.costs.now (parts none).0
 
 pub returns-then-heard-ne0 : goal.returns-then-heard-ne0
 unfolding hear_fault heard_fault
 returns-then-heard-ne0 c =
-    let x : Slices = let a = c.args in slices_of a.number a.probes a.links a.needs.now a.lows.now a.highs.now a.costs.now in
+    let x : Slices = as_slices c.args.table in
     let m : Maps = let a = c.args in rows a.standing.now a.refused_out.now a.held.now a.refused_in.now in
     let is-fault : c.check_hearing-heard.result.fault ≡ hear_fault (state_fault x c.args.probe m) (table_of x) c.args.probe c.args.frame.now c.args.free = (
     let t = table_of x in
@@ -38,9 +38,9 @@ returns-then-heard-ne0 c =
 pub apply-e-requires : goal.apply-e-requires
 unfolding hear_fault heard_fault
 apply-e-requires c =
-    let x : Slices = let a = c.args in slices_of a.number a.probes a.links a.needs.now a.lows.now a.highs.now a.costs.now in
+    let x : Slices = as_slices c.args.table in
     let m : Maps = let a = c.args in rows a.standing.now a.refused_out.now a.held.now a.refused_in.now in
-    let plain : Table = let a = c.args in of_slices 0 0 a.links a.needs.now a.lows.now a.highs.now a.costs.now in
+    let plain : Table = table_of x in
     let words : AllWords m = (
     record {
       standing = λ k. (c.slice_known-1.given k).fits;
@@ -64,7 +64,7 @@ apply-e-requires c =
 pub returns : goal.returns
 unfolding hear_fault heard_fault
 returns c =
-    let x : Slices = let a = c.args in slices_of a.number a.probes a.links a.needs.now a.lows.now a.highs.now a.costs.now in
+    let x : Slices = as_slices c.args.table in
     let m : Maps = let a = c.args in rows a.standing.now a.refused_out.now a.held.now a.refused_in.now in
     let is-fault : c.check_hearing-heard.result.fault ≡ hear_fault (state_fault x c.args.probe m) (table_of x) c.args.probe c.args.frame.now c.args.free = (
     let t = table_of x in
@@ -73,4 +73,4 @@ returns c =
     let a = c.args in
     let z = c.if-heard-ne0.false in
     let says = c.check_hearing-heard.ensures.1 z in
-    accepted_call _ a.number a.probes a.links a.needs.now a.lows.now a.highs.now a.costs.now a.probe (heard_of (table_of x) (frame_of a.frame.now)) m _ _ (sym is-fault ∙ z) (rw says at c.apply-e.ensures.0) (rw says at c.apply-e.ensures.1)
+    accepted_call _ (table_of x) a.probe (heard_of (table_of x) (frame_of a.frame.now)) m _ _ (sym is-fault ∙ z) (rw says at c.apply-e.ensures.0) (rw says at c.apply-e.ensures.1)

@@ -2,8 +2,8 @@ use borrow.Author.Rules.{rules}
 use Prim.Native.Nat.{ℕ}
 use mathlib.Core.Path.{◌≡◌, sym, ◌∙◌, ap}
 use Rattle.range.specs.First.{or_else}
-use Rattle.table.specs.Table.{Table, of_slices}
-use Rattle.table.specs.Slices.{Slices, slices_of, table_of, slices_fault}
+use Rattle.table.specs.Table.{Table}
+use Rattle.table.specs.Slices.{Slices, table_of, slices_fault, as_slices}
 use Rattle.table.proofs.Slices.{legal_slices}
 use Rattle.table_links.proofs.OrderedLinks.{ordered_links}
 use Rattle.probe_rules.specs.declared.Event.TheVariants.{Opening}
@@ -18,7 +18,7 @@ use Rattle.probe.proofs.open.Goals as goal
 pub returns-then-fault-ne0 : goal.returns-then-fault-ne0
 unfolding open_fault
 returns-then-fault-ne0 c =
-    let x : Slices = let a = c.args in slices_of a.number a.probes a.links a.needs.now a.lows.now a.highs.now a.costs.now in
+    let x : Slices = as_slices c.args.table in
     let m : Maps = let a = c.args in rows a.standing.now a.refused_out.now a.held.now a.refused_in.now in
     let is-fault : c.open_fault-fault.result ≡ open_fault (state_fault x c.args.probe m) (table_of x) c.args.probe c.args.free = (
     let t = table_of x in
@@ -29,9 +29,9 @@ returns-then-fault-ne0 c =
 pub apply-e-requires : goal.apply-e-requires
 unfolding open_fault
 apply-e-requires c =
-    let x : Slices = let a = c.args in slices_of a.number a.probes a.links a.needs.now a.lows.now a.highs.now a.costs.now in
+    let x : Slices = as_slices c.args.table in
     let m : Maps = let a = c.args in rows a.standing.now a.refused_out.now a.held.now a.refused_in.now in
-    let plain : Table = let a = c.args in of_slices 0 0 a.links a.needs.now a.lows.now a.highs.now a.costs.now in
+    let plain : Table = table_of x in
     let words : AllWords m = (
     record {
       standing = λ k. (c.slice_known-1.given k).fits;
@@ -52,11 +52,11 @@ apply-e-requires c =
 pub returns : goal.returns
 unfolding open_fault
 returns c =
-    let x : Slices = let a = c.args in slices_of a.number a.probes a.links a.needs.now a.lows.now a.highs.now a.costs.now in
+    let x : Slices = as_slices c.args.table in
     let m : Maps = let a = c.args in rows a.standing.now a.refused_out.now a.held.now a.refused_in.now in
     let is-fault : c.open_fault-fault.result ≡ open_fault (state_fault x c.args.probe m) (table_of x) c.args.probe c.args.free = (
     let t = table_of x in
     let a = c.args in
     c.open_fault-fault.ensures ∙ ap (λ (n : ℕ). or_else n (or_else (probe_fault t a.probe) (full_fault a.free))) c.check_state-state.ensures.0) in
     let a = c.args in
-    accepted_call _ a.number a.probes a.links a.needs.now a.lows.now a.highs.now a.costs.now a.probe Opening m _ _ (sym is-fault ∙ c.if-fault-ne0.false) c.apply-e.ensures.0 c.apply-e.ensures.1
+    accepted_call _ (table_of x) a.probe Opening m _ _ (sym is-fault ∙ c.if-fault-ne0.false) c.apply-e.ensures.0 c.apply-e.ensures.1

@@ -2,7 +2,7 @@ use borrow.Author.Rules.{rules}
 use mathlib.Core.Path.{sym, ◌∙◌}
 use native.Mathlib.Omega.{arith}
 use Rattle.range.proofs.Faults.{or_here, or_next}
-use Rattle.table.specs.Slices.{Slices, slices_of}
+use Rattle.table.specs.Slices.{Slices, as_slices}
 use Rattle.table.proofs.Slices.{legal_slices}
 use Rattle.probe_maps.specs.Maps.{Maps, rows}
 use Rattle.probe_maps.proofs.Rounds.{rows_same}
@@ -22,7 +22,7 @@ returns-then-fault-ne0 c =
 pub record_fault-bad-requires : goal.record_fault-bad-requires
 record_fault-bad-requires c =
     let a = c.args in
-    let x : Slices = slices_of 0 a.probes a.links a.needs.now a.lows.now a.highs.now a.costs.now in
+    let x : Slices = as_slices a.table in
     let g = legal_slices 256 2048 x (sym c.slice_fault-fault.ensures ∙ c.if-fault-ne0.false) in
     (omega (arith, g.within), g.in_lows, g.in_highs)
 
@@ -37,38 +37,38 @@ pub fill-requires : goal.fill-requires
 fill-requires c =
     let a = c.args in
     let out : Maps = rows a.standing.now a.refused_out.now a.held.now a.refused_in.now in
-    (search rules, search rules, search rules, room_standing a.links out (sym c.rows_fault-room.ensures ∙ c.if-room-ne0.false))
+    (search rules, search rules, search rules, room_standing a.table.links out (sym c.rows_fault-room.ensures ∙ c.if-room-ne0.false))
 
 pub fill-requires-2 : goal.fill-requires-2
 fill-requires-2 c =
     let a = c.args in
     let out : Maps = rows a.standing.now a.refused_out.now a.held.now a.refused_in.now in
-    (search rules, search rules, omega (arith, c.ranges.links), room_refused_out a.links out (sym c.rows_fault-room.ensures ∙ c.if-room-ne0.false))
+    (search rules, search rules, omega (arith, c.ranges.table), room_refused_out a.table.links out (sym c.rows_fault-room.ensures ∙ c.if-room-ne0.false))
 
 pub fill-requires-3 : goal.fill-requires-3
 fill-requires-3 c =
     let a = c.args in
     let out : Maps = rows a.standing.now a.refused_out.now a.held.now a.refused_in.now in
-    (search rules, search rules, omega (arith, c.ranges.links), room_held a.links out (sym c.rows_fault-room.ensures ∙ c.if-room-ne0.false))
+    (search rules, search rules, omega (arith, c.ranges.table), room_held a.table.links out (sym c.rows_fault-room.ensures ∙ c.if-room-ne0.false))
 
 pub fill-requires-4 : goal.fill-requires-4
 fill-requires-4 c =
     let a = c.args in
     let out : Maps = rows a.standing.now a.refused_out.now a.held.now a.refused_in.now in
-    (search rules, search rules, omega (arith, c.ranges.links), room_refused_in a.links out (sym c.rows_fault-room.ensures ∙ c.if-room-ne0.false))
+    (search rules, search rules, omega (arith, c.ranges.table), room_refused_in a.table.links out (sym c.rows_fault-room.ensures ∙ c.if-room-ne0.false))
 
 pub returns : goal.returns
 returns c =
     let a = c.args in
     let e = a.rec.now in
-    let x : Slices = slices_of a.number a.probes a.links a.needs.now a.lows.now a.highs.now a.costs.now in
+    let x : Slices = as_slices a.table in
     let out : Maps = rows a.standing.now a.refused_out.now a.held.now a.refused_in.now in
     let bad =
     or_next _ _ _ _ c.rows_fault-room.ensures c.if-room-ne0.false
     (or_next _ _ _ _ c.slice_fault-fault.ensures c.if-fault-ne0.false c.record_fault-bad.ensures)
     in
     maps_turned x a.probe e out _ (sym bad ∙ c.if-bad-ne0.false)
-    (rows_same (out_filled e 1 a.links a.standing.now _ c.fill.ensures)
-    (out_filled e 2 a.links a.refused_out.now _ c.fill-2.ensures)
-    (in_filled e 1 a.links a.held.now _ c.fill-3.ensures)
-    (in_filled e 2 a.links a.refused_in.now _ c.fill-4.ensures))
+    (rows_same (out_filled e 1 a.table.links a.standing.now _ c.fill.ensures)
+    (out_filled e 2 a.table.links a.refused_out.now _ c.fill-2.ensures)
+    (in_filled e 1 a.table.links a.held.now _ c.fill-3.ensures)
+    (in_filled e 2 a.table.links a.refused_in.now _ c.fill-4.ensures))

@@ -1,6 +1,6 @@
 use Rattle.std.proofs.Common.{rules, ◌≡◌, ℕ, List, arith, length, replicate}
 use Rattle.range.proofs.Lists.{zeros_at}
-use Rattle.table.specs.Slices.{slices_of}
+use Rattle.table.specs.Slices.{as_slices}
 use Rattle.table.proofs.Slices.{legal_slices}
 use Rattle.fleet_state.proofs.Legal.{may_count}
 use Rattle.script_pieces.proofs.Ends.{links_within, zeros_are}
@@ -11,13 +11,13 @@ use Rattle.script.proofs.answer_script.Goals as goal
 pub count_degrees-requires : goal.count_degrees-requires
 count_degrees-requires g c =
     let a = c.args in
-    let m = may_count a.number a.probes a.links a.needs.now a.lows.now a.highs.now a.costs.now c.requires.0 in
+    let m = may_count a.table.number a.table.probes a.table.links a.table.needs.now a.table.lows.now a.table.highs.now a.table.costs.now c.requires.0 in
     (m.0, m.1, m.2, m.3, zeros_at 256)
 
 pub handle_all-stop-requires : goal.handle_all-stop-requires
 handle_all-stop-requires g c =
     let a = c.args in
-    let x = slices_of a.number a.probes a.links a.needs.now a.lows.now a.highs.now a.costs.now in
+    let x = as_slices a.table in
     let m = links_within x c.requires.0 in
     let legal = legal_slices 256 2048 x c.requires.0 in
     let room : length c.count_degrees.new.counts ≡ 256 = c.count_degrees.auto.counts in
@@ -26,13 +26,13 @@ handle_all-stop-requires g c =
 pub end-requires : goal.end-requires
 end-requires g c =
     let a = c.args in
-    let x = slices_of a.number a.probes a.links a.needs.now a.lows.now a.highs.now a.costs.now in
+    let x = as_slices a.table in
     let zeros : List ℕ = replicate 16 0 in
     (c.requires.0, handled_usable x c.requires.0 zeros _ _ _ (omega arith) c.in-AtEnd.ensures.handled, omega (arith, c.requires.2, c.handle_all-stop.auto.out))
 
 pub returns-in-AtEnd : goal.returns-in-AtEnd
 returns-in-AtEnd g c =
     let a = c.args in
-    let x = slices_of a.number a.probes a.links a.needs.now a.lows.now a.highs.now a.costs.now in
+    let x = as_slices a.table in
     let zeros : List ℕ = replicate 16 0 in
     answers_input x zeros (omega arith) c.in-AtEnd.progress _ _ _ _ _ _ _ _ _ _ c.in-AtEnd.ensures c.end.ensures

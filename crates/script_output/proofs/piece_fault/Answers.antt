@@ -7,10 +7,9 @@ use lib.ListN.{length}
 use lib.Seq.{length-take-le}
 use borrow.Author.Tests.{lt-ltb}
 use Rattle.range.proofs.Faults.{or_left, or_right}
-use Rattle.table.specs.Slices.{slices_of, slices_fault, table_of}
+use Rattle.table.specs.Slices.{slices_fault, table_of, as_slices}
 use Rattle.table.proofs.Slices.{legal_slices}
 use Rattle.fleet_theory.specs.Fleet.{fleet_fault}
-use Rattle.fleet.proofs.Calls.{state_is}
 use Rattle.output.proofs.Printing.{too_short, long_enough}
 use Rattle.script_lines.proofs.Fitting.{capped_least, capped_within}
 use Rattle.script_theory.specs.Script.{after_piece}
@@ -28,15 +27,15 @@ state_fault-fault-requires c = (c.requires.2, c.requires.3)
 pub returns-then-fault-ne0 : goal.returns-then-fault-ne0
 returns-then-fault-ne0 c =
     let a = c.args in
-    let x = slices_of a.number a.probes a.links a.needs.now a.lows.now a.highs.now a.costs.now in
-    let f = state_is a.number a.probes a.links a.needs.now a.lows.now a.highs.now a.costs.now 0 0 [] a.rec.now _ c.state_fault-fault.ensures.0 in
+    let x = as_slices a.table in
+    let f = c.state_fault-fault.ensures.0 in
     (fault_site x (under_way a.begun a.rec.now a.line.now) a.piece.now (length a.line.now) a.room _ c.if-line-lt16.false f c.if-fault-ne0.true, λ z. absurd (c.if-fault-ne0.true z))
 
 pub returns-then-begun-piece : goal.returns-then-begun-piece
 returns-then-begun-piece c =
     let a = c.args in
-    let x = slices_of a.number a.probes a.links a.needs.now a.lows.now a.highs.now a.costs.now in
-    let f = state_is a.number a.probes a.links a.needs.now a.lows.now a.highs.now a.costs.now 0 0 [] a.rec.now _ c.state_fault-fault.ensures.0 in
+    let x = as_slices a.table in
+    let f = c.state_fault-fault.ensures.0 in
     let p = under_way a.begun a.rec.now a.line.now in
     let printed = (after_piece x 1024 p a.piece.now).out in
     let n = length-take-le a.begun.held a.line.now (omega (arith, c.requires.0, c.if-line-lt16.false)) in
@@ -47,8 +46,8 @@ returns-then-begun-piece c =
 pub count_piece-length-requires : goal.count_piece-length-requires
 count_piece-length-requires c =
     let a = c.args in
-    let x = slices_of a.number a.probes a.links a.needs.now a.lows.now a.highs.now a.costs.now in
-    let f = state_is a.number a.probes a.links a.needs.now a.lows.now a.highs.now a.costs.now 0 0 [] a.rec.now _ c.state_fault-fault.ensures.0 in
+    let x = as_slices a.table in
+    let f = c.state_fault-fault.ensures.0 in
     let g = legal_slices 256 2048 x (or_left (slices_fault x) (fleet_fault (table_of x) a.rec.now) (sym f ∙ c.if-fault-ne0.false)) in
     let told = c.state_fault-fault in
     let room : length told.new.degrees ≡ 256 = told.auto.degrees ∙ c.requires.2 in
@@ -58,8 +57,8 @@ count_piece-length-requires c =
 pub returns-then-room-length : goal.returns-then-room-length
 returns-then-room-length c =
     let a = c.args in
-    let x = slices_of a.number a.probes a.links a.needs.now a.lows.now a.highs.now a.costs.now in
-    let f = state_is a.number a.probes a.links a.needs.now a.lows.now a.highs.now a.costs.now 0 0 [] a.rec.now _ c.state_fault-fault.ensures.0 in
+    let x = as_slices a.table in
+    let f = c.state_fault-fault.ensures.0 in
     let p = under_way a.begun a.rec.now a.line.now in
     let printed = (after_piece x 1024 p a.piece.now).out in
     let n = capped_least (length printed) in
@@ -68,8 +67,8 @@ returns-then-room-length c =
 pub returns : goal.returns
 returns c =
     let a = c.args in
-    let x = slices_of a.number a.probes a.links a.needs.now a.lows.now a.highs.now a.costs.now in
-    let f = state_is a.number a.probes a.links a.needs.now a.lows.now a.highs.now a.costs.now 0 0 [] a.rec.now _ c.state_fault-fault.ensures.0 in
+    let x = as_slices a.table in
+    let f = c.state_fault-fault.ensures.0 in
     let p = under_way a.begun a.rec.now a.line.now in
     let printed = (after_piece x 1024 p a.piece.now).out in
     let fits = capped_within (length printed) a.room c.requires.1 (omega (arith, c.if-room-length.false, c.count_piece-length.ensures)) in

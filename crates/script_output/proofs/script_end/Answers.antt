@@ -9,11 +9,10 @@ use lib.ListN.{length}
 use Rattle.range.proofs.Lists.{zeros_at}
 use Rattle.range.proofs.Faults.{or_left, or_right, or_here, or_none}
 use Rattle.table.proofs.Slices.{legal_slices}
-use Rattle.table.specs.Slices.{table_of, slices_fault, slices_of}
+use Rattle.table.specs.Slices.{table_of, slices_fault, as_slices}
 use Rattle.fleet_theory.specs.Fleet.{fleet_fault}
 use Rattle.fleet_state.proofs.Legal.{fits}
 use Rattle.fleet_state.proofs.CheckLaws.{fleet_good}
-use Rattle.fleet.proofs.Calls.{state_is}
 use Rattle.output.specs.Output.{output_fault}
 use Rattle.output.proofs.Printing.{prints_refused, prints_done, too_short, long_enough}
 use Rattle.script_lines.proofs.Fitting.{capped_below, stored_fits}
@@ -25,7 +24,7 @@ use Rattle.script_output.proofs.script_end.Goals as goal
 pub returns-then-out-end_length : goal.returns-then-out-end_length
 returns-then-out-end_length c =
     let a = c.args in
-    let x = slices_of a.number a.probes a.links a.needs.now a.lows.now a.highs.now a.costs.now in
+    let x = as_slices a.table in
     let printed = end_text x a.rec.now a.progress.held a.progress.changed in
     let n = length_end x a.rec.now a.progress.held a.progress.changed in
     let short : length a.out.now < length printed = omega (arith, c.end_length.ensures, c.if-out-end_length.true) in
@@ -37,31 +36,31 @@ state_fault-fault-requires c = (search rules, zeros_at 256)
 pub returns-then-fault-ne0 : goal.returns-then-fault-ne0
 returns-then-fault-ne0 c =
     let a = c.args in
-    let x = slices_of a.number a.probes a.links a.needs.now a.lows.now a.highs.now a.costs.now in
+    let x = as_slices a.table in
     let printed = end_text x a.rec.now a.progress.held a.progress.changed in
     let n = length_end x a.rec.now a.progress.held a.progress.changed in
     let long : length printed ≤ length a.out.now = omega (arith, c.end_length.ensures, c.if-out-end_length.false) in
-    let f = state_is a.number a.probes a.links a.needs.now a.lows.now a.highs.now a.costs.now 0 0 [] a.rec.now _ c.state_fault-fault.ensures.0 in
+    let f = c.state_fault-fault.ensures.0 in
     prints_refused _ _ printed a.out.now (f ∙ sym (or_none (output_fault (length a.out.now) printed) (site_fault x a.rec.now) (long_enough (length a.out.now) printed long))) c.if-fault-ne0.true
 
 pub put_end-length-requires : goal.put_end-length-requires
 put_end-length-requires c =
     let a = c.args in
-    let x = slices_of a.number a.probes a.links a.needs.now a.lows.now a.highs.now a.costs.now in
-    let f = state_is a.number a.probes a.links a.needs.now a.lows.now a.highs.now a.costs.now 0 0 [] a.rec.now _ c.state_fault-fault.ensures.0 in
+    let x = as_slices a.table in
+    let f = c.state_fault-fault.ensures.0 in
     let z = sym f ∙ c.if-fault-ne0.false in
     let l = legal_slices 256 2048 x (or_left (slices_fault x) (fleet_fault (table_of x) a.rec.now) z) in
     let told = c.state_fault-fault in
     let room : length told.new.degrees ≡ 256 = told.auto.degrees in
     let g = fleet_good (table_of x) a.rec.now (or_right (slices_fault x) (fleet_fault (table_of x) a.rec.now) z) in
-    (fits a.number a.probes a.links a.needs.now a.lows.now a.highs.now a.costs.now l, omega (arith, g.0), omega (arith, l.few, room), told.ensures.1 c.if-fault-ne0.false, omega arith)
+    (fits a.table.number a.table.probes a.table.links a.table.needs.now a.table.lows.now a.table.highs.now a.table.costs.now l, omega (arith, g.0), omega (arith, l.few, room), told.ensures.1 c.if-fault-ne0.false, omega arith)
 
 pub returns : goal.returns
 returns c =
     let a = c.args in
-    let x = slices_of a.number a.probes a.links a.needs.now a.lows.now a.highs.now a.costs.now in
+    let x = as_slices a.table in
     let printed = end_text x a.rec.now a.progress.held a.progress.changed in
-    let f = state_is a.number a.probes a.links a.needs.now a.lows.now a.highs.now a.costs.now 0 0 [] a.rec.now _ c.state_fault-fault.ensures.0 in
+    let f = c.state_fault-fault.ensures.0 in
     let k = c.put_end-length in
     let n = length_end x a.rec.now a.progress.held a.progress.changed in
     let m = end_most (eqb a.progress.held 0) in
@@ -69,4 +68,4 @@ returns c =
     let long : 0 + length printed ≤ length a.out.now = omega (arith, c.end_length.ensures, c.if-out-end_length.false) in
     let none : end_call_fault x a.rec.now printed a.out.now ≡ 0 =
     or_none (output_fault (length a.out.now) printed) (site_fault x a.rec.now) (long_enough (length a.out.now) printed (omega arith)) ∙ sym f ∙ c.if-fault-ne0.false in
-    prints_done _ _ printed a.out.now _ none (omega arith) (omega arith) (k.ensures.0 a.number a.costs.now ∙ stored_fits a.out.now 0 printed long)
+    prints_done _ _ printed a.out.now _ none (omega arith) (omega arith) (k.ensures.0 a.table.number a.table.costs.now ∙ stored_fits a.out.now 0 printed long)

@@ -3,7 +3,7 @@ use Rattle.range.proofs.Faults.{or_here, or_next}
 use Rattle.table.proofs.Slices.{legal_slices}
 use Rattle.fleet_theory.proofs.Own.{fleet_same}
 use Rattle.fleet_state.proofs.Legal.{fits}
-use Rattle.table.specs.Slices.{slices_of}
+use Rattle.table.specs.Slices.{as_slices}
 use Rattle.fleet_state.proofs.checks.state_fault.Goals as goal
 
 pub returns-then-fault-ne0 : goal.returns-then-fault-ne0
@@ -12,10 +12,10 @@ returns-then-fault-ne0 c = (or_here _ _ _ c.slice_fault-fault.ensures c.if-fault
 pub fleet_fault-requires : goal.fleet_fault-requires
 fleet_fault-requires c =
     let a = c.args in
-    (fits 0 a.probes a.links a.needs.now a.lows.now a.highs.now a.costs.now (legal_slices 256 2048 (slices_of 0 a.probes a.links a.needs.now a.lows.now a.highs.now a.costs.now) (sym c.slice_fault-fault.ensures ∙ c.if-fault-ne0.false)), c.requires.0, c.requires.1)
+    (fits a.table.number a.table.probes a.table.links a.table.needs.now a.table.lows.now a.table.highs.now a.table.costs.now (legal_slices 256 2048 (as_slices a.table) (sym c.slice_fault-fault.ensures ∙ c.if-fault-ne0.false)), c.requires.0, c.requires.1)
 
 pub returns : goal.returns
 returns c =
     let a = c.args in
     let told = c.fleet_fault.ensures in
-    (or_next _ _ _ _ c.slice_fault-fault.ensures c.if-fault-ne0.false (told.0 ∙ fleet_same 0 a.probes a.links a.needs.now a.lows.now a.highs.now a.costs.now a.rec.now), told.1)
+    (or_next _ _ _ _ c.slice_fault-fault.ensures c.if-fault-ne0.false (told.0 ∙ fleet_same a.table.number a.table.probes a.table.links a.table.needs.now a.table.lows.now a.table.highs.now a.table.costs.now a.rec.now), told.1)

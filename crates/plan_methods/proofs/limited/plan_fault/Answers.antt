@@ -6,9 +6,9 @@ use Rattle.plan_methods.proofs.limited.plan_fault.Goals as goal
 pub returns-then-plan-links : goal.returns-then-plan-links
 returns-then-plan-links c =
     let a = c.args in
-    room_short a.plan a.links _ c.if-plan-links.true
+    room_short a.plan a.table.links _ c.if-plan-links.true
 
 pub returns : goal.returns
 returns c =
     let a = c.args in
-    c.slice_fault.ensures ∙ sym (room_enough a.plan a.links _ c.if-plan-links.false)
+    c.slice_fault.ensures ∙ sym (room_enough a.plan a.table.links _ c.if-plan-links.false)

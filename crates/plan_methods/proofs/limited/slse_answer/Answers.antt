@@ -16,8 +16,8 @@ pub answer-requires : goal.answer-requires
 answer-requires c =
     let a = c.args in
     let p = c.requires in
-    let z = size p.probes a.links a.needs.now a.lows.now a.highs.now a.costs.now p.legal in
-    let r = room_good p.probes a.links (length a.needs.now) (length a.lows.now) (length a.highs.now) (length a.costs.now) p.room in
+    let z = size p.probes a.table.links a.table.needs.now a.table.lows.now a.table.highs.now a.table.costs.now p.legal in
+    let r = room_good p.probes a.table.links (length a.table.needs.now) (length a.table.lows.now) (length a.table.highs.now) (length a.table.costs.now) p.room in
     (omega (arith, c.slse_plan.auto.plan, p.in_plan), omega arith, z.within)
 
 pub returns : goal.returns
@@ -25,5 +25,5 @@ returns c =
     λ number probes wide legal.
     let a = c.args in
     let p = c.requires in
-    let plan = numbered number probes a.links a.needs.now a.lows.now a.highs.now a.costs.now a.plan.now _ (c.slse_plan.ensures probes wide legal) in
-    plans_made 0 (of_slices number probes a.links a.needs.now a.lows.now a.highs.now a.costs.now) _ a.plan.now _ refl p.in_plan plan c.answer.ensures
+    let plan = numbered 0 number probes a.table.links a.table.needs.now a.table.lows.now a.table.highs.now a.table.costs.now a.plan.now _ (c.slse_plan.ensures probes wide legal) in
+    plans_made 0 (of_slices number probes a.table.links a.table.needs.now a.table.lows.now a.table.highs.now a.table.costs.now) _ a.plan.now _ refl p.in_plan plan c.answer.ensures

@@ -25,8 +25,8 @@ pub order_links-requires : goal.order_links-requires
 order_links-requires c =
     let a = c.args in
     let p = c.requires in
-    let z = size p.probes a.links a.needs.now a.lows.now a.highs.now a.costs.now p.legal in
-    let r = room_good p.probes a.links (length a.needs.now) (length a.lows.now) (length a.highs.now) (length a.costs.now) p.room in
+    let z = size p.probes a.table.links a.table.needs.now a.table.lows.now a.table.highs.now a.table.costs.now p.legal in
+    let r = room_good p.probes a.table.links (length a.table.needs.now) (length a.table.lows.now) (length a.table.highs.now) (length a.table.costs.now) p.room in
     (z.within, p.in_order, p.in_half, p.base.0, p.base.1, omega arith)
 
 pub plan_in_order-requires : goal.plan_in_order-requires
@@ -34,11 +34,11 @@ plan_in_order-requires c =
     let a = c.args in
     let p = c.requires in
     let call = c.order_links in
-    let r = room_good p.probes a.links (length a.needs.now) (length a.lows.now) (length a.highs.now) (length a.costs.now) p.room in
-    (order_fits p.probes a.links a.needs.now a.lows.now a.highs.now a.costs.now _ (length a.counts.now) (in_order p.probes a.links a.needs.now a.lows.now a.highs.now a.costs.now _ p.legal call.ensures) (omega (arith, call.auto.order, p.in_order)) r.needed r.linked (omega arith) p.in_counts, p.in_plan)
+    let r = room_good p.probes a.table.links (length a.table.needs.now) (length a.table.lows.now) (length a.table.highs.now) (length a.table.costs.now) p.room in
+    (order_fits p.probes a.table.links a.table.needs.now a.table.lows.now a.table.highs.now a.table.costs.now _ (length a.counts.now) (in_order p.probes a.table.links a.table.needs.now a.table.lows.now a.table.highs.now a.table.costs.now _ p.legal call.ensures) (omega (arith, call.auto.order, p.in_order)) r.needed r.linked (omega arith) p.in_counts, p.in_plan)
 
 pub returns : goal.returns
 returns c =
     λ probes wide legal.
     let a = c.args in
-    c.plan_in_order.ensures probes a.costs.now wide (in_order probes a.links a.needs.now a.lows.now a.highs.now a.costs.now _ legal c.order_links.ensures)
+    c.plan_in_order.ensures probes a.table.costs.now wide (in_order probes a.table.links a.table.needs.now a.table.lows.now a.table.highs.now a.table.costs.now _ legal c.order_links.ensures)

@@ -9,7 +9,7 @@ pub link_up-requires : goal.link_up-requires
 link_up-requires c =
     let a = c.args in
     let p = c.requires in
-    let s = small a.probes a.links a.needs.now a.lows.now a.highs.now a.costs.now p.0 in (
+    let s = small a.table.number a.table.probes a.table.links a.table.needs.now a.table.lows.now a.table.highs.now a.table.costs.now p.0 in (
       s.1,
       s.0,
       p.2,
@@ -23,7 +23,7 @@ link_up-requires c =
         in_half = p.7.in_half;
         base = p.7.base;
       },
-      λ i l. let e = ends a.probes a.links a.needs.now a.lows.now a.highs.now a.costs.now p.0 i l in (e.rises, e.below),
+      λ i l. let e = ends a.table.number a.table.probes a.table.links a.table.needs.now a.table.lows.now a.table.highs.now a.table.costs.now p.0 i l in (e.rises, e.below),
     )
 
 pub take_turns-requires : goal.take_turns-requires
@@ -47,4 +47,4 @@ returns-clause-plan_after c =
     let f = c.find_spares in
     let k = c.link_up in
     let t = c.take_turns in
-    c.write_plan.ensures ∙ plan_bytes a.probes a.links a.needs.now a.lows.now a.highs.now a.costs.now c.requires.0 f.new.spares k.new.site k.ensures.1 f.ensures t.new.rec t.ensures a.plan.now
+    c.write_plan.ensures ∙ plan_bytes a.table.number a.table.probes a.table.links a.table.needs.now a.table.lows.now a.table.highs.now a.table.costs.now c.requires.0 f.new.spares k.new.site k.ensures.1 f.ensures t.new.rec t.ensures a.plan.now

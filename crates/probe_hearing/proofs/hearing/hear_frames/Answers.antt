@@ -5,7 +5,7 @@ use mathlib.Core.List.{List, map}
 use native.Mathlib.Omega.{arith}
 use lib.ListN.{length, get_or, take, replicate, length-map, get_or-map}
 use lib.Seq.{sets, length-take-le, get_or-take}
-use Rattle.table.specs.Table.{Table, of_slices}
+use Rattle.table.specs.Table.{Table}
 use Rattle.table.specs.Legal.{RisingLinks}
 use Rattle.wake_log.specs.declared.Entry.{Entry}
 use Rattle.wake_log.specs.Log.{no_entry}
@@ -18,6 +18,7 @@ use Rattle.probe_bags.proofs.Steps.{length_entries}
 use Rattle.probe_hearing.specs.PackedEvents.{unpacked_event}
 use Rattle.probe_hearing.proofs.Laws.{is_frame}
 use Rattle.probe_hearing.proofs.HeardSoFar.{HeardSoFar, heard_none, heard_next, heard_maps, heard_entries}
+use Rattle.table.specs.Slices.{as_slices, table_of}
 use Rattle.probe_hearing.proofs.hearing.hear_frames.Goals as goal
 
 pub loop-n-init : goal.loop-n-init
@@ -32,7 +33,7 @@ bounds-said-n c = omega (arith, c.loop-n-test.true, c.requires.4)
 
 pub apply-requires : goal.apply-requires
 apply-requires c =
-    let table : Table = let a = c.args in of_slices 0 0 a.links a.needs.now a.lows.now a.highs.now a.costs.now in
+    let table : Table = let a = c.args in table_of (as_slices a.table) in
     let l = c.loop-n in
     let own = c.requires.5 l.n c.loop-n-test.true in
     (c.requires.0, l.invariant.1 ∙ c.requires.1, l.invariant.2.good, rw c.unpacked_event-event.ensures (own_within table c.args.probe (unpacked_event (get_or c.args.said.now l.n 0)) own))
@@ -49,7 +50,7 @@ overflow_add-n c = omega (arith, c.loop-n-test.true, c.requires.3)
 pub loop-n-preserved : goal.loop-n-preserved
 loop-n-preserved c =
     let vs : List Event = map unpacked_event (take c.args.count c.args.said.now) in
-    let table : Table = let a = c.args in of_slices 0 0 a.links a.needs.now a.lows.now a.highs.now a.costs.now in
+    let table : Table = let a = c.args in table_of (as_slices a.table) in
     let rising : RisingLinks table = record { rising = c.requires.0.order.rising } in
     let as_many : length vs ≡ c.args.count = length-map (take c.args.count c.args.said.now) unpacked_event ∙ length-take-le c.args.count c.args.said.now c.requires.4 in
     let events-more : (n : ℕ) → n < c.args.count → n < length vs = λ n l. let k = as_many in omega arith in
@@ -66,7 +67,7 @@ loop-n-preserved c =
 pub returns : goal.returns
 returns c =
     let vs : List Event = map unpacked_event (take c.args.count c.args.said.now) in
-    let table : Table = let a = c.args in of_slices 0 0 a.links a.needs.now a.lows.now a.highs.now a.costs.now in
+    let table : Table = let a = c.args in table_of (as_slices a.table) in
     let maps : Maps = let a = c.args in rows a.standing.now a.refused_out.now a.held.now a.refused_in.now in
     let as_many : length vs ≡ c.args.count = length-map (take c.args.count c.args.said.now) unpacked_event ∙ length-take-le c.args.count c.args.said.now c.requires.4 in
     let events-done : (n : ℕ) → c.args.count ≤ n → length vs ≤ n = λ n l. let k = as_many in omega arith in

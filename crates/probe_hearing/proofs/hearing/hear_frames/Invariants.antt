@@ -6,7 +6,7 @@ use mathlib.Core.List.{List, map}
 use native.Mathlib.Omega.{arith}
 use lib.ListN.{length, get_or, take, replicate, length-map, get_or-map}
 use lib.Seq.{sets, length-take-le, get_or-take}
-use Rattle.table.specs.Table.{Table, of_slices}
+use Rattle.table.specs.Table.{Table}
 use Rattle.table.specs.Legal.{RisingLinks}
 use Rattle.wake_log.specs.declared.Entry.{Entry}
 use Rattle.wake_log.specs.Log.{no_entry}
@@ -19,12 +19,13 @@ use Rattle.probe_bags.proofs.Steps.{length_entries}
 use Rattle.probe_hearing.specs.PackedEvents.{unpacked_event}
 use Rattle.probe_hearing.proofs.Laws.{is_frame}
 use Rattle.probe_hearing.proofs.HeardSoFar.{HeardSoFar, heard_none, heard_next, heard_maps, heard_entries}
+use Rattle.table.specs.Slices.{as_slices, table_of}
 use Rattle.probe_hearing.proofs.hearing.hear_frames.Given as goal
 
 abbrev pub invariant-loop-n : goal.invariant-loop-n
 invariant-loop-n l =
     (l.n ≤ l.count) × (l.own ≡ l.initial.own)
-    × HeardSoFar (of_slices 0 0 l.links l.needs l.lows l.highs l.costs) l.probe (map unpacked_event (take l.count l.said)) (rows l.initial.standing l.initial.refused_out l.initial.held l.initial.refused_in) l.initial.entries (rows l.standing l.refused_out l.held l.refused_in) l.entries l.n
+    × HeardSoFar (table_of (as_slices l.table)) l.probe (map unpacked_event (take l.count l.said)) (rows l.initial.standing l.initial.refused_out l.initial.held l.initial.refused_in) l.initial.entries (rows l.standing l.refused_out l.held l.refused_in) l.entries l.n
     × (length l.standing ≡ length l.initial.standing) × (length l.refused_out ≡ length l.initial.refused_out) × (length l.held ≡ length l.initial.held) × (length l.refused_in ≡ length l.initial.refused_in)
 
 abbrev pub decreases-loop-n : goal.decreases-loop-n

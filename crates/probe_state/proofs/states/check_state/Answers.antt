@@ -8,7 +8,7 @@ use Rattle.range.specs.First.{or_else}
 use Rattle.range.proofs.Faults.{or_here, or_next}
 use Rattle.bit_maps.specs.BitMap.{words_for, ones_of}
 use Rattle.table.specs.Table.{spare}
-use Rattle.table.specs.Slices.{Slices, slices_of, table_of, slices_fault, LegalSlices}
+use Rattle.table.specs.Slices.{Slices, table_of, slices_fault, LegalSlices, as_slices}
 use Rattle.table.proofs.Slices.{legal_slices}
 use Rattle.probe_maps.specs.Maps.{Maps, rows, maps_length_fault}
 use Rattle.probe_state.proofs.FaultLaws.{lengths_passed, own_bits, length_own, ones_by_spare}
@@ -20,7 +20,7 @@ returns-then-fault-ne0 c = (or_here _ _ _ c.slice_fault-fault.ensures c.if-fault
 pub length_fault-lengths-requires : goal.length_fault-lengths-requires
 length_fault-lengths-requires c =
     let a = c.args in
-    let x : Slices = slices_of 0 a.probes a.links a.needs.now a.lows.now a.highs.now a.costs.now in
+    let x : Slices = as_slices a.table in
     omega (arith, (legal_slices 256 2048 x (sym c.slice_fault-fault.ensures ∙ c.if-fault-ne0.false)).within)
 
 pub returns-then-lengths-ne0 : goal.returns-then-lengths-ne0
@@ -29,13 +29,13 @@ returns-then-lengths-ne0 c =
 
 pub own_map-requires : goal.own_map-requires
 own_map-requires c =
-    let x : Slices = let a = c.args in slices_of 0 a.probes a.links a.needs.now a.lows.now a.highs.now a.costs.now in
+    let x : Slices = let a = c.args in as_slices a.table in
     let legal : LegalSlices 256 2048 x = legal_slices 256 2048 x (sym c.slice_fault-fault.ensures ∙ c.if-fault-ne0.false) in
     (legal.in_lows, legal.in_highs, c.requires)
 
 pub bits_fault-bits-requires : goal.bits_fault-bits-requires
 bits_fault-bits-requires c =
-    let x : Slices = let a = c.args in slices_of 0 a.probes a.links a.needs.now a.lows.now a.highs.now a.costs.now in
+    let x : Slices = let a = c.args in as_slices a.table in
     let m : Maps = let a = c.args in rows a.standing.now a.refused_out.now a.held.now a.refused_in.now in
     let legal : LegalSlices 256 2048 x = legal_slices 256 2048 x (sym c.slice_fault-fault.ensures ∙ c.if-fault-ne0.false) in
     let long : c.length_fault-lengths.result ≡ 0 → (length m.standing ≡ words_for x.links) × (length m.refused_out ≡ words_for x.links) × (length m.held ≡ words_for x.links) × (length m.refused_in ≡ words_for x.links) = λ z. lengths_passed (length m.standing) (length m.refused_out) (length m.held) (length m.refused_in) (words_for x.links) _ c.length_fault-lengths.ensures z in
@@ -45,7 +45,7 @@ bits_fault-bits-requires c =
 
 pub returns-then-bits-ne0 : goal.returns-then-bits-ne0
 returns-then-bits-ne0 c =
-    let x : Slices = let a = c.args in slices_of 0 a.probes a.links a.needs.now a.lows.now a.highs.now a.costs.now in
+    let x : Slices = let a = c.args in as_slices a.table in
     let m : Maps = let a = c.args in rows a.standing.now a.refused_out.now a.held.now a.refused_in.now in
     let legal : LegalSlices 256 2048 x = legal_slices 256 2048 x (sym c.slice_fault-fault.ensures ∙ c.if-fault-ne0.false) in
     let long : c.length_fault-lengths.result ≡ 0 → (length m.standing ≡ words_for x.links) × (length m.refused_out ≡ words_for x.links) × (length m.held ≡ words_for x.links) × (length m.refused_in ≡ words_for x.links) = λ z. lengths_passed (length m.standing) (length m.refused_out) (length m.held) (length m.refused_in) (words_for x.links) _ c.length_fault-lengths.ensures z in
@@ -56,7 +56,7 @@ returns-then-bits-ne0 c =
 
 pub ones_fault-requires : goal.ones_fault-requires
 ones_fault-requires c =
-    let x : Slices = let a = c.args in slices_of 0 a.probes a.links a.needs.now a.lows.now a.highs.now a.costs.now in
+    let x : Slices = let a = c.args in as_slices a.table in
     let m : Maps = let a = c.args in rows a.standing.now a.refused_out.now a.held.now a.refused_in.now in
     let legal : LegalSlices 256 2048 x = legal_slices 256 2048 x (sym c.slice_fault-fault.ensures ∙ c.if-fault-ne0.false) in
     let long : c.length_fault-lengths.result ≡ 0 → (length m.standing ≡ words_for x.links) × (length m.refused_out ≡ words_for x.links) × (length m.held ≡ words_for x.links) × (length m.refused_in ≡ words_for x.links) = λ z. lengths_passed (length m.standing) (length m.refused_out) (length m.held) (length m.refused_in) (words_for x.links) _ c.length_fault-lengths.ensures z in
@@ -65,7 +65,7 @@ ones_fault-requires c =
 
 pub returns : goal.returns
 returns c =
-    let x : Slices = let a = c.args in slices_of 0 a.probes a.links a.needs.now a.lows.now a.highs.now a.costs.now in
+    let x : Slices = let a = c.args in as_slices a.table in
     let m : Maps = let a = c.args in rows a.standing.now a.refused_out.now a.held.now a.refused_in.now in
     let legal : LegalSlices 256 2048 x = legal_slices 256 2048 x (sym c.slice_fault-fault.ensures ∙ c.if-fault-ne0.false) in
     let long : c.length_fault-lengths.result ≡ 0 → (length m.standing ≡ words_for x.links) × (length m.refused_out ≡ words_for x.links) × (length m.held ≡ words_for x.links) × (length m.refused_in ≡ words_for x.links) = λ z. lengths_passed (length m.standing) (length m.refused_out) (length m.held) (length m.refused_in) (words_for x.links) _ c.length_fault-lengths.ensures z in

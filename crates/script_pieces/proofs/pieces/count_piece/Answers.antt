@@ -5,7 +5,7 @@ use mathlib.Core.List.{List}
 use native.Mathlib.Omega.{arith}
 use lib.ListN.{length, replicate}
 use lib.Seq.{length-take-le, take_all}
-use Rattle.table.specs.Slices.{slices_of, table_of}
+use Rattle.table.specs.Slices.{table_of, as_slices}
 use Rattle.fleet_state.proofs.CheckLaws.{fleet_good}
 use Rattle.script_steps.specs.Within.{under_way}
 use Rattle.script_steps.proofs.PieceLaws.{copied_part}
@@ -16,7 +16,7 @@ use Rattle.script_pieces.proofs.pieces.count_piece.Goals as goal
 pub copy-requires : goal.copy-requires
 copy-requires c =
     let a = c.args in
-    let x = slices_of a.number a.probes a.links a.needs.now a.lows.now a.highs.now a.costs.now in
+    let x = as_slices a.table in
     let m = links_within x c.requires.0 in
     let f = fleet_good (table_of x) a.rec.now c.requires.1 in
     (omega (arith, f.0), omega arith)
@@ -24,7 +24,7 @@ copy-requires c =
 pub slice_bounds-bytes-end : goal.slice_bounds-bytes-end
 slice_bounds-bytes-end c =
     let a = c.args in
-    let x = slices_of a.number a.probes a.links a.needs.now a.lows.now a.highs.now a.costs.now in
+    let x = as_slices a.table in
     let m = links_within x c.requires.0 in
     let f = fleet_good (table_of x) a.rec.now c.requires.1 in
     omega (arith, f.0, c.copy.auto.to)
@@ -32,7 +32,7 @@ slice_bounds-bytes-end c =
 pub slice_bounds-take_closed-end : goal.slice_bounds-take_closed-end
 slice_bounds-take_closed-end c =
     let a = c.args in
-    let x = slices_of a.number a.probes a.links a.needs.now a.lows.now a.highs.now a.costs.now in
+    let x = as_slices a.table in
     let m = links_within x c.requires.0 in
     let f = fleet_good (table_of x) a.rec.now c.requires.1 in
     sym (length-take-le _ _ (omega (arith, f.0, c.copy.auto.to)))
@@ -40,7 +40,7 @@ slice_bounds-take_closed-end c =
 pub take_closed-closed-requires : goal.take_closed-closed-requires
 take_closed-closed-requires c =
     let a = c.args in
-    let x = slices_of a.number a.probes a.links a.needs.now a.lows.now a.highs.now a.costs.now in
+    let x = as_slices a.table in
     let m = links_within x c.requires.0 in
     let f = fleet_good (table_of x) a.rec.now c.requires.1 in
     let zeros : List ℕ = replicate 16384 0 in
@@ -50,7 +50,7 @@ take_closed-closed-requires c =
 pub returns : goal.returns
 returns c =
     let a = c.args in
-    let x = slices_of a.number a.probes a.links a.needs.now a.lows.now a.highs.now a.costs.now in
+    let x = as_slices a.table in
     let m = links_within x c.requires.0 in
     let f = fleet_good (table_of x) a.rec.now c.requires.1 in
     let zeros : List ℕ = replicate 16384 0 in

@@ -1,7 +1,7 @@
 use borrow.Author.Rules.{rules}
 use native.Mathlib.Omega.{arith}
 use lib.Seq.{length-take-le}
-use Rattle.table.specs.Slices.{slices_of}
+use Rattle.table.specs.Slices.{as_slices}
 use Rattle.script_steps.specs.Within.{under_way}
 use Rattle.script_steps.proofs.Holding.{appended_few}
 use Rattle.script_pieces.proofs.Sharing.{closed_few, piece_taken}
@@ -14,14 +14,14 @@ take_closed-closed-requires c =
 pub append-held-requires : goal.append-held-requires
 append-held-requires c =
     let a = c.args in
-    let x = slices_of a.number a.probes a.links a.needs.now a.lows.now a.highs.now a.costs.now in
+    let x = as_slices a.table in
     let n = length-take-le a.progress.held a.line.now (omega (arith, c.requires.4, c.requires.5)) in
     (closed_few x (under_way a.progress a.rec.now a.line.now) a.piece.now _ _ _ _ _ (omega (arith, c.requires.4)) c.take_closed-closed.ensures, c.requires.5)
 
 pub overflow_cast-result : goal.overflow_cast-result
 overflow_cast-result c =
     let a = c.args in
-    let x = slices_of a.number a.probes a.links a.needs.now a.lows.now a.highs.now a.costs.now in
+    let x = as_slices a.table in
     let n = length-take-le a.progress.held a.line.now (omega (arith, c.requires.4, c.requires.5)) in
     let f = closed_few x (under_way a.progress a.rec.now a.line.now) a.piece.now _ _ _ _ _ (omega (arith, c.requires.4)) c.take_closed-closed.ensures in
     let k = appended_few _ _ _ f c.append-held.ensures.1 in
@@ -30,7 +30,7 @@ overflow_cast-result c =
 pub returns : goal.returns
 returns c =
     let a = c.args in
-    let x = slices_of a.number a.probes a.links a.needs.now a.lows.now a.highs.now a.costs.now in
+    let x = as_slices a.table in
     let n = length-take-le a.progress.held a.line.now (omega (arith, c.requires.4, c.requires.5)) in
     let e = c.append-held.ensures in
     piece_taken x (under_way a.progress a.rec.now a.line.now) a.piece.now _ _ _ a.line.now _ a.out.now _ (omega (arith, c.requires.4)) c.requires.5 c.take_closed-closed.ensures e.0 e.1

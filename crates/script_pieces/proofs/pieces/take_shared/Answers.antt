@@ -5,7 +5,7 @@ use Prim.Native.Nat.{ℕ}
 use native.Mathlib.Omega.{arith}
 use lib.ListN.{replicate}
 use lib.Seq.{length-take-le}
-use Rattle.table.specs.Slices.{slices_of}
+use Rattle.table.specs.Slices.{as_slices}
 use Rattle.script_steps.proofs.PieceLaws.{copied_part}
 use Rattle.script_steps.proofs.Closing.{closed_within}
 use Rattle.script_steps.proofs.Holding.{appended_few}
@@ -15,13 +15,13 @@ use Rattle.script_pieces.proofs.pieces.take_shared.Goals as goal
 pub returns-then-held-eq0 : goal.returns-then-held-eq0
 returns-then-held-eq0 c =
     let a = c.args in
-    let x = slices_of a.number a.probes a.links a.needs.now a.lows.now a.highs.now a.costs.now in
+    let x = as_slices a.table in
     (omega arith, λ some. absurd (some c.if-held-eq0.true), none_shared x a.progress a.rec.now a.line.now a.piece.now a.out.now c.requires.4 c.requires.5)
 
 pub returns-then-end-eq0 : goal.returns-then-end-eq0
 returns-then-end-eq0 c =
     let a = c.args in
-    let x = slices_of a.number a.probes a.links a.needs.now a.lows.now a.highs.now a.costs.now in
+    let x = as_slices a.table in
     (omega arith, λ some. (let e = c.line_end-end.ensures in omega (arith, c.if-end-eq0.true)), none_shared x a.progress a.rec.now a.line.now a.piece.now a.out.now c.requires.4 c.requires.5)
 
 pub slice_bounds-append-end-2 : goal.slice_bounds-append-end-2
@@ -42,7 +42,7 @@ slice_bounds-answer_line-end c =
 pub returns : goal.returns
 returns c =
     let a = c.args in
-    let x = slices_of a.number a.probes a.links a.needs.now a.lows.now a.highs.now a.costs.now in
+    let x = as_slices a.table in
     let k = closed_within a.piece.now in
     let zeros : List ℕ = replicate 16 0 in
     let same = copied_part zeros _ a.line.now a.progress.held c.copy.ensures (omega (arith, c.requires.4)) c.requires.5 in

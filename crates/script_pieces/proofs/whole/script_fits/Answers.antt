@@ -5,7 +5,7 @@ use native.Mathlib.Omega.{arith}
 use lib.Dec.{leb}
 use lib.ListN.{length}
 use borrow.Author.Tests.{le-leb}
-use Rattle.table.specs.Slices.{slices_of}
+use Rattle.table.specs.Slices.{as_slices}
 use Rattle.script_lines.proofs.Fitting.{capped_leb}
 use Rattle.script_theory.specs.Script.{script_text}
 use Rattle.script_pieces.proofs.Ends.{links_within, script_short}
@@ -14,14 +14,14 @@ use Rattle.script_pieces.proofs.whole.script_fits.Goals as goal
 pub returns-then-text-room : goal.returns-then-text-room
 returns-then-text-room c =
     let a = c.args in
-    let x = slices_of a.number a.probes a.links a.needs.now a.lows.now a.highs.now a.costs.now in
+    let x = as_slices a.table in
     let m = links_within x c.requires.0 in
-    let w : 8 * a.links ≤ 16384 = omega arith in
+    let w : 8 * a.table.links ≤ 16384 = omega arith in
     let n = script_short x c.requires.0 w a.text.now in
     sym (le-leb (length (script_text x 1024 a.text.now)) a.room (omega (arith, c.if-text-room.true)))
 
 pub returns : goal.returns
 returns c =
     let a = c.args in
-    let x = slices_of a.number a.probes a.links a.needs.now a.lows.now a.highs.now a.costs.now in
+    let x = as_slices a.table in
     ap (λ (k : ℕ). leb k a.room) c.put_script-length.ensures.0 ∙ capped_leb (length (script_text x 1024 a.text.now)) a.room c.requires.3

@@ -1,6 +1,6 @@
 use Rattle.std.proofs.Common.{arith, take, length-take-le}
 use Rattle.std.proofs.KnownBytes.{Consumes-kept}
-use Rattle.table.specs.Slices.{slices_of}
+use Rattle.table.specs.Slices.{as_slices}
 use Rattle.script_reads.proofs.Calls.{piece_fits}
 use Rattle.script_reads.proofs.Chain.{handled_usable, turned_none, turned_more}
 use Rattle.script_reads.proofs.reads.handle_all.Goals as goal
@@ -8,13 +8,13 @@ use Rattle.script_reads.proofs.reads.handle_all.Goals as goal
 pub loop-init : goal.loop-init
 loop-init g c =
     let a = c.args in
-    let x = slices_of a.number a.probes a.links a.needs.now a.lows.now a.highs.now a.costs.now in
+    let x = as_slices a.table in
     turned_none x c.requires.0 a.line.now a.rec.now _ _ c.requires.1
 
 pub handle_piece-place-requires : goal.handle_piece-place-requires
 handle_piece-place-requires g c =
     let a = c.args in
-    let x = slices_of a.number a.probes a.links a.needs.now a.lows.now a.highs.now a.costs.now in
+    let x = as_slices a.table in
     let l = c.loop in
     let w = c.in-Bytes.ensures.within in
     let n = length-take-le c.in-Bytes.n c.read_some.new.buf (omega (arith, w.1, c.read_some.auto.buf)) in
@@ -32,6 +32,6 @@ returns-in-End g c =
 pub loop-preserved : goal.loop-preserved
 loop-preserved g c =
     let a = c.args in
-    let x = slices_of a.number a.probes a.links a.needs.now a.lows.now a.highs.now a.costs.now in
+    let x = as_slices a.table in
     let l = c.loop in
     turned_more x c.requires.0 a.line.now l.progress _ l.rec _ l.line _ _ _ _ _ _ _ _ _ _ _ l.invariant c.handle_piece-place.ensures c.in-Bytes.ensures.bytes (c.write.ensures c.if-not-write.false)

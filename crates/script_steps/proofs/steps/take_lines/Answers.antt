@@ -5,7 +5,7 @@ use mathlib.Core.Logic.{⊎_elim}
 use mathlib.Core.List.{[]}
 use native.Mathlib.Omega.{arith}
 use lib.ListN.{length, take, drop}
-use Rattle.table.specs.Slices.{slices_of}
+use Rattle.table.specs.Slices.{as_slices}
 use Rattle.script_theory.specs.Script.{after_line, after_piece}
 use Rattle.script_steps.specs.Within.{under_way, Buffered}
 use Rattle.script_steps.specs.Closing.{closed_length}
@@ -17,7 +17,7 @@ use Rattle.script_steps.proofs.steps.take_lines.Goals.{then-next-at-ne15, else-n
 pub loop-at-init : goal.loop-at-init
 loop-at-init c =
     let a = c.args in
-    let x = slices_of a.number a.probes a.links a.needs.now a.lows.now a.highs.now a.costs.now in
+    let x = as_slices a.table in
     (omega arith, c.line_end-next.ensures, none_taken x a.piece.now a.start a.rec.now a.out.now c.requires.4 c.requires.5, refl, refl)
 
 pub refuse_line-place-requires : goal.refuse_line-place-requires
@@ -27,7 +27,7 @@ refuse_line-place-requires c =
 pub answer_line-place-requires : goal.answer_line-place-requires
 answer_line-place-requires c =
     let a = c.args in
-    let x = slices_of a.number a.probes a.links a.needs.now a.lows.now a.highs.now a.costs.now in
+    let x = as_slices a.table in
     let v = c.loop-at.invariant in
     (c.requires.0, still_usable x (under_way a.start.progress a.rec.now []) _ a.start.at _ _ _ _ _ c.requires.0 c.requires.1 v.2, c.requires.2, c.requires.3, at_most _ a.start.at _ _ _ _ _ v.2)
 
@@ -47,7 +47,7 @@ loop-at-preserved c =
     let j = c.if-next-at-ne15 in
     let l = c.loop-at in
     let a = c.args in
-    let x = slices_of a.number a.probes a.links a.needs.now a.lows.now a.highs.now a.costs.now in
+    let x = as_slices a.table in
     let p = under_way a.start.progress a.rec.now [] in
     let v = l.invariant in
     let k = end_within a.piece.now l.at v.0 in

@@ -11,7 +11,7 @@ returns-then-room-ne0 c = or_here _ _ _ c.room_fault-room.ensures c.if-room-ne0.
 pub table_fault-requires : goal.table_fault-requires
 table_fault-requires c =
     let a = c.args in
-    let s = room_good a.probes a.links (length a.needs.now) (length a.lows.now) (length a.highs.now) (length a.costs.now) (sym c.room_fault-room.ensures ∙ c.if-room-ne0.false) in
+    let s = room_good a.table.probes a.table.links (length a.table.needs.now) (length a.table.lows.now) (length a.table.highs.now) (length a.table.costs.now) (sym c.room_fault-room.ensures ∙ c.if-room-ne0.false) in
     (omega arith, omega arith)
 
 pub returns : goal.returns

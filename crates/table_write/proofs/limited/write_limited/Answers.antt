@@ -11,25 +11,25 @@ use Rattle.table_write.proofs.limited.write_limited.Goals as goal
 pub returns-then-out-end : goal.returns-then-out-end
 returns-then-out-end c =
     let a = c.args in
-    let short : length a.out.now < link_start a.probes a.links + 5 = omega (arith, c.text_end-end.ensures, c.if-out-end.true) in
+    let short : length a.out.now < link_start a.table.probes a.table.links + 5 = omega (arith, c.text_end-end.ensures, c.if-out-end.true) in
     writes_refused _ _ 8 _ (room_short _ _ _ short) (λ z. omega arith)
 
 pub returns-then-fault-ne0 : goal.returns-then-fault-ne0
 returns-then-fault-ne0 c =
     let a = c.args in
-    let enough : link_start a.probes a.links + 5 ≤ length a.out.now = omega (arith, c.text_end-end.ensures, c.if-out-end.false) in
+    let enough : link_start a.table.probes a.table.links + 5 ≤ length a.out.now = omega (arith, c.text_end-end.ensures, c.if-out-end.false) in
     writes_refused _ _ _ _ (c.slice_fault-fault.ensures ∙ sym (room_enough _ _ _ enough)) c.if-fault-ne0.true
 
 pub put_table-requires : goal.put_table-requires
 put_table-requires c =
     let a = c.args in
     let e = c.text_end-end.ensures in
-    let s = room_good a.probes a.links (length a.needs.now) (length a.lows.now) (length a.highs.now) (length a.costs.now) (or_left _ _ (sym c.slice_fault-fault.ensures ∙ c.if-fault-ne0.false)) in
+    let s = room_good a.table.probes a.table.links (length a.table.needs.now) (length a.table.lows.now) (length a.table.highs.now) (length a.table.costs.now) (or_left _ _ (sym c.slice_fault-fault.ensures ∙ c.if-fault-ne0.false)) in
     (omega arith, omega arith, omega arith, omega arith, omega arith)
 
 pub returns : goal.returns
 returns c =
     let a = c.args in
     let e = c.text_end-end.ensures in
-    let enough : link_start a.probes a.links + 5 ≤ length a.out.now = omega (arith, e, c.if-out-end.false) in
+    let enough : link_start a.table.probes a.table.links + 5 ≤ length a.out.now = omega (arith, e, c.if-out-end.false) in
     rw e (writes_text _ _ _ _ (room_enough _ _ _ enough ∙ sym c.slice_fault-fault.ensures ∙ c.if-fault-ne0.false) enough c.put_table.ensures)
