@@ -23,12 +23,10 @@ fn read_by(values: &[u8], text: &[u8], at: usize, width: usize) -> Digits
 {
     let mut number: usize = 0;
     let mut sum: usize = 0;
-    let mut i = 0;
-    while i < width {
+    for i in 0..width {
         let value = wide(values[wide(text[at + i])]);
         number = number * 16 + value;
         sum += value;
-        i += 1;
     }
     Digits {
         number,
@@ -58,9 +56,7 @@ pub fn put_number(out: &mut [u8], at: usize, width: usize, number: u32)
     ensures { out.new ≡ sets out.old at (digits width number) }
 {
     let mut v = number;
-    let mut i = width;
-    while 0 < i {
-        i -= 1;
+    for i in (0..width).rev() {
         out[at + i] = digit((v % 16) as u8);
         v = v / 16;
     }

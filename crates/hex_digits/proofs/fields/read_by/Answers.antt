@@ -1,58 +1,39 @@
-use borrow.Author.Rules.{rules}
-use Prim.Native.Nat.{ℕ, ◌+◌}
-use mathlib.Core.Path.{◌≡◌, refl, ◌∙◌, ap}
+use mathlib.Core.Path.{◌≡◌, refl}
+use mathlib.Core.List.{List}
+use Prim.Native.Nat.{ℕ, ◌≤◌, ◌<◌}
 use native.Mathlib.Omega.{arith}
-use lib.Dec.{ltb}
 use lib.ListN.{get_or}
 use Rattle.hex_digits.specs.Digits.{value_of, number_at}
-use Rattle.hex_digits.proofs.Laws.{value_sum, number_next, number_bound, sum_next, sum_bound, good_by_sum, value_le}
+use Rattle.hex_digits.proofs.Laws.{number_next, number_bound, sum_next, sum_bound, good_by_sum, value_le}
 use Rattle.hex_digits.proofs.fields.read_by.Goals as goal
+
+-- what the table says of a byte
+looked_up : (values : List ℕ) {w r b : ℕ} → ((b : ℕ) → b < 256 → get_or values b 0 ≡ value_of b) → b < 256 → w ≡ b → r ≡ get_or values w 0 → (r ≡ value_of b) × (r ≤ 255)
+looked_up values {b = b} rule small e f = let v = value_le b in let g = rule b small in let h = rw e at f in (cc, omega arith)
 
 pub loop-i-init : goal.loop-i-init
 unfolding number_at
-loop-i-init c = (search rules, refl, refl)
-
-pub bounds-values-wide : goal.bounds-values-wide
-bounds-values-wide c =
-    let small = (c.type_inv.text (c.args.at + c.loop-i.i)).fits in
-    omega (arith, c.wide.ensures, c.requires.1)
+loop-i-init c = (refl, refl)
 
 pub overflow_mul-number : goal.overflow_mul-number
-overflow_mul-number c =
-    let a = c.args in
-    let b = number_bound a.text.now a.at c.loop-i.i (omega arith) in
-    omega (arith, c.loop-i.invariant.1)
+overflow_mul-number c = omega (arith, number_bound)
 
 pub overflow_add-number : goal.overflow_add-number
 overflow_add-number c =
-    let a = c.args in
-    let small = (c.type_inv.text (a.at + c.loop-i.i)).fits in
-    let value = c.wide-value.ensures ∙ c.requires.0 c.wide.result (omega (arith, c.wide.ensures)) ∙ ap value_of c.wide.ensures in
-    let b = number_bound a.text.now a.at c.loop-i.i (omega arith) in
-    let v = value_le (get_or a.text.now (a.at + c.loop-i.i) 0) in
-    omega (arith, c.loop-i.invariant.1)
+    let v = looked_up _ c.requires.0 (c.type_inv.text _).fits c.wide.ensures c.wide-value.ensures in
+    omega (arith, number_bound)
 
 pub overflow_add-sum : goal.overflow_add-sum
 overflow_add-sum c =
-    let a = c.args in
-    let small = (c.type_inv.text (a.at + c.loop-i.i)).fits in
-    let value = c.wide-value.ensures ∙ c.requires.0 c.wide.result (omega (arith, c.wide.ensures)) ∙ ap value_of c.wide.ensures in
-    let b = sum_bound a.text.now a.at c.loop-i.i in
-    let v = value_le (get_or a.text.now (a.at + c.loop-i.i) 0) in
-    omega (arith, c.loop-i.invariant.2)
+    let v = looked_up _ c.requires.0 (c.type_inv.text _).fits c.wide.ensures c.wide-value.ensures in
+    omega (arith, sum_bound)
 
 pub loop-i-preserved : goal.loop-i-preserved
 loop-i-preserved c =
-    let a = c.args in
-    let small = (c.type_inv.text (a.at + c.loop-i.i)).fits in
-    let value = c.wide-value.ensures ∙ c.requires.0 c.wide.result (omega (arith, c.wide.ensures)) ∙ ap value_of c.wide.ensures in
-    let n = number_next a.text.now a.at c.loop-i.i in
-    let m = sum_next a.text.now a.at c.loop-i.i in
-    (omega arith, omega (arith, c.loop-i.invariant.1), omega (arith, c.loop-i.invariant.2))
+    let v = looked_up _ c.requires.0 (c.type_inv.text _).fits c.wide.ensures c.wide-value.ensures in
+    (omega (arith, number_next), omega (arith, sum_next))
 
 pub returns : goal.returns
 returns c =
     let e : c.loop-i.i ≡ c.args.width = omega arith in
-    let g = good_by_sum c.args.text.now c.args.at c.args.width (omega (arith, c.requires.3)) in
-    let n : c.loop-i.sum ≡ value_sum c.args.text.now c.args.at c.args.width = rw (← e) c.loop-i.invariant.2 in
-    (rw (← e) c.loop-i.invariant.1, ap (λ (k : ℕ). ltb k 255) n ∙ g)
+    (rw (← e) c.loop-i.invariant.0, rw (← e, c.loop-i.invariant.1) (good_by_sum _ _ _ (omega arith)))
