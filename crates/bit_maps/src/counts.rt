@@ -8,10 +8,8 @@ pub fn ones(map: &[u64]) -> usize
     ensures { result ≡ ones_of map.now }
 {
     let mut n = 0;
-    let mut k = 0;
-    while k < map.len() {
-        n += u64::count_ones(map[k]) as usize;
-        k += 1;
+    for word in map {
+        n += u64::count_ones(*word) as usize;
     }
     n
 }

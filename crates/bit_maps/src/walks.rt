@@ -7,7 +7,7 @@ pub fn next(map: &[u64], from: usize) -> usize
     requires { (length map.now ≤ 65536) × (from ≤ 64 * length map.now) }
     ensures { result ≡ next_bit map.now from }
 {
-    let mut k = from / 64;
+    let k = from / 64;
     if map.len() <= k {
         return from;
     }
@@ -15,13 +15,11 @@ pub fn next(map: &[u64], from: usize) -> usize
     if first != 0 {
         return from + u64::trailing_zeros(first) as usize;
     }
-    k += 1;
-    while k < map.len() {
+    for k in k + 1..map.len() {
         let word = map[k];
         if word != 0 {
             return 64 * k + u64::trailing_zeros(word) as usize;
         }
-        k += 1;
     }
-    64 * k
+    64 * map.len()
 }
