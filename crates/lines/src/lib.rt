@@ -21,17 +21,16 @@ pub struct Found {
 pub fn find_line(text: &[u8], at: usize) -> Found
     ensures { result ≡ line_at text.now at }
 {
-    let mut i = at;
-    while i < text.len() {
+    for i in at..text.len() {
         if text[i] == b'\n' {
-            let next = i + 1;
-            let len = i - at;
             return Found {
-                line: Line::Here { start: at, len },
-                next,
+                line: Line::Here {
+                    start: at,
+                    len: i - at,
+                },
+                next: i + 1,
             };
         }
-        i += 1;
     }
     Found {
         line: Line::Missing,
