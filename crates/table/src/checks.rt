@@ -79,8 +79,7 @@ fn are_rising(probes: u16, links: usize, lows: &[u16], highs: &[u16]) -> bool
     let mut low0 = 0u16;
     let mut high0 = 0u16;
     let mut bad = false;
-    let mut i = 0;
-    while i < links {
+    for i in 0..links {
         let low = lows[i];
         let high = highs[i];
         let ends = (high <= low) | (probes <= high);
@@ -88,7 +87,6 @@ fn are_rising(probes: u16, links: usize, lows: &[u16], highs: &[u16]) -> bool
         bad = bad | (ends | order);
         low0 = low;
         high0 = high;
-        i += 1;
     }
     !bad
 }
@@ -103,13 +101,11 @@ fn links_fault(probes: usize, links: usize, lows: &[u16], highs: &[u16]) -> u8
             return 0;
         }
     }
-    let mut i = 0;
-    while i < links {
+    for i in 0..links {
         let fault = link_fault(probes, lows, highs, i);
         if fault != 0 {
             return fault;
         }
-        i += 1;
     }
     0
 }

@@ -24,11 +24,7 @@ pub fn take_one(counts: &mut [u16], v: usize)
 pub fn clear_counts(counts: &mut [u16])
     ensures { counts.new ≡ replicate (length counts.old) 0 }
 {
-    let mut v = 0;
-    while v < counts.len() {
-        counts[v] = 0;
-        v += 1;
-    }
+    counts.fill(0);
 }
 
 // Counts each probe's links into zeros.
@@ -38,12 +34,10 @@ pub fn count_degrees(counts: &mut [u16], links: usize, lows: &[u16], highs: &[u1
         × ((v : ℕ) → get_or counts.old v 0 ≡ 0) }
     ensures { Degrees (of_slices 0 0 links [] lows.now highs.now []) counts.new }
 {
-    let mut i = 0;
-    while i < links {
+    for i in 0..links {
         let low = wide(lows[i]);
         let high = wide(highs[i]);
         add_one(counts, low);
         add_one(counts, high);
-        i += 1;
     }
 }

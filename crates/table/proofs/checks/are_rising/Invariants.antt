@@ -1,5 +1,5 @@
--- Invariant: where no link before i was found bad, none of them has a fault; low0 and high0 are the ends of the link before i, if there is one. Measure: the links that are left.
-use Prim.Native.Nat.{◌-◌, ◌≤◌}
+-- Invariant: where no link before i was found bad, none of them has a fault; low0 and high0 are the ends of the link before i, if there is one.
+use Prim.Native.Nat.{◌-◌}
 use mathlib.Core.Path.{◌≡◌}
 use mathlib.Core.Bool.{false}
 use Rattle.range.specs.First.{first}
@@ -8,7 +8,4 @@ use Rattle.table.specs.Legal.{link_fault}
 use Rattle.table.proofs.checks.are_rising.Given as goal
 
 abbrev pub invariant-loop-i : goal.invariant-loop-i
-invariant-loop-i l = (l.i ≤ l.links) × (l.bad ≡ false → first (link_fault l.probes (item l.lows) (item l.highs)) l.i ≡ 0) × ((l.i ≡ 0 → ⊥) → (l.low0 ≡ item l.lows (l.i - 1)) × (l.high0 ≡ item l.highs (l.i - 1)))
-
-abbrev pub decreases-loop-i : goal.decreases-loop-i
-decreases-loop-i l = l.links - l.i
+invariant-loop-i l = (l.bad ≡ false → first (link_fault l.probes (item l.lows) (item l.highs)) l.i ≡ 0) × ((l.i ≡ 0 → ⊥) → (l.low0 ≡ item l.lows (l.i - 1)) × (l.high0 ≡ item l.highs (l.i - 1)))

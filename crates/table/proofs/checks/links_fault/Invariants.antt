@@ -1,5 +1,4 @@
--- Invariant: no link before i has a fault. Measure: the links that are left.
-use Prim.Native.Nat.{◌-◌, ◌≤◌}
+-- Invariant: no link before i has a fault.
 use mathlib.Core.Path.{◌≡◌}
 use Rattle.range.specs.First.{first}
 use Rattle.table.specs.Table.{item}
@@ -7,7 +6,4 @@ use Rattle.table.specs.Legal.{link_fault}
 use Rattle.table.proofs.checks.links_fault.Given as goal
 
 abbrev pub invariant-loop-i : goal.invariant-loop-i
-invariant-loop-i l = (l.i ≤ l.links) × (first (link_fault l.probes (item l.lows) (item l.highs)) l.i ≡ 0)
-
-abbrev pub decreases-loop-i : goal.decreases-loop-i
-decreases-loop-i l = l.links - l.i
+invariant-loop-i l = first (link_fault l.probes (item l.lows) (item l.highs)) l.i ≡ 0
