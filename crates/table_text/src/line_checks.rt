@@ -35,15 +35,11 @@ pub fn need_lines_fault(text: &[u8], start: usize, probes: usize) -> u8
     requires { (start ≡ need_start 0) × (probes ≤ 256) }
     ensures { result ≡ first (need_line_fault text.now) probes }
 {
-    let mut at = start;
-    let mut v = 0;
-    while v < probes {
-        let line = need_line(text, at);
+    for v in 0..probes {
+        let line = need_line(text, start + NEED_BYTES * v);
         if line.fault != 0 {
             return line.fault;
         }
-        at += NEED_BYTES;
-        v += 1;
     }
     0
 }
@@ -92,19 +88,16 @@ pub fn link_lines_fault(text: &[u8], probes: usize, links: usize) -> u8
     requires { (probes ≡ (of_text text.now).probes) × (probes ≤ 256) × (links ≤ 2048) }
     ensures { result ≡ first (link_line_fault text.now) links }
 {
-    let mut at = link_start(probes, 0);
+    let start = link_start(probes, 0);
     let mut low = 0;
     let mut high = 0;
-    let mut i = 0;
-    while i < links {
-        let link = link_line(text, probes, at, i, low, high);
+    for i in 0..links {
+        let link = link_line(text, probes, start + LINK_BYTES * i, i, low, high);
         if link.fault != 0 {
             return link.fault;
         }
         low = link.low;
         high = link.high;
-        at += LINK_BYTES;
-        i += 1;
     }
     0
 }
@@ -114,17 +107,7 @@ fn stands_at(text: &[u8], at: usize, what: &[u8]) -> bool
     requires { at ≤ length text.now }
     ensures { result ≡ begins (drop at text.now) what.now }
 {
-    let mut k = 0;
-    while k < what.len() {
-        if text.len() <= at + k {
-            return false;
-        }
-        if text[at + k] != what[k] {
-            return false;
-        }
-        k += 1;
-    }
-    true
+    text[at..].starts_with(what)
 }
 
 // 6, where the closing line is to stand at an offset.

@@ -1,30 +1,27 @@
-use borrow.Author.Rules.{rules}
-use Prim.Native.Nat.{◌+◌}
-use mathlib.Core.Path.{sym, ◌∙◌}
-use native.Mathlib.Nat.{add-zero}
-use lib.ListN.{drop}
-use Rattle.table_text.proofs.Begins.{begins_end, begins_other, begins_next, begins_done}
+use mathlib.Core.Path.{◌≡◌, refl, ◌∙◌, ap}
+use mathlib.Core.Bool.{◌&&◌}
+use mathlib.Core.List.{List, [], ◌∷◌}
+use Prim.Native.Nat.{ℕ, ◌-◌}
+use Rattle.std.proofs.lemmas.Bool.Decides.{nat_tests}
+use native.Mathlib.Omega.{arith}
+use lib.Dec.{eqb}
+use lib.ListN.{length, drop, length-drop}
+use Rattle.std.proofs.lemmas.List.{take_all}
+use Rattle.std.specs.List.{starts_with}
+use Rattle.table.specs.Text.{begins}
 use Rattle.table_text.proofs.line_checks.stands_at.Goals as goal
 
-pub loop-k-init : goal.loop-k-init
-loop-k-init c = (search rules, rw (add-zero c.args.at), search rules)
+turned : (a b : ℕ) → eqb a b ≡ eqb b a
+turned a b = grind (arith, nat_tests)
 
-pub returns-then-text-at : goal.returns-then-text-at
-returns-then-text-at c =
-    let a = c.args in
-    sym (c.loop-k.invariant.1 ∙ begins_end a.text.now a.what.now a.at c.loop-k.k c.loop-k-test.true c.if-text-at.true)
-
-pub returns-then-text-at-2 : goal.returns-then-text-at-2
-returns-then-text-at-2 c =
-    let a = c.args in
-    sym (c.loop-k.invariant.1 ∙ begins_other a.text.now a.what.now a.at c.loop-k.k c.loop-k-test.true c.if-text-at.false c.if-text-at-2.true)
-
-pub loop-k-preserved : goal.loop-k-preserved
-loop-k-preserved c =
-    let a = c.args in
-    (search rules, c.loop-k.invariant.1 ∙ begins_next a.text.now a.what.now a.at c.loop-k.k c.loop-k-test.true c.if-text-at.false c.if-text-at-2.false, search rules)
+-- the library's word
+same : (s what : List ℕ) → starts_with eqb s what ≡ begins s what
+unfolding begins
+same s [] = refl
+same [] (x ∷ xs) = refl
+same (b ∷ s) (x ∷ xs) = rw (turned x b) (ap (λ r. eqb b x && r) (same s xs))
 
 pub returns : goal.returns
 returns c =
     let a = c.args in
-    sym (c.loop-k.invariant.1 ∙ begins_done (drop (a.at + c.loop-k.k) a.text.now) a.what.now c.loop-k.k c.loop-k-test.false)
+    c.starts_with.ensures.value ∙ rw (take_all (length a.text.now - a.at) (drop a.at a.text.now) (simp length-drop (omega arith))) (same (drop a.at a.text.now) a.what.now)
