@@ -28,9 +28,5 @@ pub fn put_closing(out: &mut [u8], at: usize)
     requires { at + 5 ≤ length out.old }
     ensures { out.new ≡ sets out.old at closing_line }
 {
-    let mut k = 0;
-    while k < CLOSING_BYTES {
-        out[at + k] = CLOSING[k];
-        k += 1;
-    }
+    out[at..at + CLOSING_BYTES].copy_from_slice(&CLOSING);
 }

@@ -14,10 +14,8 @@ fn put_needs(out: &mut [u8], probes: usize, needs: &[u16])
     requires { (need_start probes ≤ length out.old) × (probes ≤ length needs.now) × (probes ≤ 65535) }
     ensures { out.new ≡ sets out.old (need_start 0) (joined (λ v. need_line (item needs.now v)) probes) }
 {
-    let mut v = 0;
-    while v < probes {
+    for v in 0..probes {
         put_need(out, need_start(v), needs[v]);
-        v += 1;
     }
 }
 
@@ -34,10 +32,8 @@ fn put_links(
     ensures { out.new ≡ sets out.old (need_start probes)
         (joined (λ i. triple_line (item lows.now i) (item highs.now i) (item costs.now i)) links) }
 {
-    let mut i = 0;
-    while i < links {
+    for i in 0..links {
         put_triple(out, link_start(probes, i), lows[i], highs[i], costs[i]);
-        i += 1;
     }
 }
 

@@ -1,24 +1,17 @@
-use borrow.Author.Rules.{rules}
-use mathlib.Core.Path.{◌≡◌, refl}
+use Prim.Native.Nat.{ℕ, ◌+◌, ◌-◌, ◌≤◌}
+use mathlib.Core.Path.{◌≡◌, sym, ◌∙◌, ap}
+use mathlib.Core.List.{List, ◌++◌}
+use Rattle.std.proofs.Common.{append_assoc}
 use native.Mathlib.Omega.{arith}
-use lib.ListN.{length-set}
+use borrow.Rule.Slice.PartMut.{put_mid, Post-is}
+use lib.ListN.{length, take}
+use lib.Seq.{sets, sets-eq}
 use Rattle.table.specs.Text.{closing_line}
-use Rattle.range.proofs.Sets.{sets_next}
 use Rattle.table_write.proofs.line.put_closing.Goals as goal
 
-pub loop-k-init : goal.loop-k-init
-loop-k-init c = (search rules, refl, refl)
-
-pub loop-k-preserved : goal.loop-k-preserved
-loop-k-preserved c =
-    let l = c.loop-k in
-    let a = c.args in
-    (search rules, sets_next a.out.now l.out closing_line a.at l.k c.loop-k-test.true l.invariant.1, simp length-set l.invariant.2)
-
-pub shape_of-out : goal.shape_of-out
-shape_of-out c = c.loop-k.invariant.2
+-- a part of a list replaced
+part : (l xs : List ℕ) (at : ℕ) → at + length xs ≤ length l → put_mid at (at + length xs - at) l xs ≡ sets l at xs
+part l xs at fits = ap (λ r. take at l ++ (xs ++ r)) (Post-is at (at + length xs) l (omega arith)) ∙ (rw append_assoc at (sym (sets-eq xs l at fits)))
 
 pub returns : goal.returns
-returns c =
-    let e : c.loop-k.k ≡ 5 = omega arith in
-    rw e at c.loop-k.invariant.1
+returns c = rw c.copy_from_slice.ensures.after (part c.args.out.now closing_line c.args.at c.requires)

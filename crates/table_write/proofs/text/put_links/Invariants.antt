@@ -1,7 +1,5 @@
--- Invariant: the lines of the links before i are stored. Measure: the links that are left.
-use Prim.Native.Nat.{◌-◌, ◌≤◌}
+-- Invariant: the lines of the links before i are stored.
 use mathlib.Core.Path.{◌≡◌}
-use lib.ListN.{length}
 use lib.Seq.{sets}
 use Rattle.range.specs.Lists.{joined}
 use Rattle.table.specs.Table.{item}
@@ -9,7 +7,4 @@ use Rattle.table.specs.Text.{triple_line, need_start}
 use Rattle.table_write.proofs.text.put_links.Given as goal
 
 abbrev pub invariant-loop-i : goal.invariant-loop-i
-invariant-loop-i l = (l.i ≤ l.links) × (l.out ≡ sets l.initial.out (need_start l.probes) (joined (λ k. triple_line (item l.lows k) (item l.highs k) (item l.costs k)) l.i)) × (length l.out ≡ length l.initial.out)
-
-abbrev pub decreases-loop-i : goal.decreases-loop-i
-decreases-loop-i l = l.links - l.i
+invariant-loop-i l = l.out ≡ sets l.initial.out (need_start l.probes) (joined (λ k. triple_line (item l.lows k) (item l.highs k) (item l.costs k)) l.i)

@@ -1,7 +1,5 @@
--- Invariant: the lines of the probes before v are stored. Measure: the probes that are left.
-use Prim.Native.Nat.{◌-◌, ◌≤◌}
+-- Invariant: the lines of the probes before v are stored.
 use mathlib.Core.Path.{◌≡◌}
-use lib.ListN.{length}
 use lib.Seq.{sets}
 use Rattle.range.specs.Lists.{joined}
 use Rattle.table.specs.Table.{item}
@@ -9,7 +7,4 @@ use Rattle.table.specs.Text.{need_line, need_start}
 use Rattle.table_write.proofs.text.put_needs.Given as goal
 
 abbrev pub invariant-loop-v : goal.invariant-loop-v
-invariant-loop-v l = (l.v ≤ l.probes) × (l.out ≡ sets l.initial.out (need_start 0) (joined (λ u. need_line (item l.needs u)) l.v)) × (length l.out ≡ length l.initial.out)
-
-abbrev pub decreases-loop-v : goal.decreases-loop-v
-decreases-loop-v l = l.probes - l.v
+invariant-loop-v l = l.out ≡ sets l.initial.out (need_start 0) (joined (λ u. need_line (item l.needs u)) l.v)
