@@ -3,18 +3,9 @@ use Prim.Native.Nat.{ℕ, ◌+◌, ◌-◌, ◌≤◌, ◌<◌}
 use mathlib.Core.Path.{◌≡◌, sym, ◌∙◌, ap}
 use mathlib.Core.Bool.{Bool, true, false}
 use native.Mathlib.Omega.{arith}
-use native.Mathlib.Decide.{dec_lt}
 use Rattle.range.proofs.Choice.{lowest_is, is_lowest}
 use Rattle.table.specs.Table.{Table, touches}
 use Rattle.table_links.specs.Own.{next_own}
-
--- none up to i, and not i
-pub one_more_lem : (p : ℕ → Bool) (i j : ℕ) → j < i + 1 → (j < i → p j ≡ false) → p i ≡ false → p j ≡ false
-one_more_lem p i j l h e = go (dec_lt j i)
-  where
-    go : Dec (j < i) → p j ≡ false
-    go (yes k) = h k
-    go (no k) = ap p (let q : j ≡ i = omega arith in q) ∙ e
 
 module _ (t : Table) (v from : ℕ) (l : from ≤ t.links) where
   abbrev shifted : ℕ → Bool

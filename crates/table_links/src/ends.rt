@@ -29,12 +29,10 @@ pub fn next_own(links: usize, lows: &[u16], highs: &[u16], probe: usize, from: u
     requires { (links ≤ length lows.now) × (links ≤ length highs.now) × (from ≤ links) }
     ensures { result ≡ next_own (of_slices 0 0 links [] lows.now highs.now []) probe from }
 {
-    let mut i = from;
-    while i < links {
+    for i in from..links {
         if touches(lows, highs, probe, i) {
             return i;
         }
-        i += 1;
     }
     links
 }

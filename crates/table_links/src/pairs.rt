@@ -49,6 +49,7 @@ fn first_from(links: usize, lows: &[u16], highs: &[u16], low: usize, high: usize
 {
     let mut start = 0;
     let mut end = links;
+    // Stays a while: it halves, and `partition_point` would need the two ends of a link in one slice.
     while start < end {
         let middle = start + (end - start) / 2;
         if is_earlier(lows, highs, low, high, middle) {

@@ -10,14 +10,10 @@ fn degree(links: usize, lows: &[u16], highs: &[u16], probe: usize) -> usize
     ensures { (result ≡ degree (of_slices 0 0 links [] lows.now highs.now []) probe) × (result ≤ links) }
 {
     let mut n = 0;
-    let mut i = 0;
-    while i < links {
-        let k = i;
-        i += 1;
-        if !touches(lows, highs, probe, k) {
-            continue;
+    for i in 0..links {
+        if touches(lows, highs, probe, i) {
+            n += 1;
         }
-        n += 1;
     }
     n
 }

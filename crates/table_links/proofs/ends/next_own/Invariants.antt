@@ -1,5 +1,5 @@
--- Invariant: no link from the given place up to i is the probe's. Measure: the links that are left.
-use Prim.Native.Nat.{ℕ, ◌-◌, ◌≤◌, ◌<◌}
+-- Invariant: no link from the given place up to i is the probe's.
+use Prim.Native.Nat.{ℕ, ◌≤◌, ◌<◌}
 use mathlib.Core.Path.{◌≡◌}
 use mathlib.Core.Bool.{false}
 use mathlib.Core.List.{[]}
@@ -7,7 +7,4 @@ use Rattle.table.specs.Table.{of_slices, touches}
 use Rattle.table_links.proofs.ends.next_own.Given as goal
 
 abbrev pub invariant-loop-i : goal.invariant-loop-i
-invariant-loop-i l = (l.i ≤ l.links) × (l.from ≤ l.i) × ((j : ℕ) → l.from ≤ j → j < l.i → touches (of_slices 0 0 l.links [] l.lows l.highs []) l.probe j ≡ false)
-
-abbrev pub decreases-loop-i : goal.decreases-loop-i
-decreases-loop-i l = l.links - l.i
+invariant-loop-i l = (j : ℕ) → l.from ≤ j → j < l.i → touches (of_slices 0 0 l.links [] l.lows l.highs []) l.probe j ≡ false

@@ -1,5 +1,5 @@
--- Invariant: n is the number of the probe's links before i. Measure: the links that are left.
-use Prim.Native.Nat.{ℕ, ◌-◌, ◌≤◌}
+-- Invariant: n is the number of the probe's links before i.
+use Prim.Native.Nat.{ℕ, ◌≤◌}
 use mathlib.Core.Path.{◌≡◌}
 use mathlib.Core.List.{List, []}
 use mathlib.Core.Bool.{Bool}
@@ -11,7 +11,4 @@ abbrev pub own : List ℕ → List ℕ → ℕ → ℕ → Bool
 own lows highs = touches (of_slices 0 0 0 [] lows highs [])
 
 abbrev pub invariant-loop-i : goal.invariant-loop-i
-invariant-loop-i l = (l.i ≤ l.links) × (l.n ≡ count l.i (own l.lows l.highs l.probe)) × (l.n ≤ l.i)
-
-abbrev pub decreases-loop-i : goal.decreases-loop-i
-decreases-loop-i l = l.links - l.i
+invariant-loop-i l = (l.n ≡ count l.i (own l.lows l.highs l.probe)) × (l.n ≤ l.i)
