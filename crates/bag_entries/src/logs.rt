@@ -18,11 +18,8 @@ pub fn append_all(log: &mut [wake_log::Entry], used: usize, all: Entries)
     requires { (all.count ≤ 64) × (all.count ≤ length log.old - used) }
     ensures { log.new ≡ sets log.old used (take all.count all.entries) }
 {
-    let count = all.count;
-    let mut k = 0;
-    while k < count {
+    for k in 0..all.count {
         log[used + k] = entry_in(all, k);
-        k += 1;
     }
 }
 
@@ -30,10 +27,7 @@ pub fn store_all(log: &mut [u64], used: usize, all: Entries)
     requires { (all.count ≤ 64) × (all.count ≤ length log.old - used) }
     ensures { log.new ≡ sets log.old used (map packed_entry (take all.count all.entries)) }
 {
-    let count = all.count;
-    let mut k = 0;
-    while k < count {
+    for k in 0..all.count {
         log[used + k] = packed_answers::packed_entry(entry_in(all, k));
-        k += 1;
     }
 }
