@@ -23,9 +23,7 @@ fn add_links(
         → (plan.new ≡ stored (λ j. plan_byte (added t j)) links plan.old)
         × ((v : ℕ) → v < probes → get_or counts.new v 0 ≡ links_at t (added t) v) }
 {
-    let mut k = links;
-    while 0 < k {
-        k -= 1;
+    for k in (0..links).rev() {
         let i = table::numbers::wide(order[k]);
         super::links::add_link(
             plan,
@@ -56,8 +54,7 @@ fn remove_links(
         → ((v : ℕ) → v < probes → get_or counts.old v 0 ≡ links_at t (added t) v)
         → plan.new ≡ stored (λ j. plan_byte (slse t j)) links plan.old }
 {
-    let mut k = 0;
-    while k < links {
+    for k in 0..links {
         let i = table::numbers::wide(order[k]);
         super::links::remove_link(
             plan,
@@ -67,7 +64,6 @@ fn remove_links(
             table::numbers::wide(lows[i]),
             table::numbers::wide(highs[i]),
         );
-        k += 1;
     }
 }
 
@@ -75,11 +71,7 @@ fn clear(plan: &mut [u8], links: usize)
     requires { links ≤ length plan.old }
     ensures { plan.new ≡ stored (λ j. 0) links plan.old }
 {
-    let mut j = 0;
-    while j < links {
-        plan[j] = 0;
-        j += 1;
-    }
+    plan[..links].fill(0);
 }
 
 // The plan of every legal table of these links, whatever its probe count and costs, if this is their order and `counts` has an entry for each probe.

@@ -1,6 +1,5 @@
-use borrow.Author.Rules.{rules}
 use Prim.Native.Nat.{◌+◌, ◌-◌, ◌≤◌, ◌<◌}
-use mathlib.Core.Path.{◌≡◌, refl, ◌∙◌}
+use mathlib.Core.Path.{◌≡◌}
 use native.Mathlib.Omega.{arith}
 use lib.ListN.{length}
 use Rattle.table.specs.Table.{item, of_slices, dearer}
@@ -14,63 +13,7 @@ pub loop-k-init : goal.loop-k-init
 loop-k-init c =
     let a = c.args in
     let z : a.links - a.links ≡ 0 = omega arith in
-    (search rules, λ probes costs wide is. rw z (up_start probes a.links a.needs.now a.lows.now a.highs.now costs a.plan.now a.counts.now c.requires.1 c.requires.2 (λ v l. c.requires.3 v (omega (arith, wide, l)))), refl, refl, λ v l. (let e = c.requires.3 v l in omega arith))
-
-pub offset_bounds-order-k : goal.offset_bounds-order-k
-offset_bounds-order-k c =
-    let fits = c.requires.0 in
-    omega (arith, fits.in_order)
-
-pub bounds-order-k : goal.bounds-order-k
-bounds-order-k c =
-    let fits = c.requires.0 in
-    omega (arith, fits.in_order)
-
-pub offset_bounds-lows-i : goal.offset_bounds-lows-i
-offset_bounds-lows-i c =
-    let fits = c.requires.0 in
-    let o = fits.below (c.loop-k.k - 1) (omega arith) in
-    let e = c.wide-i.ensures in
-    omega (arith, fits.in_lows)
-
-pub bounds-lows-i : goal.bounds-lows-i
-bounds-lows-i c =
-    let fits = c.requires.0 in
-    let o = fits.below (c.loop-k.k - 1) (omega arith) in
-    let e = c.wide-i.ensures in
-    omega (arith, fits.in_lows)
-
-pub offset_bounds-highs-i : goal.offset_bounds-highs-i
-offset_bounds-highs-i c =
-    let fits = c.requires.0 in
-    let o = fits.below (c.loop-k.k - 1) (omega arith) in
-    let e = c.wide-i.ensures in
-    omega (arith, fits.in_highs)
-
-pub bounds-highs-i : goal.bounds-highs-i
-bounds-highs-i c =
-    let fits = c.requires.0 in
-    let o = fits.below (c.loop-k.k - 1) (omega arith) in
-    let e = c.wide-i.ensures in
-    omega (arith, fits.in_highs)
-
-pub add_link-requires : goal.add_link-requires
-add_link-requires c =
-    let a = c.args in
-    let fits = c.requires.0 in
-    let o = fits.below (c.loop-k.k - 1) (omega arith) in
-    let e = c.wide-i.ensures in
-    let i : c.wide-i.result < a.links = omega arith in
-    let g : Ends (length a.counts.now) c.wide.result c.wide-in-loop-k.result = rw (c.wide.ensures, c.wide-in-loop-k.ensures) (fits.counted c.wide-i.result i) in
-    let n = fits.needed c.wide-i.result i in
-    let r = g.rises in
-    let b = g.below in
-    let w = c.wide-in-loop-k.ensures in
-    let same = c.loop-k.invariant.3 in
-    let low = c.loop-k.invariant.4 c.wide.result (omega (arith, r, b)) in
-    let high = c.loop-k.invariant.4 c.wide-in-loop-k.result b in
-    let few = fits.few in
-    (omega arith, r, omega arith, omega arith, omega arith, omega arith)
+    (λ probes costs wide is. rw z (up_start probes a.links a.needs.now a.lows.now a.highs.now costs a.plan.now a.counts.now c.requires.1 c.requires.2 (λ v l. c.requires.3 v (omega (arith, wide, l)))), λ v l. (let e = c.requires.3 v l in omega arith))
 
 pub loop-k-preserved : goal.loop-k-preserved
 loop-k-preserved c =
@@ -80,7 +23,7 @@ loop-k-preserved c =
     let e = c.wide-i.ensures in
     let st = c.add_link.ensures in
     let some : 0 < c.loop-k.k = c.loop-k-test.true in
-    let most : c.loop-k.k ≤ a.links = c.loop-k.invariant.0 in
+    let most : c.loop-k.k ≤ a.links = omega arith in
     let below = fits.below (c.loop-k.k - 1) (omega arith) in
     let i : link < a.links = omega arith in
     let low = c.wide.ensures in
@@ -88,29 +31,21 @@ loop-k-preserved c =
     let plan_after = rw (low, high) at st.0 in
     let counts-after = rw (low, high) at st.1 in
     let n : a.links - c.loop-k.k + 1 ≡ a.links - (c.loop-k.k - 1) = omega arith in
-    let ends : Ends (length c.loop-k.counts) (item a.lows.now link) (item a.highs.now link) = rw c.loop-k.invariant.3 (fits.counted link i) in (
-      omega arith,
+    let same : length c.loop-k.counts ≡ length a.counts.now = omega arith in
+    let ends : Ends (length c.loop-k.counts) (item a.lows.now link) (item a.highs.now link) = rw same (fits.counted link i) in (
       λ probes costs wide is.
           let t = of_slices 0 probes a.links a.needs.now a.lows.now a.highs.now costs in
           let w = whole probes a.links a.needs.now a.lows.now a.highs.now costs is.0 in
-          let long : probes ≤ length c.loop-k.counts = omega (arith, wide, c.loop-k.invariant.3) in
+          let long : probes ≤ length c.loop-k.counts = omega (arith, wide, same) in
           let p : place a.links (dearer t) link ≡ c.loop-k.k - 1 = rw e (is.1 (c.loop-k.k - 1) (omega arith)).1 in
           let at = up_place probes a.links a.needs.now a.lows.now a.highs.now costs is.0 c.loop-k.k link some most i p in
-          rw (← n) (up_step probes a.links a.needs.now a.lows.now a.highs.now costs w.order (a.links - c.loop-k.k) link a.plan.now c.loop-k.plan c.loop-k.counts i (w.ends link i) long c.requires.1 _ _ (c.loop-k.invariant.1 probes costs wide is) at plan_after counts-after),
-      c.add_link.auto.plan ∙ c.loop-k.invariant.2,
-      c.add_link.auto.counts ∙ c.loop-k.invariant.3,
-      λ v b. rw (← n) (one_more_most (either_below c.loop-k.counts a.needs.now (item a.lows.now link) (item a.highs.now link)) c.loop-k.counts _ (item a.lows.now link) (item a.highs.now link) v (a.links - c.loop-k.k) ends counts-after (c.loop-k.invariant.4 v b)),
+          rw (← n) (up_step probes a.links a.needs.now a.lows.now a.highs.now costs w.order (a.links - c.loop-k.k) link a.plan.now c.loop-k.plan c.loop-k.counts i (w.ends link i) long c.requires.1 _ _ (c.loop-k.invariant.0 probes costs wide is) at plan_after counts-after),
+      λ v b. rw (← n) (one_more_most (either_below c.loop-k.counts a.needs.now (item a.lows.now link) (item a.highs.now link)) c.loop-k.counts _ (item a.lows.now link) (item a.highs.now link) v (a.links - c.loop-k.k) ends counts-after (c.loop-k.invariant.1 v b)),
     )
-
-pub shape_of-plan : goal.shape_of-plan
-shape_of-plan c = c.loop-k.invariant.2
-
-pub shape_of-counts : goal.shape_of-counts
-shape_of-counts c = c.loop-k.invariant.3
 
 pub returns : goal.returns
 returns c =
     let a = c.args in
     let l = c.loop-k in
     let z : a.links - l.k ≡ a.links = omega arith in
-    λ probes costs wide is. up_end probes a.links a.needs.now a.lows.now a.highs.now costs a.plan.now l.plan l.counts (rw z at (l.invariant.1 probes costs wide is))
+    λ probes costs wide is. up_end probes a.links a.needs.now a.lows.now a.highs.now costs a.plan.now l.plan l.counts (rw z at (l.invariant.0 probes costs wide is))

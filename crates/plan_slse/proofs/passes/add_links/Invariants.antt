@@ -1,6 +1,5 @@
--- Invariant: for every legal table of these links in this order, links - k turns of the way up are done; a probe counts at most one link for each. Measure: k, the turns left.
+-- Invariant: for every legal table of these links in this order, links - k turns of the way up are done; a probe counts at most one link for each.
 use Prim.Native.Nat.{ℕ, ◌-◌, ◌≤◌, ◌<◌}
-use mathlib.Core.Path.{◌≡◌}
 use mathlib.Core.List.{List}
 use lib.ListN.{length}
 use Rattle.table.specs.Table.{item, of_slices}
@@ -10,8 +9,5 @@ use Rattle.plan_slse.proofs.passes.add_links.Given as goal
 
 abbrev pub invariant-loop-k : goal.invariant-loop-k
 invariant-loop-k l =
-    (l.k ≤ l.links) × ((probes : ℕ) (costs : List ℕ) → probes ≤ length l.initial.counts → InOrder (of_slices 0 probes l.links l.needs l.lows l.highs costs) l.order → Up probes l.links l.needs l.lows l.highs costs (l.links - l.k) l.initial.plan l.plan l.counts)
-    × (length l.plan ≡ length l.initial.plan) × (length l.counts ≡ length l.initial.counts) × ((v : ℕ) → v < length l.initial.counts → item l.counts v ≤ l.links - l.k)
-
-abbrev pub decreases-loop-k : goal.decreases-loop-k
-decreases-loop-k l = l.k
+    ((probes : ℕ) (costs : List ℕ) → probes ≤ length l.initial.counts → InOrder (of_slices 0 probes l.links l.needs l.lows l.highs costs) l.order → Up probes l.links l.needs l.lows l.highs costs (l.links - l.k) l.initial.plan l.plan l.counts)
+    × ((v : ℕ) → v < length l.initial.counts → item l.counts v ≤ l.links - l.k)

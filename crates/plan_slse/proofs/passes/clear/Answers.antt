@@ -1,24 +1,17 @@
-use borrow.Author.Rules.{rules}
-use Prim.Native.Nat.{ℕ}
-use mathlib.Core.Path.{◌≡◌, refl, sym}
+use Prim.Native.Nat.{ℕ, ◌≤◌}
+use mathlib.Core.Path.{◌≡◌}
+use mathlib.Core.List.{List, ◌++◌}
+use Rattle.std.proofs.lemmas.Grind.{common_steps}
 use native.Mathlib.Omega.{arith}
-use lib.ListN.{length-set}
+use lib.ListN.{length, replicate, drop}
+use lib.Seq.{length-take-le}
 use Rattle.range.specs.Lists.{stored}
-use Rattle.range.proofs.Lists.{stored_next}
+use Rattle.range.proofs.Lists.{stored_ext}
 use Rattle.plan_slse.proofs.passes.clear.Goals as goal
 
-pub loop-j-init : goal.loop-j-init
-unfolding stored
-loop-j-init c = (search rules, refl, refl)
-
-pub loop-j-preserved : goal.loop-j-preserved
-loop-j-preserved c =
-    (search rules, rw c.loop-j.invariant.1 (sym (stored_next (λ (i : ℕ). 0) c.loop-j.j c.args.plan.now)), simp length-set c.loop-j.invariant.2)
-
-pub shape_of-plan : goal.shape_of-plan
-shape_of-plan c = c.loop-j.invariant.2
+cleared : (plan : List ℕ) (n : ℕ) → n ≤ length plan → replicate n 0 ++ drop n plan ≡ stored (λ j. 0) n plan
+cleared plan n fits =
+    stored_ext (λ j. 0) n plan (replicate n 0 ++ drop n plan) fits (grind (arith, common_steps)) (λ j l. grind (arith, common_steps)) (λ j l. grind (arith, common_steps))
 
 pub returns : goal.returns
-returns c =
-    let e : c.loop-j.j ≡ c.args.links = omega arith in
-    rw (← e) c.loop-j.invariant.1
+returns c = rw (c.fill.ensures.after (λ y e. e), length-take-le c.args.links c.args.plan.now c.requires) (cleared _ _ c.requires)

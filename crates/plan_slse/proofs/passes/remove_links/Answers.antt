@@ -1,10 +1,8 @@
-use borrow.Author.Rules.{rules}
 use Prim.Native.Nat.{◌≤◌, ◌<◌}
-use mathlib.Core.Path.{◌≡◌, refl, ◌∙◌}
+use mathlib.Core.Path.{◌≡◌}
 use native.Mathlib.Omega.{arith}
 use lib.ListN.{length}
 use Rattle.table.specs.Table.{of_slices, dearer}
-use Rattle.table.specs.Legal.{Ends}
 use Rattle.plan_theory.specs.Pass.{place}
 use Rattle.plan_slse.proofs.Turns.{down_start, down_step, down_end, whole}
 use Rattle.plan_slse.proofs.passes.remove_links.Goals as goal
@@ -12,60 +10,7 @@ use Rattle.plan_slse.proofs.passes.remove_links.Goals as goal
 pub loop-k-init : goal.loop-k-init
 loop-k-init c =
     let a = c.args in
-    (search rules, λ probes costs wide is own all. down_start probes a.links a.needs.now a.lows.now a.highs.now costs a.plan.now a.counts.now c.requires.1 own all, refl, refl)
-
-pub offset_bounds-order-k : goal.offset_bounds-order-k
-offset_bounds-order-k c =
-    let fits = c.requires.0 in
-    omega (arith, fits.in_order)
-
-pub bounds-order-k : goal.bounds-order-k
-bounds-order-k c =
-    let fits = c.requires.0 in
-    omega (arith, fits.in_order)
-
-pub offset_bounds-lows-i : goal.offset_bounds-lows-i
-offset_bounds-lows-i c =
-    let fits = c.requires.0 in
-    let o = fits.below c.loop-k.k (omega arith) in
-    let e = c.wide-i.ensures in
-    omega (arith, fits.in_lows)
-
-pub bounds-lows-i : goal.bounds-lows-i
-bounds-lows-i c =
-    let fits = c.requires.0 in
-    let o = fits.below c.loop-k.k (omega arith) in
-    let e = c.wide-i.ensures in
-    omega (arith, fits.in_lows)
-
-pub offset_bounds-highs-i : goal.offset_bounds-highs-i
-offset_bounds-highs-i c =
-    let fits = c.requires.0 in
-    let o = fits.below c.loop-k.k (omega arith) in
-    let e = c.wide-i.ensures in
-    omega (arith, fits.in_highs)
-
-pub bounds-highs-i : goal.bounds-highs-i
-bounds-highs-i c =
-    let fits = c.requires.0 in
-    let o = fits.below c.loop-k.k (omega arith) in
-    let e = c.wide-i.ensures in
-    omega (arith, fits.in_highs)
-
-pub remove_link-requires : goal.remove_link-requires
-remove_link-requires c =
-    let a = c.args in
-    let fits = c.requires.0 in
-    let o = fits.below c.loop-k.k (omega arith) in
-    let e = c.wide-i.ensures in
-    let i : c.wide-i.result < a.links = omega arith in
-    let g : Ends (length a.counts.now) c.wide.result c.wide-in-loop-k.result = rw (c.wide.ensures, c.wide-in-loop-k.ensures) (fits.counted c.wide-i.result i) in
-    let n = fits.needed c.wide-i.result i in
-    let r = g.rises in
-    let b = g.below in
-    let w = c.wide-in-loop-k.ensures in
-    let same = c.loop-k.invariant.3 in
-    (omega arith, r, omega arith, omega arith)
+    λ probes costs wide is own all. down_start probes a.links a.needs.now a.lows.now a.highs.now costs a.plan.now a.counts.now c.requires.1 own all
 
 pub loop-k-preserved : goal.loop-k-preserved
 loop-k-preserved c =
@@ -80,27 +25,17 @@ loop-k-preserved c =
     let low = c.wide.ensures in
     let high = c.wide-in-loop-k.ensures in
     let plan_after = rw (low, high) at st.0 in
-    let counts-after = rw (low, high) at st.1 in (
-      omega arith,
-      λ probes costs wide is own all.
-          let t = of_slices 0 probes a.links a.needs.now a.lows.now a.highs.now costs in
-          let w = whole probes a.links a.needs.now a.lows.now a.highs.now costs is.0 in
-          let long : probes ≤ length c.loop-k.counts = omega (arith, wide, c.loop-k.invariant.3) in
-          let p : place a.links (dearer t) link ≡ c.loop-k.k = rw e (is.1 c.loop-k.k some).1 in
-          down_step probes a.links a.needs.now a.lows.now a.highs.now costs w.order c.loop-k.k link a.plan.now c.loop-k.plan c.loop-k.counts i (w.ends link i) long c.requires.1 _ _ (c.loop-k.invariant.1 probes costs wide is own all) p plan_after counts-after,
-      c.remove_link.auto.plan ∙ c.loop-k.invariant.2,
-      c.remove_link.auto.counts ∙ c.loop-k.invariant.3,
-    )
-
-pub shape_of-plan : goal.shape_of-plan
-shape_of-plan c = c.loop-k.invariant.2
-
-pub shape_of-counts : goal.shape_of-counts
-shape_of-counts c = c.loop-k.invariant.3
+    let counts-after = rw (low, high) at st.1 in
+    λ probes costs wide is own all.
+    let t = of_slices 0 probes a.links a.needs.now a.lows.now a.highs.now costs in
+    let w = whole probes a.links a.needs.now a.lows.now a.highs.now costs is.0 in
+    let long : probes ≤ length c.loop-k.counts = omega (arith, wide) in
+    let p : place a.links (dearer t) link ≡ c.loop-k.k = rw e (is.1 c.loop-k.k some).1 in
+    down_step probes a.links a.needs.now a.lows.now a.highs.now costs w.order c.loop-k.k link a.plan.now c.loop-k.plan c.loop-k.counts i (w.ends link i) long c.requires.1 _ _ (c.loop-k.invariant probes costs wide is own all) p plan_after counts-after
 
 pub returns : goal.returns
 returns c =
     let a = c.args in
     let l = c.loop-k in
     let z : l.k ≡ a.links = omega arith in
-    λ probes costs wide is own all. down_end probes a.links a.needs.now a.lows.now a.highs.now costs a.plan.now l.plan l.counts (rw z at (l.invariant.1 probes costs wide is own all))
+    λ probes costs wide is own all. down_end probes a.links a.needs.now a.lows.now a.highs.now costs a.plan.now l.plan l.counts (rw z at (l.invariant probes costs wide is own all))

@@ -1,5 +1,5 @@
--- Invariant: for every legal table of these links in this order, from what it adds, k turns of the way down are done. Measure: the turns left.
-use Prim.Native.Nat.{ℕ, ◌-◌, ◌≤◌, ◌<◌}
+-- Invariant: for every legal table of these links in this order, from what it adds, k turns of the way down are done.
+use Prim.Native.Nat.{ℕ, ◌≤◌, ◌<◌}
 use mathlib.Core.Path.{◌≡◌}
 use mathlib.Core.List.{List}
 use lib.ListN.{length, get_or}
@@ -11,12 +11,7 @@ use Rattle.plan_slse.proofs.passes.remove_links.Given as goal
 
 abbrev pub invariant-loop-k : goal.invariant-loop-k
 invariant-loop-k l =
-    (l.k ≤ l.links)
-    × ((probes : ℕ) (costs : List ℕ) → probes ≤ length l.initial.counts → InOrder (of_slices 0 probes l.links l.needs l.lows l.highs costs) l.order
+    (probes : ℕ) (costs : List ℕ) → probes ≤ length l.initial.counts → InOrder (of_slices 0 probes l.links l.needs l.lows l.highs costs) l.order
     → ((j : ℕ) → j < l.links → get_or l.initial.plan j 0 ≡ plan_byte (added (of_slices 0 probes l.links l.needs l.lows l.highs costs) j))
     → ((v : ℕ) → v < probes → get_or l.initial.counts v 0 ≡ links_at (of_slices 0 probes l.links l.needs l.lows l.highs costs) (added (of_slices 0 probes l.links l.needs l.lows l.highs costs)) v)
-    → Down probes l.links l.needs l.lows l.highs costs l.k l.initial.plan l.plan l.counts)
-    × (length l.plan ≡ length l.initial.plan) × (length l.counts ≡ length l.initial.counts)
-
-abbrev pub decreases-loop-k : goal.decreases-loop-k
-decreases-loop-k l = l.links - l.k
+    → Down probes l.links l.needs l.lows l.highs costs l.k l.initial.plan l.plan l.counts
