@@ -32,13 +32,10 @@ fn store_needs(text: &[u8], probes: usize, needs: &mut [u16])
     requires { (probes ≤ length needs.old) × (probes ≤ 256) × ((v : ℕ) → v < probes → line_fault text.now (need_start v) 4 ≡ 0) }
     ensures { needs.new ≡ stored (of_text text.now).need probes needs.old }
 {
-    let mut at = need_start(0);
-    let mut v = 0;
-    while v < probes {
-        let line = need_line(text, at);
+    let start = need_start(0);
+    for v in 0..probes {
+        let line = need_line(text, start + NEED_BYTES * v);
         needs[v] = line.number as u16;
-        at += NEED_BYTES;
-        v += 1;
     }
 }
 
@@ -57,15 +54,12 @@ fn store_links(
         (lows.new ≡ stored t.low links lows.old) × (highs.new ≡ stored t.high links highs.old)
         × (costs.new ≡ stored t.cost links costs.old) }
 {
-    let mut at = link_start(probes, 0);
-    let mut i = 0;
-    while i < links {
-        let line = triple_line(text, at);
+    let start = link_start(probes, 0);
+    for i in 0..links {
+        let line = triple_line(text, start + LINK_BYTES * i);
         lows[i] = line.first as u16;
         highs[i] = line.second as u16;
         costs[i] = line.third as u16;
-        at += LINK_BYTES;
-        i += 1;
     }
 }
 

@@ -1,7 +1,5 @@
-use borrow.Author.Rules.{rules}
-use mathlib.Core.Path.{◌≡◌, refl, sym}
+use mathlib.Core.Path.{refl, sym}
 use native.Mathlib.Omega.{arith}
-use lib.ListN.{length-set}
 use Rattle.range.specs.Lists.{stored}
 use Rattle.range.proofs.Lists.{stored_next}
 use Rattle.table.specs.Text.{of_text}
@@ -10,51 +8,32 @@ use Rattle.table_read.proofs.limited.store_links.Goals as goal
 
 pub loop-i-init : goal.loop-i-init
 unfolding stored
-loop-i-init c = (search rules, c.link_start-at.ensures, refl, refl, refl, refl, refl, refl)
+loop-i-init c = (refl, refl, refl)
 
 pub overflow_cast-lows : goal.overflow_cast-lows
 overflow_cast-lows c =
     let a = c.args in
-    let r = link_read a.text.now a.probes c.loop-i.i c.loop-i.at _ _ _ _ c.requires.5 c.loop-i.invariant.1 (c.requires.6 c.loop-i.i c.loop-i-test.true) c.triple_line-line.ensures in
+    let r = link_read a.text.now a.probes c.loop-i.i _ _ _ _ _ c.requires.5 (omega arith) (c.requires.6 c.loop-i.i c.loop-i-test.true) c.triple_line-line.ensures in
     omega (arith, r.fits.0)
 
 pub overflow_cast-highs : goal.overflow_cast-highs
 overflow_cast-highs c =
     let a = c.args in
-    let r = link_read a.text.now a.probes c.loop-i.i c.loop-i.at _ _ _ _ c.requires.5 c.loop-i.invariant.1 (c.requires.6 c.loop-i.i c.loop-i-test.true) c.triple_line-line.ensures in
+    let r = link_read a.text.now a.probes c.loop-i.i _ _ _ _ _ c.requires.5 (omega arith) (c.requires.6 c.loop-i.i c.loop-i-test.true) c.triple_line-line.ensures in
     omega (arith, r.fits.1)
 
 pub overflow_cast-costs : goal.overflow_cast-costs
 overflow_cast-costs c =
     let a = c.args in
-    let r = link_read a.text.now a.probes c.loop-i.i c.loop-i.at _ _ _ _ c.requires.5 c.loop-i.invariant.1 (c.requires.6 c.loop-i.i c.loop-i-test.true) c.triple_line-line.ensures in
+    let r = link_read a.text.now a.probes c.loop-i.i _ _ _ _ _ c.requires.5 (omega arith) (c.requires.6 c.loop-i.i c.loop-i-test.true) c.triple_line-line.ensures in
     omega (arith, r.fits.2)
 
 pub loop-i-preserved : goal.loop-i-preserved
 loop-i-preserved c =
     let a = c.args in
-    let r = link_read a.text.now a.probes c.loop-i.i c.loop-i.at _ _ _ _ c.requires.5 c.loop-i.invariant.1 (c.requires.6 c.loop-i.i c.loop-i-test.true) c.triple_line-line.ensures in
+    let r = link_read a.text.now a.probes c.loop-i.i _ _ _ _ _ c.requires.5 (omega arith) (c.requires.6 c.loop-i.i c.loop-i-test.true) c.triple_line-line.ensures in
     let t = of_text a.text.now in (
-      search rules,
-      omega (arith, c.loop-i.invariant.1),
-      rw (c.loop-i.invariant.2, r.low) (sym (stored_next t.low c.loop-i.i a.lows.now)),
-      rw (c.loop-i.invariant.3, r.high) (sym (stored_next t.high c.loop-i.i a.highs.now)),
-      rw (c.loop-i.invariant.4, r.cost) (sym (stored_next t.cost c.loop-i.i a.costs.now)),
-      simp length-set c.loop-i.invariant.5,
-      simp length-set c.loop-i.invariant.6,
-      simp length-set c.loop-i.invariant.7,
+      rw (c.loop-i.invariant.0, r.low) (sym (stored_next t.low c.loop-i.i a.lows.now)),
+      rw (c.loop-i.invariant.1, r.high) (sym (stored_next t.high c.loop-i.i a.highs.now)),
+      rw (c.loop-i.invariant.2, r.cost) (sym (stored_next t.cost c.loop-i.i a.costs.now)),
     )
-
-pub shape_of-lows : goal.shape_of-lows
-shape_of-lows c = c.loop-i.invariant.5
-
-pub shape_of-highs : goal.shape_of-highs
-shape_of-highs c = c.loop-i.invariant.6
-
-pub shape_of-costs : goal.shape_of-costs
-shape_of-costs c = c.loop-i.invariant.7
-
-pub returns : goal.returns
-returns c =
-    let e : c.loop-i.i ≡ c.args.links = omega arith in
-    rw (← e) (c.loop-i.invariant.2, c.loop-i.invariant.3, c.loop-i.invariant.4)
