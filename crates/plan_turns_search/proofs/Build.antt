@@ -85,13 +85,6 @@ abbrev pub key_bound : ℕ → (ℕ → ℕ) → List ℕ → ℕ → ℕ
 key_bound links key order k = cond (ltb k links) (key (item order k) + 1) 0
 
 module _ (probes links : ℕ) (lows highs order : List ℕ) (key source at : ℕ → ℕ) (dirs : Directions links lows highs key source at) (f : Falls links key order) where
-  pub chain_start : (head next : ℕ → ℕ) → ((v : ℕ) → v < probes → 2 * links ≤ head v) → ChainBelow probes (2 * links) source at head next (key_bound links key order links)
-  chain_start head next h =
-      rw (le-ltb links links (omega arith)) record {
-        firsts = λ v l. record { own = λ m. let a = h v l in absurd (omega arith); less = λ m. let a = h v l in absurd (omega arith); most = λ m g lg own a. absurd (omega arith); none = λ m g lg own a. omega arith };
-        follows = λ d l a. absurd (omega arith);
-      }
-
   pub chain_done : (head next : ℕ → ℕ) → ChainBelow probes (2 * links) source at head next (key_bound links key order 0) → ((i : ℕ) → i < links → key i < 4294967296) → ChainBelow probes (2 * links) source at head next 4294967296
   chain_done head next c small =
       record {

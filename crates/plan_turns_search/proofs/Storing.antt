@@ -1,17 +1,16 @@
 -- Entries of the site's slice and of the marks, where some are stored.
 use Prim.Native.Nat.{ℕ, ◌+◌, ◌*◌, ◌/◌, ◌%◌, ◌≤◌, ◌<◌}
-use mathlib.Core.Path.{◌≡◌, refl, sym, ◌∙◌, ap}
+use mathlib.Core.Path.{◌≡◌, refl, ◌∙◌, ap}
 use mathlib.Core.Bool.{cond}
 use mathlib.Core.List.{List}
 use native.Mathlib.Omega.{arith}
-use native.Mathlib.Decide.{dec_lt, ℕ_discrete}
 use lib.Dec.{ltb}
 use lib.ListN.{length, set, length-set}
 use lib.Seq.{get_or-set_same, get_or-set_other}
 use Rattle.range.specs.Lists.{stored}
 use Rattle.range.proofs.Lists.{stored_at}
 use Rattle.table.specs.Table.{item}
-use Rattle.plan_turns_search.specs.Record.{of_direction, target_of, mark, first_mark, LinkPut, LinksPut, SparesPut, SiteOfLinks}
+use Rattle.plan_turns_search.specs.Record.{of_direction, mark, first_mark, LinkPut, LinksPut, SparesPut, SiteOfLinks}
 use Rattle.plan_turns_search.proofs.MarkLaws.{mark_other}
 use Rattle.plan_turns_search.proofs.Build.{Pushed}
 
@@ -46,39 +45,6 @@ module _ (x x₁ x₂ x₃ x₄ : List ℕ) (i low high cost : ℕ) (room : 8 * 
             ∙ stays x₁ x₂ (2 * i + 1) 0 low e₂ d k (omega arith) lk (λ a b. let h = n (omega arith) in omega arith) ∙ stays x x₁ (2 * i) 0 high e₁ d k (omega arith) lk (λ a b. let h = n (omega arith) in omega arith);
       }
 
-pub links_start : (lows highs costs x : List ℕ) → LinksPut 0 lows highs costs x x
-links_start lows highs costs x =
-    record { targets = λ i l. absurd (omega arith); costs_in = λ d l. absurd (omega arith); chains = λ d k lk m. refl }
-
--- one more link
-pub links_next : (i low high cost : ℕ) (lows highs costs x x₁ x₂ : List ℕ) → low ≡ item lows i → high ≡ item highs i → cost ≡ item costs i
-    → LinksPut i lows highs costs x x₁ → LinkPut i low high cost x₁ x₂ → LinksPut (i + 1) lows highs costs x x₂
-links_next i low high cost lows highs costs x x₁ x₂ el eh ec before put =
-    record {
-      targets = λ j l. target j l (dec_lt j i);
-      costs_in = λ d l. cost_of_lem d l (dec_lt d (2 * i)) (ℕ_discrete d (2 * i));
-      chains = λ d k lk m. put.others d k m (λ z. lk) ∙ before.chains d k lk m;
-    }
-  where
-    target : (j : ℕ) → j < i + 1 → Dec (j < i) → (target_of x₂ (2 * j) ≡ item highs j) × (target_of x₂ (2 * j + 1) ≡ item lows j)
-    target j l (yes m) = (
-      put.others (2 * j) 0 (omega arith) (λ z. absurd (omega arith)) ∙ (before.targets j m).0,
-      put.others (2 * j + 1) 0 (omega arith) (λ z. absurd (omega arith)) ∙ (before.targets j m).1,
-    )
-    target j l (no m) =
-        let e : j ≡ i = omega arith in
-        rw e (put.targets.0 ∙ eh, put.targets.1 ∙ el)
-
-    cost_of_lem : (d : ℕ) → d < 2 * (i + 1) → Dec (d < 2 * i) → Dec (d ≡ 2 * i) → of_direction x₂ d 1 ≡ item costs (d / 2)
-    cost_of_lem d l (yes m) n = put.others d 1 (omega arith) (λ z. absurd (omega arith)) ∙ before.costs_in d m
-    cost_of_lem d l (no m) (yes n) =
-        let h : d / 2 ≡ i = omega arith in
-        ap {B = ℕ} (λ (f : ℕ). of_direction x₂ f 1) n ∙ put.costs_in.0 ∙ ec ∙ ap (item costs) (sym h)
-    cost_of_lem d l (no m) (no n) =
-        let e : d ≡ 2 * i + 1 = omega (arith, n) in
-        let h : d / 2 ≡ i = omega arith in
-        ap {B = ℕ} (λ (f : ℕ). of_direction x₂ f 1) e ∙ put.costs_in.1 ∙ ec ∙ ap (item costs) (sym h)
-
 -- the two directions of a link, put at the heads of its ends' chains
 module _ (marks marks' x x' : List ℕ) (k i low high : ℕ) (lk : k < 4)
     (em : marks' ≡ set (set marks (4 * low + k) (2 * i)) (4 * high + k) (2 * i + 1))
@@ -102,22 +68,6 @@ module _ (marks marks' x x' : List ℕ) (k i low high : ℕ) (lk : k < 4)
   pub directions_stay : (d j : ℕ) → j < 4 → (j ≡ k → ⊥) → of_direction x' d j ≡ of_direction x d j
   directions_stay d j lj n =
       stays (set x (4 * (2 * i) + k + 2) (mark marks low k)) x' (2 * i + 1) k (mark marks high k) ex d j lk lj (λ a b. n b) ∙ stays x (set x (4 * (2 * i) + k + 2) (mark marks low k)) (2 * i) k (mark marks low k) refl d j lk lj (λ a b. n b)
-
-pub spares_start : (links : ℕ) (spares x : List ℕ) → SparesPut 0 links spares x x
-spares_start links spares x = record { spares_in = λ v l. absurd (omega arith); others = λ j l. refl }
-
--- one more spare
-pub spares_next : (v links : ℕ) (spares x x₁ x₂ : List ℕ) (y : ℕ) → 8 * links + v + 2 < length x₁ → y ≡ item spares v → x₂ ≡ set x₁ (8 * links + v + 2) y
-    → SparesPut v links spares x x₁ → SparesPut (v + 1) links spares x x₂
-spares_next v links spares x x₁ x₂ y room ey e before =
-    record { spares_in = λ w l. at w l (ℕ_discrete w v); others = λ j l. still j l ∙ before.others j l }
-  where
-    still : (j : ℕ) → j < 8 * links + 2 → item x₂ j ≡ item x₁ j
-    still j l = rw e (get_or-set_other x₁ (8 * links + v + 2) j y 0 (λ z. omega arith))
-
-    at : (w : ℕ) → w < v + 1 → Dec (w ≡ v) → item x₂ (8 * links + w + 2) ≡ item spares w
-    at w l (yes q) = rw (q, e) (get_or-set_same x₁ (8 * links + v + 2) y 0 room ∙ ey)
-    at w l (no n) = rw e (get_or-set_other x₁ (8 * links + v + 2) (8 * links + w + 2) y 0 (λ z. n (omega arith))) ∙ before.spares_in w (omega (arith, n))
 
 -- the links, the spares and then the counts
 module _ (probes links : ℕ) (lows highs costs spares x x₁ x₂ x₃ x₄ : List ℕ) (few : 8 * links + probes + 2 ≤ length x₂) (l₃ : length x₃ ≡ length x₂)

@@ -17,13 +17,12 @@ fn first_mark(j: usize) -> u16
 }
 
 // No offers, and no links where the searches start.
+#[tactic(auto, using(range::proofs::Lists::stored_next), unfolding(range::specs::Lists::stored))]
 fn start_marks(marks: &mut [u16])
     ensures { marks.new ≡ stored first_mark (length marks.old) marks.old }
 {
-    let mut j = 0;
-    while j < marks.len() {
+    for j in 0..marks.len() {
         marks[j] = first_mark(j);
-        j += 1;
     }
 }
 
@@ -59,23 +58,20 @@ fn chain_links(
         × ((v j : ℕ) → j < 4 → (j ≡ k → ⊥) → mark marks-after v j ≡ mark marks.old v j)
         × ((d j : ℕ) → j < 4 → (j ≡ k → ⊥) → of_direction after d j ≡ of_direction site.old d j) }
 {
-    let mut n = links;
-    while 0 < n {
-        n -= 1;
+    for n in (0..links).rev() {
         let i = entry(order, n);
         push(marks, site, k, i, entry(lows, i), entry(highs, i));
     }
 }
 
 // The first links of a slice in turned order.
+#[tactic(auto, using(range::proofs::Lists::stored_next), unfolding(range::specs::Lists::stored))]
 fn turn_round(to: &mut [u16], from: &[u16], links: usize)
     requires { (links ≤ length to.old) × (links ≤ length from.now) }
     ensures { to.new ≡ stored (λ k. item from.now (links - 1 - k)) links to.old }
 {
-    let mut k = 0;
-    while k < links {
+    for k in 0..links {
         to[k] = from[links - 1 - k];
-        k += 1;
     }
 }
 
@@ -94,10 +90,8 @@ fn put_links(site: &mut [u16], links: usize, lows: &[u16], highs: &[u16], costs:
     requires { (links ≤ 2048) × (links ≤ length lows.now) × (links ≤ length highs.now) × (links ≤ length costs.now) × (8 * links + 2 ≤ length site.old) }
     ensures { LinksPut links lows.now highs.now costs.now site.old site.new }
 {
-    let mut i = 0;
-    while i < links {
+    for i in 0..links {
         put_link(site, i, entry(lows, i), entry(highs, i), entry(costs, i));
-        i += 1;
     }
 }
 
@@ -106,10 +100,8 @@ fn put_spares(site: &mut [u16], probes: usize, links: usize, spares: &[u16])
     requires { (links ≤ 2048) × (probes ≤ 256) × (probes ≤ length spares.now) × (8 * links + probes + 2 ≤ length site.old) }
     ensures { SparesPut probes links spares.now site.old site.new }
 {
-    let mut v = 0;
-    while v < probes {
+    for v in 0..probes {
         store(site, 8 * links + v + 2, entry(spares, v));
-        v += 1;
     }
 }
 

@@ -20,6 +20,7 @@ pub fn next_offer(rec: &[u8], marks: &[u16], site: &[u16], u: usize) -> usize
     let dirs = 2 * entry(site, LINKS);
     let mut found = dirs;
     let mut e = of_probe(marks, u, OFFER_CURSOR);
+    // Stays a while: the step is the chain of the links of u.
     'search: while e < dirs {
         let d = e;
         e = of_direction(site, d, NEXT_DOWN);
@@ -32,6 +33,7 @@ pub fn next_offer(rec: &[u8], marks: &[u16], site: &[u16], u: usize) -> usize
             break 'search;
         }
         let mut f = of_probe(marks, v, HELD_CURSOR);
+        // Stays a while: the step is the chain of the links of v.
         while cheaper(site, f, d) {
             if rec[2 * opposite(f) + 1] == 1 {
                 found = d;
@@ -53,6 +55,7 @@ pub fn cheapest(rec: &[u8], marks: &[u16], site: &[u16], v: usize) -> usize
         Cheapest (site_of x) offers v (opposite result) × HeldSearch (site_of x) offers v result }
 {
     let mut f = of_probe(marks, v, HELD_CURSOR);
+    // Stays a while: the step is the chain of the links of v.
     while rec[2 * opposite(f) + 1] != 1 {
         f = of_direction(site, f, NEXT_UP);
     }

@@ -1,13 +1,9 @@
--- Invariant: the entries before k are those from the end. Measure: the entries that are left.
-use Prim.Native.Nat.{◌-◌, ◌≤◌}
+-- Invariant: the entries before k are those from the end.
+use Prim.Native.Nat.{◌-◌}
 use mathlib.Core.Path.{◌≡◌}
-use lib.ListN.{length}
 use Rattle.range.specs.Lists.{stored}
 use Rattle.table.specs.Table.{item}
 use Rattle.plan_turns_search.proofs.chains.turn_round.Given as goal
 
 abbrev pub invariant-loop-k : goal.invariant-loop-k
-invariant-loop-k l = (l.k ≤ l.links) × (l.to ≡ stored (λ j. item l.from (l.links - 1 - j)) l.k l.initial.to) × (length l.to ≡ length l.initial.to)
-
-abbrev pub decreases-loop-k : goal.decreases-loop-k
-decreases-loop-k l = l.links - l.k
+invariant-loop-k l = l.to ≡ stored (λ j. item l.from (l.links - 1 - j)) l.k l.initial.to
