@@ -12,14 +12,13 @@ use table::TableSlices;
 use table_links::spares::spare_at;
 
 // Takes the probes' needs off their numbers of links, down to 0.
+#[tactic(auto, using(range::proofs::Lists::stored_next, range::proofs::Lists::stored_beyond), unfolding(range::specs::Lists::stored))]
 fn take_needs(counts: &mut [u16], probes: usize, needs: &[u16])
     requires { (probes ≤ length counts.old) × (probes ≤ length needs.now) }
     ensures { counts.new ≡ stored (λ v. item counts.old v - item needs.now v) probes counts.old }
 {
-    let mut v = 0;
-    while v < probes {
+    for v in 0..probes {
         counts[v] = spare_at(counts, needs, v) as u16;
-        v += 1;
     }
 }
 
@@ -37,25 +36,20 @@ fn kept_byte(rec: &[u8], i: usize) -> u8
     0
 }
 
+#[tactic(auto, using(range::proofs::Lists::stored_next), unfolding(range::specs::Lists::stored))]
 fn write_plan(plan: &mut [u8], rec: &[u8], links: usize)
     requires { (links ≤ length plan.old) × (4 * links ≤ length rec.now) }
     ensures { plan.new ≡ stored (kept_byte rec.now) links plan.old }
 {
-    let mut i = 0;
-    while i < links {
+    for i in 0..links {
         plan[i] = kept_byte(rec, i);
-        i += 1;
     }
 }
 
 fn clear(work: &mut [u8])
     ensures { work.new ≡ replicate (length work.old) 0 }
 {
-    let mut i = 0;
-    while i < work.len() {
-        work[i] = 0;
-        i += 1;
-    }
+    work.fill(0);
 }
 
 // Each probe's spare.

@@ -11,26 +11,20 @@ fn turn(rec: &mut [u8], marks: &mut [u16], site: &[u16], p: usize)
     ensures { let x = site.now in
         Turned x rec.old rec.new p × MarksAgree x rec.new marks.new }
 {
-    loop {
-        if spare_of(site, p) <= of_probe(marks, p, STANDING) {
-            return;
-        }
-        let made = super::offers::make_offer(rec, marks, site, p);
-        if !made {
-            return;
-        }
-    }
+    // Stays a while: each step is an offer, made in the test.
+    while of_probe(marks, p, STANDING) < spare_of(site, p)
+        && super::offers::make_offer(rec, marks, site, p)
+    {}
 }
 
 // The turns of all probes, in number order.
+#[tactic(auto, using(plan_turns_search::proofs::Turns::over_next))]
 pub fn take_turns(rec: &mut [u8], marks: &mut [u16], site: &[u16], probes: usize)
     requires { let x = site.now in
         OffersReady x rec.old × MarksAgree x rec.old marks.old × (probes ≤ probes_of x) }
     ensures { Over site.now rec.new probes }
 {
-    let mut p = 0;
-    while p < probes {
+    for p in 0..probes {
         turn(rec, marks, site, p);
-        p += 1;
     }
 }

@@ -1,8 +1,8 @@
 -- A probe's turn, and the turns of all.
 use Prim.Native.Nat.{ℕ, ◌+◌, ◌*◌, ◌≤◌, ◌<◌}
-use mathlib.Core.Path.{◌≡◌, refl, sym, ◌∙◌}
-use mathlib.Core.Logic.{inl, inr}
-use mathlib.Core.Bool.{Bool, true, false, ◌&&◌}
+use mathlib.Core.Path.{◌≡◌, sym, ◌∙◌}
+use mathlib.Core.Logic.{inr}
+use mathlib.Core.Bool.{Bool, false, ◌&&◌}
 use mathlib.Core.List.{List}
 use native.Mathlib.Omega.{arith}
 use native.Mathlib.Decide.{dec_lt}
@@ -13,8 +13,8 @@ use Rattle.range.specs.Sum.{count}
 use Rattle.range.proofs.Bools.{and_right}
 use Rattle.range.proofs.Sums.{none_count}
 use Rattle.table.specs.Table.{item}
-use Rattle.plan_turns_search.specs.Record.{at_source, probes_of, links_of, target_of, source_of, spare_of, site_of, SiteInSlice, OffersReady, mark, MarksAgree, Started, Offered, Turned, Over}
-use Rattle.plan_turns_search.specs.Offers.{stands, Satisfied}
+use Rattle.plan_turns_search.specs.Record.{at_source, probes_of, links_of, target_of, source_of, site_of, SiteInSlice, OffersReady, mark, MarksAgree, Started, Offered, Turned, Over}
+use Rattle.plan_turns_search.specs.Offers.{Satisfied}
 use Rattle.plan_turns_search.proofs.Offers.{satisfied_made}
 use Rattle.plan_turns_search.proofs.Record.{distinct}
 use Rattle.plan_turns_search.proofs.Chain.{walk_start, held_start}
@@ -52,38 +52,21 @@ pub record Turning (slice r₀ r : List ℕ) : Type 0 where
   pub ready : OffersReady slice r
   pub keeps : (w : ℕ) → Satisfied (site_of slice) (at_source r₀) w → Satisfied (site_of slice) (at_source r) w
 
-module _ (slice r₀ : List ℕ) where
-  pub turn_start : OffersReady slice r₀ → Turning slice r₀ r₀
-  turn_start h = record { ready = h; keeps = λ w e. e }
+module _ (slice r₀ r r' : List ℕ) (p : ℕ) where
+  pub turn_next : (made? : Bool) → Offered slice r r' p made? → Turning slice r₀ r → Turning slice r₀ r'
+  turn_next made? o t =
+      record {
+        ready = record { fits = t.ready.fits; paired = o.paired; inv = o.made.inv };
+        keeps = λ w e. satisfied_made (site_of slice) (distinct slice t.ready.fits) (at_source r) (at_source r') t.ready.inv p o.made w (t.keeps w e);
+      }
 
-  module _ (r r' : List ℕ) (t : Turning slice r₀ r) (p : ℕ) where
-    pub turn_next : Offered slice r r' p true → Turning slice r₀ r'
-    turn_next o =
-        record {
-          ready = record { fits = t.ready.fits; paired = o.paired; inv = o.made.inv };
-          keeps = λ w e. satisfied_made (site_of slice) (distinct slice t.ready.fits) (at_source r) (at_source r') t.ready.inv p o.made w (t.keeps w e);
-        }
+  pub turned_none : (made? : Bool) → Offered slice r r' p made? → Turning slice r₀ r → made? ≡ false → Turned slice r₀ r' p
+  turned_none made? o t e = let n = turn_next made? o t in record { ready = n.ready; keeps = n.keeps; done = inr (o.none e) }
 
-    pub turned_none : Offered slice r r' p false → Turned slice r₀ r' p
-    turned_none o =
-        record {
-          ready = record { fits = t.ready.fits; paired = o.paired; inv = o.made.inv };
-          keeps = λ w e. satisfied_made (site_of slice) (distinct slice t.ready.fits) (at_source r) (at_source r') t.ready.inv p o.made w (t.keeps w e);
-          done = inr (o.none refl);
-        }
-
-  pub turned_full : (r : List ℕ) → Turning slice r₀ r → (p spare n : ℕ) → spare ≡ spare_of slice p
-      → n ≡ stands (site_of slice) (at_source r) p → spare ≤ n → Turned slice r₀ r p
-  turned_full r t p spare n es en l =
-      record { ready = t.ready; keeps = t.keeps; done = inl (omega arith) }
-
-  pub over_start : OffersReady slice r₀ → Over slice r₀ 0
-  over_start h = record { ready = h; done = λ w l. absurd (omega arith) }
-
-  pub over_next : (p : ℕ) (r' : List ℕ) → Over slice r₀ p → Turned slice r₀ r' p
-      → Over slice r' (p + 1)
-  over_next p r' o t = record { ready = t.ready; done = λ w l. go w l (dec_lt w p) }
-    where
-      go : (w : ℕ) → w < p + 1 → Dec (w < p) → Satisfied (site_of slice) (at_source r') w
-      go w l (yes k) = t.keeps w (o.done w k)
-      go w l (no k) = let e : w ≡ p = omega arith in rw e t.done
+-- one more turn
+pub over_next : (slice r r' : List ℕ) (p : ℕ) → Over slice r p → Turned slice r r' p → Over slice r' (p + 1)
+over_next slice r r' p o t = record { ready = t.ready; done = λ w l. go w l (dec_lt w p) }
+  where
+    go : (w : ℕ) → w < p + 1 → Dec (w < p) → Satisfied (site_of slice) (at_source r') w
+    go w l (yes k) = t.keeps w (o.done w k)
+    go w l (no k) = let e : w ≡ p = omega arith in rw e t.done
