@@ -12,29 +12,27 @@ fn counted(byte: u8, value: u16) -> u32
 }
 
 // The count of kept links.
+#[tactic(auto, using(range::proofs::Sums::weigh_next, range::proofs::Sums::count_le), unfolding(range::specs::Sum::sum))]
 pub fn kept_count(plan: &[u8], links: usize) -> u32
     requires { (links ≤ length plan.now) × (links ≤ 2048) }
     ensures { result ≡ count links (is_kept plan.now) }
 {
     let mut n: u32 = 0;
-    let mut i = 0;
-    while i < links {
+    for i in 0..links {
         n += counted(plan[i], 1);
-        i += 1;
     }
     n
 }
 
 // The total cost of the kept links.
+#[tactic(auto, using(range::proofs::Sums::weigh_next, range::proofs::Sums::weigh_most), unfolding(range::specs::Sum::sum))]
 pub fn kept_cost(plan: &[u8], links: usize, costs: &[u16]) -> u32
     requires { (links ≤ length plan.now) × (links ≤ length costs.now) × (links ≤ 2048) }
     ensures { result ≡ weigh links (is_kept plan.now) (item costs.now) }
 {
     let mut n: u32 = 0;
-    let mut i = 0;
-    while i < links {
+    for i in 0..links {
         n += counted(plan[i], costs[i]);
-        i += 1;
     }
     n
 }
