@@ -1,7 +1,7 @@
 -- Laws of a probe's own links as a map.
 use Prim.Native.Nat.{ℕ, ◌+◌, ◌*◌, ◌-◌, ◌^◌, ◌≤◌, ◌<◌}
 use mathlib.Core.Path.{◌≡◌, refl, sym, ap, ◌∙◌}
-use mathlib.Core.Bool.{Bool, false, ◌||◌}
+use mathlib.Core.Bool.{Bool, false}
 use mathlib.Core.List.{List}
 use native.Mathlib.Omega.{arith}
 use native.Mathlib.Decide.{dec_lt}
@@ -10,7 +10,6 @@ use lib.Seq.{ext_get_or}
 use borrow.Author.Tests.{lt-ltb, le-ltb}
 use Rattle.range.specs.Sum.{sum, weigh, count}
 use Rattle.range.specs.Lists.{stored}
-use Rattle.range.proofs.Bools.{or_false_left, or_false_right}
 use Rattle.range.proofs.Sums.{weigh_same, weigh_rest}
 use Rattle.range.proofs.Lists.{length_stored, stored_at}
 use Rattle.bit_maps.specs.BitMap.{bit, word_of, map_of, ones_of}
@@ -30,15 +29,11 @@ weigh_none : (p : ℕ → Bool) (c : ℕ → ℕ) → 0 ≡ weigh 0 p c
 unfolding sum
 weigh_none p c = refl
 
--- a word of 64 links
-pub word_full : (q : ℕ → Bool) (w k word : ℕ) → word ≡ weigh k (λ j. q (64 * w + j)) (λ j. 2 ^ j) → k ≡ 64 → word ≡ word_of q w
-word_full q w k word e full = e ∙ ap (λ (n : ℕ). weigh n (λ j. q (64 * w + j)) (λ j. 2 ^ j)) full
-
--- a word that ends with the links
-pub word_ended : (t : Table) (p w k word : ℕ) → k ≤ 64 → word ≡ weigh k (λ j. is_own t p (64 * w + j)) (λ j. 2 ^ j) → t.links ≤ 64 * w + k
+-- a word whose links up to the 64th, or to the last of the table, are made
+pub word_made : (t : Table) (p w k word : ℕ) → k ≤ 64 → word ≡ weigh k (λ j. is_own t p (64 * w + j)) (λ j. 2 ^ j) → (k < 64 → t.links ≤ 64 * w + k)
     → word ≡ word_of (is_own t p) w
-word_ended t p w k word l e past =
-    e ∙ sym (weigh_rest (λ j. is_own t p (64 * w + j)) (λ j. 2 ^ j) k 64 l (λ j m n. own_past t p (64 * w + j) (omega arith)))
+word_made t p w k word l e past =
+    e ∙ sym (weigh_rest (λ j. is_own t p (64 * w + j)) (λ j. 2 ^ j) k 64 l (λ j m n. let h = past (omega arith) in own_past t p (64 * w + j) (omega arith)))
 
 -- a word without own links: none below `end`, and no link from there on
 pub word_none : (t : Table) (p w end : ℕ) → ((i : ℕ) → 64 * w ≤ i → i < end → touches t p i ≡ false) → ((i : ℕ) → i < 64 * w + 64 → i < t.links → i < end)
@@ -50,15 +45,6 @@ word_none t p w end none in_end =
     each : (j : ℕ) → j < 64 → Dec (64 * w + j < t.links) → is_own t p (64 * w + j) ≡ false
     each j n (yes l) = own_in t p (64 * w + j) l ∙ none (64 * w + j) (omega arith) (in_end (64 * w + j) (omega arith) l)
     each j n (no l) = own_past t p (64 * w + j) (omega arith)
-
--- one link more without a member
-pub none_next : (q : ℕ → Bool) (start i : ℕ) (any : Bool) → (any ≡ false → (j : ℕ) → start ≤ j → j < i → q j ≡ false) → (any || q i) ≡ false
-    → (j : ℕ) → start ≤ j → j < i + 1 → q j ≡ false
-none_next q start i any none e j from below = go (dec_lt j i)
-  where
-    go : Dec (j < i) → q j ≡ false
-    go (yes l) = none (or_false_left any (q i) e) j from l
-    go (no l) = let same : j ≡ i = omega arith in rw same (or_false_right any (q i) e)
 
 -- a row with every word stored is the map
 pub map_stored : (p : ℕ → Bool) (words : ℕ) (d : List ℕ) → length d ≡ words → stored (word_of p) words d ≡ map_of p words

@@ -10,51 +10,40 @@ fn has_own(lows: &[u16], highs: &[u16], probe: u16, start: usize, end: usize) ->
     ensures { result ≡ false → (i : ℕ) → start ≤ i → i < end → touches (of_slices 0 0 0 [] lows.now highs.now []) probe i ≡ false }
 {
     let mut any = false;
-    let mut i = start;
-    while i < end {
+    for i in start..end {
         any = any | ((probe == lows[i]) | (probe == highs[i]));
-        i += 1;
     }
     any
 }
 
 // The own links among the 64 of one word.
+#[tactic(auto, unfolding(range::specs::Sum::sum))]
 fn own_word(links: usize, lows: &[u16], highs: &[u16], probe: u16, w: usize) -> u64
     requires { (links ≤ length lows.now) × (links ≤ length highs.now) × (w < 32) }
     ensures { result ≡ word_of (is_own (of_slices 0 0 links [] lows.now highs.now []) probe) w }
 {
     let start = 64 * w;
-    let mut end = start + 64;
-    if links < end {
-        end = links;
-    }
+    let end = links.min(start + 64);
     if !has_own(lows, highs, probe, start, end) {
         return 0;
     }
     let mut word = 0u64;
-    let mut k = 0;
-    while k < 64 {
-        let i = start + k;
-        if links <= i {
-            return word;
-        }
+    for i in start..end {
         if table_links::ends::touches(lows, highs, probe as usize, i) {
-            word += 1 << k;
+            word += 1 << (i - start);
         }
-        k += 1;
     }
     word
 }
 
 // Fills a map with the probe's own links.
+#[tactic(auto, using(range::proofs::Lists::stored_next, crate::proofs::OwnLaws::map_stored), unfolding(range::specs::Lists::stored))]
 pub fn own_map(links: usize, lows: &[u16], highs: &[u16], probe: u16, own: &mut [u64])
     requires { (links ≤ length lows.now) × (links ≤ length highs.now) × (length own.old ≡ 32) }
     ensures { own.new ≡ map_of (is_own (of_slices 0 0 links [] lows.now highs.now []) probe) 32 }
 {
-    let mut w = 0;
-    while w < own.len() {
+    for w in 0..own.len() {
         own[w] = own_word(links, lows, highs, probe, w);
-        w += 1;
     }
 }
 

@@ -20,6 +20,7 @@ fn word_fault(standing: u64, refused_out: u64, held: u64, refused_in: u64, own: 
 }
 
 // 21 of every word.
+#[tactic(auto, unfolding(range::specs::First::first))]
 pub fn bits_fault(
     standing: &[u64],
     refused_out: &[u64],
@@ -32,13 +33,11 @@ pub fn bits_fault(
     ensures { let m = rows standing.now refused_out.now held.now refused_in.now in
         result ≡ first (own_bit_fault m own.now) (64 * length standing.now) }
 {
-    let mut w = 0;
-    while w < standing.len() {
+    for w in 0..standing.len() {
         let fault = word_fault(standing[w], refused_out[w], held[w], refused_in[w], own[w]);
         if fault != 0 {
             return fault;
         }
-        w += 1;
     }
     0
 }
