@@ -46,9 +46,6 @@ pub record Cleared (own one two left : List ℕ) (w : ℕ) : Type 0 where
   pub rest : (i : ℕ) → 64 * w ≤ i → bit left i ≡ bit own i
 
 module _ (own one two : List ℕ) where
-  pub none_cleared : Words own → Cleared own one two own 0
-  none_cleared words = record { size = refl; words = words; done = λ i l. absurd (omega arith); rest = λ i l. refl }
-
   pub one_cleared : (left : List ℕ) (w : ℕ) → Words one → Words two → w < length own → Cleared own one two left w
       → Cleared own one two (set left w (word_left (get_or left w 0) (get_or one w 0) (get_or two w 0))) (w + 1)
   unfolding bit

@@ -11,11 +11,9 @@ pub fn remove_tried(own: &mut [u64], one: &[u64], two: &[u64])
     requires { (length one.now ≤ length own.old) × (length two.now ≡ length one.now) × Words own.old }
     ensures { own.new ≡ map_of (λ i. bit own.old i && not (bit one.now i || bit two.now i)) (length own.old) }
 {
-    let mut w = 0;
-    while w < one.len() {
+    for w in 0..one.len() {
         let word = own[w];
         own[w] = word ^ (word & (one[w] | two[w]));
-        w += 1;
     }
 }
 
@@ -27,6 +25,7 @@ pub fn best_in(cheapest: bool, map: &[u64], links: usize, costs: &[u16]) -> usiz
 {
     let mut best = links;
     let mut i = bit_maps::walks::next(map, 0);
+    // Stays a while: the step goes to the next one of the map.
     while i < links {
         if goes_before(cheapest, costs, links, i, best) {
             best = i;
