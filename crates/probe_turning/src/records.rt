@@ -20,6 +20,7 @@ fn byte_of(one: &[u64], two: &[u64], i: usize) -> u8
 }
 
 // Stores the bytes of all links.
+#[tactic(auto, using(crate::proofs::Laws::no_bytes, crate::proofs::Laws::bytes_next))]
 pub fn store(
     links: usize,
     standing: &[u64],
@@ -33,10 +34,8 @@ pub fn store(
     ensures { let m = rows standing.now refused_out.now held.now refused_in.now in
         rec.new ≡ sets rec.old 0 (bytes_of links m) }
 {
-    let mut i = 0;
-    while i < links {
+    for i in 0..links {
         rec[2 * i] = byte_of(standing, refused_out, i);
         rec[2 * i + 1] = byte_of(held, refused_in, i);
-        i += 1;
     }
 }
