@@ -33,21 +33,21 @@ fn is_wrong_link(rec: &[u8], i: usize) -> bool
 }
 
 // 21.
+#[tactic(auto, using(range::proofs::Faults::first_none, range::proofs::Faults::first_some, crate::proofs::CheckLaws::wrong_link_lem), unfolding(range::specs::First::first))]
 fn bytes_fault(rec: &[u8], links: usize) -> u8
     requires { (links ≤ 65535) × (8 * links ≤ length rec.now) }
     ensures { result ≡ first (link_bytes_fault rec.now) links }
 {
-    let mut i = 0;
-    while i < links {
+    for i in 0..links {
         if is_wrong_link(rec, i) {
             return 21;
         }
-        i += 1;
     }
     0
 }
 
 // 22, by the probes' counts.
+#[tactic(auto, using(range::proofs::Faults::first_none, range::proofs::Faults::first_some), unfolding(range::specs::First::first))]
 fn over_spare_fault(
     probes: usize,
     needs: &[u16],
@@ -58,8 +58,7 @@ fn over_spare_fault(
     requires { (probes ≤ length degrees.now) × (probes ≤ length standing.now) × (probes ≤ length held.now) }
     ensures { result ≡ first (λ v. over_fault (item degrees.now v - item needs.now v) (item standing.now v) (item held.now v)) probes }
 {
-    let mut v = 0;
-    while v < probes {
+    for v in 0..probes {
         let spare = table_links::spares::spare_at(degrees, needs, v);
         if spare < standing[v] as usize {
             return 22;
@@ -67,7 +66,6 @@ fn over_spare_fault(
         if spare < held[v] as usize {
             return 22;
         }
-        v += 1;
     }
     0
 }

@@ -16,6 +16,7 @@ fn add_if(counts: &mut [u16], v: usize, byte: u8, value: u8)
 }
 
 // Counts into zeros, at each probe, the links whose byte for it has the value: of a link's four, byte k is its low end's, byte m its high end's.
+#[tactic(auto, using(range::proofs::Sums::count_le), unfolding(range::specs::Sum::sum))]
 pub fn count_bytes(
     counts: &mut [u16],
     rec: &[u8],
@@ -31,12 +32,10 @@ pub fn count_bytes(
         × ((v : ℕ) → get_or counts.old v 0 ≡ 0) }
     ensures { (v : ℕ) → get_or counts.new v 0 ≡ count links (end_with (item lows.now) (item highs.now) rec.now k m value v) }
 {
-    let mut i = 0;
-    while i < links {
+    for i in 0..links {
         let low = table::numbers::wide(lows[i]);
         let high = table::numbers::wide(highs[i]);
         add_if(counts, low, rec[8 * i + k], value);
         add_if(counts, high, rec[8 * i + m], value);
-        i += 1;
     }
 }

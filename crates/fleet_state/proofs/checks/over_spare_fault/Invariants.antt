@@ -1,6 +1,5 @@
--- Invariant: no probe before v is over its spare. Measure: the probes that are left.
-use borrow.Author.Rules.{rules}
-use Prim.Native.Nat.{ℕ, ◌-◌, ◌≤◌}
+-- Invariant: no probe before v is over its spare.
+use Prim.Native.Nat.{ℕ, ◌-◌}
 use mathlib.Core.Path.{◌≡◌}
 use mathlib.Core.List.{List}
 use Rattle.range.specs.First.{first}
@@ -12,7 +11,4 @@ abbrev pub fault : List ℕ → List ℕ → List ℕ → List ℕ → ℕ → �
 fault rules degrees standing held v = over_fault (item degrees v - item rules v) (item standing v) (item held v)
 
 abbrev pub invariant-loop-v : goal.invariant-loop-v
-invariant-loop-v l = (l.v ≤ l.probes) × (first (fault l.needs l.degrees l.standing l.held) l.v ≡ 0)
-
-abbrev pub decreases-loop-v : goal.decreases-loop-v
-decreases-loop-v l = l.probes - l.v
+invariant-loop-v l = first (fault l.needs l.degrees l.standing l.held) l.v ≡ 0
