@@ -67,6 +67,7 @@ fn survey(
         best: links,
     };
     let mut i = table_links::ends::next_own(links, lows, highs, probe, 0);
+    // Stays a while: the step goes to the probe's next own link.
     while i < links {
         let byte = side_byte(value, rec, lows, highs, probe, i);
         s = Survey {

@@ -121,6 +121,7 @@ pub fn wipe(rec: &mut [u8], links: usize, lows: &[u16], highs: &[u16], probe: us
     ensures { rec.new ≡ wiped (of_slices 0 0 links [] lows.now highs.now []) probe rec.old }
 {
     let mut i = table_links::ends::next_own(links, lows, highs, probe, 0);
+    // Stays a while: the step goes to the probe's next own link.
     while i < links {
         let out = out_at(lows, probe, i);
         let into = in_at(lows, probe, i);
