@@ -20,25 +20,25 @@ fn may_alter(out: u8, into: u8) -> bool
 }
 
 // Whether no frame that may be sent would alter a byte.
+#[tactic(auto, using(range::proofs::Sums::count_miss), unfolding(range::specs::Sum::sum))]
 fn none_alters(rec: &[u8], links: usize) -> bool
     requires { 8 * links ≤ length rec.now }
     ensures { let byte = item rec.now in
         result ≡ eqb (count links (λ i. may_alter (byte (8 * i)) (byte (8 * i + 1)) || may_alter (byte (8 * i + 2)) (byte (8 * i + 3)))) 0 }
 {
-    let mut i = 0;
-    while i < links {
+    for i in 0..links {
         if may_alter(rec[8 * i], rec[8 * i + 1]) {
             return false;
         }
         if may_alter(rec[8 * i + 2], rec[8 * i + 3]) {
             return false;
         }
-        i += 1;
     }
     true
 }
 
 // Whether no opening would open a link, by the probes' counts.
+#[tactic(auto, using(range::proofs::Sums::count_miss), unfolding(range::specs::Sum::sum))]
 fn none_opens(
     probes: usize,
     needs: &[u16],
@@ -49,17 +49,11 @@ fn none_opens(
     requires { (probes ≤ length degrees.now) × (probes ≤ length standing.now) × (probes ≤ length untried.now) }
     ensures { result ≡ eqb (count probes (λ v. may_open (item standing.now v) (item degrees.now v - item needs.now v) (item untried.now v))) 0 }
 {
-    let mut v = 0;
-    while v < probes {
-        let w = v;
-        v += 1;
-        if table_links::spares::spare_at(degrees, needs, w) <= standing[w] as usize {
-            continue;
+    for v in 0..probes {
+        let spare = table_links::spares::spare_at(degrees, needs, v);
+        if (standing[v] as usize) < spare && untried[v] != 0 {
+            return false;
         }
-        if untried[w] == 0 {
-            continue;
-        }
-        return false;
     }
     true
 }

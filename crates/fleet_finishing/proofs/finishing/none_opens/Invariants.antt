@@ -1,6 +1,5 @@
--- Invariant: no probe before v would open a link. Measure: the probes that are left.
-use borrow.Author.Rules.{rules}
-use Prim.Native.Nat.{ℕ, ◌-◌, ◌≤◌}
+-- Invariant: no probe before v would open a link.
+use Prim.Native.Nat.{ℕ, ◌-◌}
 use mathlib.Core.Path.{◌≡◌}
 use mathlib.Core.Bool.{Bool}
 use mathlib.Core.List.{List}
@@ -13,7 +12,4 @@ abbrev pub may : List ℕ → List ℕ → List ℕ → List ℕ → ℕ → Boo
 may rules degrees standing untried v = may_open (item standing v) (item degrees v - item rules v) (item untried v)
 
 abbrev pub invariant-loop-v : goal.invariant-loop-v
-invariant-loop-v l = (l.v ≤ l.probes) × (count l.v (may l.needs l.degrees l.standing l.untried) ≡ 0)
-
-abbrev pub decreases-loop-v : goal.decreases-loop-v
-decreases-loop-v l = l.probes - l.v
+invariant-loop-v l = count l.v (may l.needs l.degrees l.standing l.untried) ≡ 0
