@@ -12,6 +12,7 @@ pub fn count_frames(bag: &[u8]) -> usize
 {
     let mut count = 0;
     let mut at = 0;
+    // Stays a while: the step is the line's length.
     while at < bag.len() {
         if count == 64 {
             return 65;
@@ -40,6 +41,7 @@ pub fn read_frames(
 {
     let mut n = 0;
     let mut at = 0;
+    // Stays a while: the step is the line's length.
     while at < bag.len() {
         let found = lines::find_line(bag, at);
         let next = found.next;
