@@ -44,15 +44,7 @@ pub fn finished(table: TableSlices<'_>, rec: &[u8]) -> Finishing
     if fault != 0 {
         return Finishing::Refused(fault);
     }
-    Finishing::Says(fleet_finishing::finishing::is_finished(
-        table.probes as usize,
-        table.links as usize,
-        table.needs,
-        &degrees,
-        table.lows,
-        table.highs,
-        rec,
-    ))
+    Finishing::Says(fleet_finishing::finishing::is_finished(table, &degrees, rec))
 }
 
 // How many changes an event made, by its entry; marks and wipes count nowhere.

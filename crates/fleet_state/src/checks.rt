@@ -3,7 +3,7 @@ ghost use Rattle.std.specs.Prelude.{◌≡◌, [], ℕ, ◌+◌, ◌*◌, ◌-�
 ghost use Rattle.range.specs.First.{or_else, first};
 ghost use Rattle.table.specs.Slices.{table_of, slices_fault, as_slices};
 ghost use Rattle.probe_record.specs.Record.{spare_fault};
-ghost use Rattle.table.specs.Table.{item, of_slices, Degrees};
+ghost use Rattle.table.specs.Table.{item, Degrees};
 ghost use Rattle.fleet_theory.specs.Fleet.{own, wrong_byte, link_bytes_fault, fleet_fault};
 ghost use Rattle.fleet_state.specs.Faults.{over_fault, wrong_link};
 ghost use Rattle.fleet_state.specs.Within.{LegalWithoutCosts};
@@ -71,42 +71,29 @@ fn over_spare_fault(
 }
 
 // 22; counts each probe's links into zeros.
-fn spares_fault(
-    probes: usize,
-    links: usize,
-    needs: &[u16],
-    lows: &[u16],
-    highs: &[u16],
-    rec: &[u8],
-    degrees: &mut [u16],
-) -> u8
-    requires { LegalWithoutCosts probes links needs.now lows.now highs.now × (8 * links ≤ length rec.now)
+fn spares_fault(table: TableSlices<'_>, rec: &[u8], degrees: &mut [u16]) -> u8
+    requires { LegalWithoutCosts table.probes table.links table.needs.now table.lows.now table.highs.now × (8 * table.links ≤ length rec.now)
         × (length degrees.old ≡ 256) × ((v : ℕ) → get_or degrees.old v 0 ≡ 0) }
-    ensures { let t = of_slices 0 probes links needs.now lows.now highs.now [] in
-        (result ≡ first (λ p. spare_fault t p (own t p rec.now)) probes) × Degrees t degrees.new }
+    ensures { let t = table_of (as_slices table.entry) in
+        (result ≡ first (λ p. spare_fault t p (own t p rec.now)) table.entry.probes) × Degrees t degrees.new }
 {
+    let probes = table.probes as usize;
+    let links = table.links as usize;
     let mut standing = [0u16; 256];
     let mut held = [0u16; 256];
-    table::degrees::count_degrees(degrees, links, lows, highs);
-    super::counts::count_bytes(&mut standing, rec, links, lows, highs, 0, 2, 1);
-    super::counts::count_bytes(&mut held, rec, links, lows, highs, 3, 1, 1);
-    over_spare_fault(probes, needs, degrees, &standing, &held)
+    table::degrees::count_degrees(degrees, links, table.lows, table.highs);
+    super::counts::count_bytes(&mut standing, rec, links, table.lows, table.highs, 0, 2, 1);
+    super::counts::count_bytes(&mut held, rec, links, table.lows, table.highs, 3, 1, 1);
+    over_spare_fault(probes, table.needs, degrees, &standing, &held)
 }
 
 // 20, 21, 22; where there is none, each probe's links are counted.
-fn fleet_fault(
-    probes: usize,
-    links: usize,
-    needs: &[u16],
-    lows: &[u16],
-    highs: &[u16],
-    rec: &[u8],
-    degrees: &mut [u16],
-) -> u8
-    requires { LegalWithoutCosts probes links needs.now lows.now highs.now × (length degrees.old ≡ 256) × ((v : ℕ) → get_or degrees.old v 0 ≡ 0) }
-    ensures { let t = of_slices 0 probes links needs.now lows.now highs.now [] in
+fn fleet_fault(table: TableSlices<'_>, rec: &[u8], degrees: &mut [u16]) -> u8
+    requires { LegalWithoutCosts table.probes table.links table.needs.now table.lows.now table.highs.now × (length degrees.old ≡ 256) × ((v : ℕ) → get_or degrees.old v 0 ≡ 0) }
+    ensures { let t = table_of (as_slices table.entry) in
         (result ≡ fleet_fault t rec.now) × (result ≡ 0 → Degrees t degrees.new) }
 {
+    let links = table.links as usize;
     if rec.len() != 8 * links {
         return 20;
     }
@@ -114,7 +101,7 @@ fn fleet_fault(
     if fault != 0 {
         return fault;
     }
-    spares_fault(probes, links, needs, lows, highs, rec, degrees)
+    spares_fault(table, rec, degrees)
 }
 
 // The table's own, then 20, 21, 22; where there is none, each probe's links are counted into zeros.
@@ -129,13 +116,5 @@ pub fn state_fault(table: TableSlices<'_>, rec: &[u8], degrees: &mut [u16]) -> u
     if fault != 0 {
         return fault;
     }
-    fleet_fault(
-        probes,
-        links,
-        table.needs,
-        table.lows,
-        table.highs,
-        rec,
-        degrees,
-    )
+    fleet_fault(table, rec, degrees)
 }

@@ -66,15 +66,7 @@ pub fn slse_plan(
 {
     let links = table.links as usize;
     plan_order::sorting::order_links(order, half, digits, links, table.costs);
-    plan_slse::passes::plan_in_order(
-        plan,
-        counts,
-        links,
-        order,
-        table.needs,
-        table.lows,
-        table.highs,
-    );
+    plan_slse::passes::plan_in_order(plan, counts, table, order);
 }
 
 // The same plan, and its answer.

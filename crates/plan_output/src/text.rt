@@ -5,7 +5,7 @@ ghost use Rattle.output.specs.Output.{output_fault, Prints};
 ghost use Rattle.plan_output.specs.Output.{plan_text};
 
 use output::Output;
-use table::{CLOSING_BYTES, TableSlices};
+use table::{CLOSING_BYTES, TableSlices, TableSlices};
 
 // Prints the plan of the legal table in these slices. It works in `plan`, `order`, `half`, `digits` and `degrees`.
 pub fn print_plan(
@@ -35,7 +35,7 @@ pub fn print_plan(
     }
     let cost = plan_methods::counts::kept_cost(plan, links, table.costs);
     plan_lines::kept_lines::put_head(out, table.number, kept, cost);
-    plan_lines::kept_lines::put_kept(out, plan, links, table.lows, table.highs, table.costs);
+    plan_lines::kept_lines::put_kept(out, plan, table);
     let shorts = plan_lines::starts::short_start(kept, 0);
     plan_lines::short_lines::put_shorts(out, shorts, probes, table.needs, degrees);
     table_write::line::put_closing(out, end);

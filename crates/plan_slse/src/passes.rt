@@ -5,22 +5,16 @@ ghost use Rattle.table.specs.Table.{of_slices};
 ghost use Rattle.plan_theory.specs.Plan.{links_at, added, slse, kept, plan_byte};
 ghost use Rattle.plan_slse.specs.FromDearest.{InOrder, OrderFits};
 
+use table::TableSlices;
+
 // From cheapest up: what a legal table of these links adds, whatever its probe count and costs, if this is their order and `counts` has an entry for each probe.
-fn add_links(
-    plan: &mut [u8],
-    counts: &mut [u16],
-    links: usize,
-    order: &[u16],
-    needs: &[u16],
-    lows: &[u16],
-    highs: &[u16],
-)
-    requires { OrderFits links (length counts.old) (length needs.now) order.now lows.now highs.now
-        × (links ≤ length plan.old)
-        × ((j : ℕ) → j < links → get_or plan.old j 0 ≡ 0) × ((v : ℕ) → v < length counts.old → get_or counts.old v 0 ≡ 0) }
-    ensures { (probes : ℕ) (costs : List ℕ) → let t = of_slices 0 probes links needs.now lows.now highs.now costs in
+fn add_links(plan: &mut [u8], counts: &mut [u16], table: TableSlices<'_>, order: &[u16])
+    requires { OrderFits table.links (length counts.old) (length table.needs.now) order.now table.lows.now table.highs.now
+        × (table.links ≤ length plan.old)
+        × ((j : ℕ) → j < table.links → get_or plan.old j 0 ≡ 0) × ((v : ℕ) → v < length counts.old → get_or counts.old v 0 ≡ 0) }
+    ensures { (probes : ℕ) (costs : List ℕ) → let t = of_slices 0 probes table.entry.links table.entry.needs.now table.entry.lows.now table.entry.highs.now costs in
         probes ≤ length counts.old → InOrder t order.now
-        → (plan.new ≡ stored (λ j. plan_byte (added t j)) links plan.old)
+        → (plan.new ≡ stored (λ j. plan_byte (added t j)) table.entry.links plan.old)
         × ((v : ℕ) → v < probes → get_or counts.new v 0 ≡ links_at t (added t) v) }
 {
     for k in (0..links).rev() {
@@ -28,41 +22,33 @@ fn add_links(
         super::links::add_link(
             plan,
             counts,
-            needs,
+            table.needs,
             i,
-            table::numbers::wide(lows[i]),
-            table::numbers::wide(highs[i]),
+            table::numbers::wide(table.lows[i]),
+            table::numbers::wide(table.highs[i]),
         );
     }
 }
 
 // From dearest down: what S-LSE leaves of the links that such a table adds.
-fn remove_links(
-    plan: &mut [u8],
-    counts: &mut [u16],
-    links: usize,
-    order: &[u16],
-    needs: &[u16],
-    lows: &[u16],
-    highs: &[u16],
-)
-    requires { OrderFits links (length counts.old) (length needs.now) order.now lows.now highs.now
-        × (links ≤ length plan.old) }
-    ensures { (probes : ℕ) (costs : List ℕ) → let t = of_slices 0 probes links needs.now lows.now highs.now costs in
+fn remove_links(plan: &mut [u8], counts: &mut [u16], table: TableSlices<'_>, order: &[u16])
+    requires { OrderFits table.links (length counts.old) (length table.needs.now) order.now table.lows.now table.highs.now
+        × (table.links ≤ length plan.old) }
+    ensures { (probes : ℕ) (costs : List ℕ) → let t = of_slices 0 probes table.entry.links table.entry.needs.now table.entry.lows.now table.entry.highs.now costs in
         probes ≤ length counts.old → InOrder t order.now
-        → ((j : ℕ) → j < links → get_or plan.old j 0 ≡ plan_byte (added t j))
+        → ((j : ℕ) → j < table.entry.links → get_or plan.old j 0 ≡ plan_byte (added t j))
         → ((v : ℕ) → v < probes → get_or counts.old v 0 ≡ links_at t (added t) v)
-        → plan.new ≡ stored (λ j. plan_byte (slse t j)) links plan.old }
+        → plan.new ≡ stored (λ j. plan_byte (slse t j)) table.entry.links plan.old }
 {
     for k in 0..links {
         let i = table::numbers::wide(order[k]);
         super::links::remove_link(
             plan,
             counts,
-            needs,
+            table.needs,
             i,
-            table::numbers::wide(lows[i]),
-            table::numbers::wide(highs[i]),
+            table::numbers::wide(table.lows[i]),
+            table::numbers::wide(table.highs[i]),
         );
     }
 }
@@ -75,21 +61,14 @@ fn clear(plan: &mut [u8], links: usize)
 }
 
 // The plan of every legal table of these links, whatever its probe count and costs, if this is their order and `counts` has an entry for each probe.
-pub fn plan_in_order(
-    plan: &mut [u8],
-    counts: &mut [u16],
-    links: usize,
-    order: &[u16],
-    needs: &[u16],
-    lows: &[u16],
-    highs: &[u16],
-)
-    requires { OrderFits links (length counts.old) (length needs.now) order.now lows.now highs.now × (links ≤ length plan.old) }
-    ensures { (probes : ℕ) (costs : List ℕ) → let t = of_slices 0 probes links needs.now lows.now highs.now costs in
-        probes ≤ length counts.old → InOrder t order.now → plan.new ≡ stored (λ j. plan_byte (kept t j)) links plan.old }
+pub fn plan_in_order(plan: &mut [u8], counts: &mut [u16], table: TableSlices<'_>, order: &[u16])
+    requires { OrderFits table.links (length counts.old) (length table.needs.now) order.now table.lows.now table.highs.now × (table.links ≤ length plan.old) }
+    ensures { (probes : ℕ) (costs : List ℕ) → let t = of_slices 0 probes table.entry.links table.entry.needs.now table.entry.lows.now table.entry.highs.now costs in
+        probes ≤ length counts.old → InOrder t order.now → plan.new ≡ stored (λ j. plan_byte (kept t j)) table.entry.links plan.old }
 {
+    let links = table.links as usize;
     clear(plan, links);
     table::degrees::clear_counts(counts);
-    add_links(plan, counts, links, order, needs, lows, highs);
-    remove_links(plan, counts, links, order, needs, lows, highs);
+    add_links(plan, counts, table, order);
+    remove_links(plan, counts, table, order);
 }

@@ -73,9 +73,7 @@ pub fn apply(
     let outcome = super::decisions::decide(
         event,
         own,
-        links,
-        table.needs,
-        table.costs,
+        table,
         probe as usize,
         standing,
         refused_out,

@@ -50,11 +50,7 @@ pub fn tell_bag(
     let mut said = [0u16; 64];
     let checked = checks::check_bag(
         state,
-        table.number,
-        table.probes as usize,
-        table.links as usize,
-        table.lows,
-        table.highs,
+        table,
         probe as usize,
         bag,
         wake_log::storing::free(used, room),

@@ -3,6 +3,9 @@ ghost use Rattle.std.specs.Prelude.{◌≡◌, [], ◌+◌, ◌*◌, ◌<◌, �
 ghost use Rattle.range.specs.First.{first};
 ghost use Rattle.table.specs.Table.{of_slices};
 ghost use Rattle.probe_record.specs.Record.{byte_fault, record_fault};
+ghost use Rattle.table.specs.Slices.{as_slices, table_of};
+
+use table::TableSlices;
 
 // 21, of one link.
 fn byte_fault(rec: &[u8], lows: &[u16], highs: &[u16], probe: usize, i: usize) -> u8
@@ -44,25 +47,19 @@ fn bytes_fault(rec: &[u8], links: usize, lows: &[u16], highs: &[u16], probe: usi
 }
 
 // 20, 21, 22.
-pub fn record_fault(
-    rec: &[u8],
-    links: usize,
-    needs: &[u16],
-    lows: &[u16],
-    highs: &[u16],
-    probe: usize,
-) -> u8
-    requires { (links ≤ 65535) × (links ≤ length lows.now) × (links ≤ length highs.now) }
-    ensures { result ≡ record_fault (of_slices 0 0 links needs.now lows.now highs.now []) probe rec.now }
+pub fn record_fault(rec: &[u8], table: TableSlices<'_>, probe: usize) -> u8
+    requires { (table.links ≤ 65535) × (table.links ≤ length table.lows.now) × (table.links ≤ length table.highs.now) }
+    ensures { result ≡ record_fault (table_of (as_slices table.entry)) probe rec.now }
 {
+    let links = table.links as usize;
     if rec.len() != 2 * links {
         return 20;
     }
-    let fault = bytes_fault(rec, links, lows, highs, probe);
+    let fault = bytes_fault(rec, links, table.lows, table.highs, probe);
     if fault != 0 {
         return fault;
     }
-    let room = table_links::spares::spare(links, needs, lows, highs, probe);
+    let room = table_links::spares::spare(table, probe);
     if room < super::counts::ones(rec, links, 0) {
         return 22;
     }

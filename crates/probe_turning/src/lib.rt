@@ -47,14 +47,7 @@ pub fn maps_of(
     if fault != 0 {
         return Turning::Refused(fault);
     }
-    let bad = probe_record::checks::record_fault(
-        rec,
-        n,
-        table.needs,
-        table.lows,
-        table.highs,
-        probe as usize,
-    );
+    let bad = probe_record::checks::record_fault(rec, table, probe as usize);
     if bad != 0 {
         return Turning::Refused(bad);
     }

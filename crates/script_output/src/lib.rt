@@ -99,12 +99,8 @@ pub fn script_end(table: TableSlices<'_>, rec: &[u8], progress: Progress, out: &
         return Output::Refused(fault);
     }
     let length = script_pieces::ending::put_end(
-        probe_count,
-        link_count,
-        table.needs,
+        table,
         &degrees,
-        table.lows,
-        table.highs,
         rec,
         progress.held,
         progress.changed,

@@ -44,19 +44,7 @@ fn put_script(table: TableSlices<'_>, degrees: &[u16], text: &[u8], out: &mut [u
     if closed.rest < text.len() {
         unclosed = 1;
     }
-    super::ending::put_end(
-        probes,
-        links,
-        table.needs,
-        degrees,
-        table.lows,
-        table.highs,
-        rec,
-        unclosed,
-        p.changed,
-        out,
-        place.at,
-    )
+    super::ending::put_end(table, degrees, rec, unclosed, p.changed, out, place.at)
 }
 
 // Whether a slice of this length holds what the lines behind a table print. Five bytes for each byte, and 11, hold any output; else it is counted.

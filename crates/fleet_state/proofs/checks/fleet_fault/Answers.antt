@@ -9,7 +9,7 @@ use Rattle.fleet_state.proofs.checks.fleet_fault.Goals as goal
 pub overflow_mul-links : goal.overflow_mul-links
 overflow_mul-links c =
     let a = c.args in
-    let t : Table = of_slices 0 a.probes a.links a.needs.now a.lows.now a.highs.now [] in
+    let t : Table = of_slices 0 a.table.probes a.table.links a.table.needs.now a.table.lows.now a.table.highs.now [] in
     let w = (legal_table 256 2048 t c.requires.0.legal).size.within in
     omega (arith, w)
 
@@ -19,7 +19,7 @@ returns-then-rec-links c = (rw (ne_eqb _ _ c.if-rec-links.true), λ z. absurd (o
 pub bytes_fault-fault-requires : goal.bytes_fault-fault-requires
 bytes_fault-fault-requires c =
     let a = c.args in
-    let t : Table = of_slices 0 a.probes a.links a.needs.now a.lows.now a.highs.now [] in
+    let t : Table = of_slices 0 a.table.probes a.table.links a.table.needs.now a.table.lows.now a.table.highs.now [] in
     let w = (legal_table 256 2048 t c.requires.0.legal).size.within in
     (omega (arith, w), omega (arith, c.if-rec-links.false))
 

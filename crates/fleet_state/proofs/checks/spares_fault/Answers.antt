@@ -15,31 +15,31 @@ pub count_degrees-requires : goal.count_degrees-requires
 count_degrees-requires c =
     let a = c.args in
     let p = c.requires.0 in
-    let t = of_slices 0 a.probes a.links a.needs.now a.lows.now a.highs.now [] in
+    let t = of_slices 0 a.table.probes a.table.links a.table.needs.now a.table.lows.now a.table.highs.now [] in
     let s = (legal_table 256 2048 t p.legal).size in
-    (p.in_lows, p.in_highs, omega (arith, s.within), rw c.requires.2 (fits_ends a.probes a.links a.needs.now a.lows.now a.highs.now p), c.requires.3)
+    (p.in_lows, p.in_highs, omega (arith, s.within), rw c.requires.2 (fits_ends a.table.probes a.table.links a.table.needs.now a.table.lows.now a.table.highs.now p), c.requires.3)
 
 pub count_bytes-requires : goal.count_bytes-requires
 count_bytes-requires c =
     let a = c.args in
     let p = c.requires.0 in
-    let s = (legal_table 256 2048 (of_slices 0 a.probes a.links a.needs.now a.lows.now a.highs.now []) p.legal).size in
-    let ends = fits_ends a.probes a.links a.needs.now a.lows.now a.highs.now p in
+    let s = (legal_table 256 2048 (of_slices 0 a.table.probes a.table.links a.table.needs.now a.table.lows.now a.table.highs.now []) p.legal).size in
+    let ends = fits_ends a.table.probes a.table.links a.table.needs.now a.table.lows.now a.table.highs.now p in
     (p.in_lows, p.in_highs, omega (arith, s.within), c.requires.1, search rules, search rules, ends, zeros_at 256)
 
 pub count_bytes-requires-2 : goal.count_bytes-requires-2
 count_bytes-requires-2 c =
     let a = c.args in
     let p = c.requires.0 in
-    let s = (legal_table 256 2048 (of_slices 0 a.probes a.links a.needs.now a.lows.now a.highs.now []) p.legal).size in
-    let ends = fits_ends a.probes a.links a.needs.now a.lows.now a.highs.now p in
+    let s = (legal_table 256 2048 (of_slices 0 a.table.probes a.table.links a.table.needs.now a.table.lows.now a.table.highs.now []) p.legal).size in
+    let ends = fits_ends a.table.probes a.table.links a.table.needs.now a.table.lows.now a.table.highs.now p in
     (p.in_lows, p.in_highs, omega (arith, s.within), c.requires.1, search rules, search rules, ends, zeros_at 256)
 
 pub over_spare_fault-requires : goal.over_spare_fault-requires
 over_spare_fault-requires c =
     let a = c.args in
     let p = c.requires.0 in
-    let s = (legal_table 256 2048 (of_slices 0 a.probes a.links a.needs.now a.lows.now a.highs.now []) p.legal).size in
+    let s = (legal_table 256 2048 (of_slices 0 a.table.probes a.table.links a.table.needs.now a.table.lows.now a.table.highs.now []) p.legal).size in
     let d = c.count_degrees.auto.counts in
     let e : length c.count_bytes.new.counts ≡ 256 = c.count_bytes.auto.counts in
     let f : length c.count_bytes-2.new.counts ≡ 256 = c.count_bytes-2.auto.counts in
@@ -48,5 +48,5 @@ over_spare_fault-requires c =
 pub returns : goal.returns
 returns c =
     let a = c.args in
-    let t : Table = of_slices 0 a.probes a.links a.needs.now a.lows.now a.highs.now [] in
-    (c.over_spare_fault.ensures ∙ first_same _ _ a.probes (λ v l. over_counted t a.rec.now v _ _ _ (c.count_degrees.ensures v) (c.count_bytes.ensures v) (c.count_bytes-2.ensures v)), c.count_degrees.ensures)
+    let t : Table = of_slices 0 a.table.probes a.table.links a.table.needs.now a.table.lows.now a.table.highs.now [] in
+    (c.over_spare_fault.ensures ∙ first_same _ _ a.table.probes (λ v l. over_counted t a.rec.now v _ _ _ (c.count_degrees.ensures v) (c.count_bytes.ensures v) (c.count_bytes-2.ensures v)), c.count_degrees.ensures)

@@ -12,7 +12,7 @@ use Rattle.plan_theory.specs.Plan.{is_kept}
 use Rattle.plan_lines.proofs.kept_lines.put_kept.Given as goal
 
 abbrev pub invariant-loop-i : goal.invariant-loop-i
-invariant-loop-i l = (l.i ≤ l.links) × (l.at ≡ kept_start (count l.i (is_kept l.plan))) × (l.out ≡ sets l.initial.out (kept_start 0) (joined (kept_line_at (is_kept l.plan) (item l.lows) (item l.highs) (item l.costs)) l.i)) × (length l.out ≡ length l.initial.out)
+invariant-loop-i l = (l.i ≤ l.table.links) × (l.at ≡ kept_start (count l.i (is_kept l.plan))) × (l.out ≡ sets l.initial.out (kept_start 0) (joined (kept_line_at (is_kept l.plan) (item l.table.lows.now) (item l.table.highs.now) (item l.table.costs.now)) l.i)) × (length l.out ≡ length l.initial.out)
 
 abbrev pub decreases-loop-i : goal.decreases-loop-i
-decreases-loop-i l = l.links - l.i
+decreases-loop-i l = l.table.links - l.i

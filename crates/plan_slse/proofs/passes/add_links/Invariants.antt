@@ -9,5 +9,5 @@ use Rattle.plan_slse.proofs.passes.add_links.Given as goal
 
 abbrev pub invariant-loop-k : goal.invariant-loop-k
 invariant-loop-k l =
-    ((probes : ℕ) (costs : List ℕ) → probes ≤ length l.initial.counts → InOrder (of_slices 0 probes l.links l.needs l.lows l.highs costs) l.order → Up probes l.links l.needs l.lows l.highs costs (l.links - l.k) l.initial.plan l.plan l.counts)
-    × ((v : ℕ) → v < length l.initial.counts → item l.counts v ≤ l.links - l.k)
+    ((probes : ℕ) (costs : List ℕ) → probes ≤ length l.initial.counts → InOrder (of_slices 0 probes l.table.links l.table.needs.now l.table.lows.now l.table.highs.now costs) l.order → Up probes l.table.links l.table.needs.now l.table.lows.now l.table.highs.now costs (l.table.links - l.k) l.initial.plan l.plan l.counts)
+    × ((v : ℕ) → v < length l.initial.counts → item l.counts v ≤ l.table.links - l.k)

@@ -16,7 +16,7 @@ add_links-requires c =
     let k = cl.auto.plan in (
       rw z.auto.counts c.requires.0,
       omega arith,
-      λ j l. ap (λ (x : List ℕ). get_or x j 0) cl.ensures ∙ stored_at (λ (i : ℕ). 0) a.links a.plan.now j room l,
+      λ j l. ap (λ (x : List ℕ). get_or x j 0) cl.ensures ∙ stored_at (λ (i : ℕ). 0) a.table.links a.plan.now j room l,
       λ v l. ap (λ (x : List ℕ). get_or x v 0) z.ensures ∙ zeros_at (length a.counts.now) v,
     )
 
@@ -35,8 +35,8 @@ returns c =
     let ad = c.add_links in
     let k = c.clear_counts.auto.counts in
     let k₂ = ad.auto.counts in
-    let room : a.links ≤ length cl.new.plan = omega (arith, cl.auto.plan, c.requires.1) in
+    let room : a.table.links ≤ length cl.new.plan = omega (arith, cl.auto.plan, c.requires.1) in
     λ probes costs wide is.
     let added_is = ad.ensures probes costs (omega (arith, wide, k)) is in
-    kept_bytes probes a.links a.needs.now a.lows.now a.highs.now costs is.0 a.plan.now _ _ _ c.requires.1 cl.ensures added_is.0
-    (c.remove_links.ensures probes costs (omega (arith, wide, k, k₂)) is (λ j l. ap (λ (x : List ℕ). get_or x j 0) added_is.0 ∙ stored_at _ a.links cl.new.plan j room l) added_is.1)
+    kept_bytes probes a.table.links a.table.needs.now a.table.lows.now a.table.highs.now costs is.0 a.plan.now _ _ _ c.requires.1 cl.ensures added_is.0
+    (c.remove_links.ensures probes costs (omega (arith, wide, k, k₂)) is (λ j l. ap (λ (x : List ℕ). get_or x j 0) added_is.0 ∙ stored_at _ a.table.links cl.new.plan j room l) added_is.1)

@@ -11,7 +11,7 @@ use Rattle.plan_slse.proofs.passes.remove_links.Given as goal
 
 abbrev pub invariant-loop-k : goal.invariant-loop-k
 invariant-loop-k l =
-    (probes : ℕ) (costs : List ℕ) → probes ≤ length l.initial.counts → InOrder (of_slices 0 probes l.links l.needs l.lows l.highs costs) l.order
-    → ((j : ℕ) → j < l.links → get_or l.initial.plan j 0 ≡ plan_byte (added (of_slices 0 probes l.links l.needs l.lows l.highs costs) j))
-    → ((v : ℕ) → v < probes → get_or l.initial.counts v 0 ≡ links_at (of_slices 0 probes l.links l.needs l.lows l.highs costs) (added (of_slices 0 probes l.links l.needs l.lows l.highs costs)) v)
-    → Down probes l.links l.needs l.lows l.highs costs l.k l.initial.plan l.plan l.counts
+    (probes : ℕ) (costs : List ℕ) → probes ≤ length l.initial.counts → InOrder (of_slices 0 probes l.table.links l.table.needs.now l.table.lows.now l.table.highs.now costs) l.order
+    → ((j : ℕ) → j < l.table.links → get_or l.initial.plan j 0 ≡ plan_byte (added (of_slices 0 probes l.table.links l.table.needs.now l.table.lows.now l.table.highs.now costs) j))
+    → ((v : ℕ) → v < probes → get_or l.initial.counts v 0 ≡ links_at (of_slices 0 probes l.table.links l.table.needs.now l.table.lows.now l.table.highs.now costs) (added (of_slices 0 probes l.table.links l.table.needs.now l.table.lows.now l.table.highs.now costs)) v)
+    → Down probes l.table.links l.table.needs.now l.table.lows.now l.table.highs.now costs l.k l.initial.plan l.plan l.counts

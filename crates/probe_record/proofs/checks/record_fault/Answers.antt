@@ -17,20 +17,20 @@ returns-then-fault-ne0 c = rw (eq-eqb _ _ c.if-rec-links.false) (or_here _ _ _ c
 pub returns-then-room-ones : goal.returns-then-room-ones
 returns-then-room-ones c =
     let a = c.args in
-    let t : Table = of_slices 0 0 a.links a.needs.now a.lows.now a.highs.now [] in
-    let fine : first (byte_fault t a.probe a.rec.now) a.links ≡ 0 = sym c.bytes_fault-fault.ensures ∙ c.if-fault-ne0.false in
+    let t : Table = of_slices 0 0 a.table.links a.table.needs.now a.table.lows.now a.table.highs.now [] in
+    let fine : first (byte_fault t a.probe a.rec.now) a.table.links ≡ 0 = sym c.bytes_fault-fault.ensures ∙ c.if-fault-ne0.false in
     many_standing t a.probe a.rec.now c.if-rec-links.false fine _ _ c.spare-room.ensures c.ones.ensures.0 c.if-room-ones.true
 
 pub returns-then-room-ones-2 : goal.returns-then-room-ones-2
 returns-then-room-ones-2 c =
     let a = c.args in
-    let t : Table = of_slices 0 0 a.links a.needs.now a.lows.now a.highs.now [] in
-    let fine : first (byte_fault t a.probe a.rec.now) a.links ≡ 0 = sym c.bytes_fault-fault.ensures ∙ c.if-fault-ne0.false in
+    let t : Table = of_slices 0 0 a.table.links a.table.needs.now a.table.lows.now a.table.highs.now [] in
+    let fine : first (byte_fault t a.probe a.rec.now) a.table.links ≡ 0 = sym c.bytes_fault-fault.ensures ∙ c.if-fault-ne0.false in
     many_held t a.probe a.rec.now c.if-rec-links.false fine _ _ c.spare-room.ensures c.ones.ensures.0 c.if-room-ones.false _ c.ones-2.ensures.0 c.if-room-ones-2.true
 
 pub returns : goal.returns
 returns c =
     let a = c.args in
-    let t : Table = of_slices 0 0 a.links a.needs.now a.lows.now a.highs.now [] in
-    let fine : first (byte_fault t a.probe a.rec.now) a.links ≡ 0 = sym c.bytes_fault-fault.ensures ∙ c.if-fault-ne0.false in
+    let t : Table = of_slices 0 0 a.table.links a.table.needs.now a.table.lows.now a.table.highs.now [] in
+    let fine : first (byte_fault t a.probe a.rec.now) a.table.links ≡ 0 = sym c.bytes_fault-fault.ensures ∙ c.if-fault-ne0.false in
     none_over t a.probe a.rec.now c.if-rec-links.false fine _ _ c.spare-room.ensures c.ones.ensures.0 c.if-room-ones.false _ c.ones-2.ensures.0 c.if-room-ones-2.false

@@ -26,7 +26,7 @@ returns-then-out-end c =
     let a = c.args in
     let e = c.end_length.ensures in (
       λ number costs.
-          let x = slices_of number a.probes a.links a.needs.now a.lows.now a.highs.now costs in
+          let x = slices_of number a.table.probes a.table.links a.table.needs.now a.table.lows.now a.table.highs.now costs in
           let n = length_end x a.rec.now a.held a.changed in
           sym (stored_short a.out.now a.at (end_text x a.rec.now a.held a.changed) (omega (arith, c.if-out-end.true))),
       c.cap.ensures ∙ ap capped (omega arith),
@@ -49,7 +49,7 @@ returns c =
     let u = c.put_unclosed-next in
     let e = c.end_length.ensures in (
       λ number costs.
-          let x = slices_of number a.probes a.links a.needs.now a.lows.now a.highs.now costs in
+          let x = slices_of number a.table.probes a.table.links a.table.needs.now a.table.lows.now a.table.highs.now costs in
           let n = length_end x a.rec.now a.held a.changed in
           end_then x a.rec.now a.held a.changed _ a.at _ a.out.now _ _ (c.is_finished-done.ensures number costs) u.ensures.0 u.ensures.1 c.put_last.ensures
           ∙ sym (stored_fits a.out.now a.at (end_text x a.rec.now a.held a.changed) (omega (arith, c.if-out-end.false))),
