@@ -17,6 +17,7 @@ fn add_links(plan: &mut [u8], counts: &mut [u16], table: TableSlices<'_>, order:
         → (plan.new ≡ stored (λ j. plan_byte (added t j)) table.entry.links plan.old)
         × ((v : ℕ) → v < probes → get_or counts.new v 0 ≡ links_at t (added t) v) }
 {
+    let links = table.links as usize;
     for k in (0..links).rev() {
         let i = table::numbers::wide(order[k]);
         super::links::add_link(
@@ -40,6 +41,7 @@ fn remove_links(plan: &mut [u8], counts: &mut [u16], table: TableSlices<'_>, ord
         → ((v : ℕ) → v < probes → get_or counts.old v 0 ≡ links_at t (added t) v)
         → plan.new ≡ stored (λ j. plan_byte (slse t j)) table.entry.links plan.old }
 {
+    let links = table.links as usize;
     for k in 0..links {
         let i = table::numbers::wide(order[k]);
         super::links::remove_link(

@@ -2,7 +2,7 @@
 ghost use Rattle.std.specs.Prelude.{◌≡◌, [], ℕ, ◌+◌, ◌*◌, ◌-◌, ◌<◌, ◌≤◌, length, replicate, get_or};
 ghost use Rattle.range.specs.First.{first};
 ghost use Rattle.range.specs.Lists.{stored};
-ghost use Rattle.table.specs.Table.{item, spare};
+ghost use Rattle.table.specs.Table.{item, of_slices, spare};
 ghost use Rattle.table.specs.Legal.{link_fault, table_fault};
 ghost use Rattle.plan_theory.specs.Plan.{kept, plan_byte};
 ghost use Rattle.plan_turns_search.specs.Record.{WorkingRoom, kept_byte};
@@ -53,16 +53,22 @@ fn clear(work: &mut [u8])
 }
 
 // Each probe's spare.
-fn find_spares(spares: &mut [u16], table: TableSlices<'_>)
-    requires { (table.links ≤ length table.lows.now) × (table.links ≤ length table.highs.now) × (table.links ≤ 65535) × (table.probes ≤ length spares.old) × (table.probes ≤ length table.needs.now)
-        × (first (link_fault table.probes (item table.lows.now) (item table.highs.now)) table.links ≡ 0) }
-    ensures { ((v : ℕ) → get_or spares.new v 0 ≡ spare (table_of (as_slices table.entry)) v) }
+fn find_spares(
+    spares: &mut [u16],
+    probes: usize,
+    links: usize,
+    needs: &[u16],
+    lows: &[u16],
+    highs: &[u16],
+)
+    requires { (links ≤ length lows.now) × (links ≤ length highs.now) × (links ≤ 65535) × (probes ≤ length spares.old) × (probes ≤ length needs.now)
+        × (first (link_fault probes (item lows.now) (item highs.now)) links ≡ 0) }
+    ensures { let t = of_slices 0 probes links needs.now lows.now highs.now [] in
+        ((v : ℕ) → get_or spares.new v 0 ≡ spare t v) }
 {
-    let probes = table.probes as usize;
-    let links = table.links as usize;
     table::degrees::clear_counts(spares);
-    table::degrees::count_degrees(spares, links, table.lows, table.highs);
-    take_needs(spares, probes, table.needs);
+    table::degrees::count_degrees(spares, links, lows, highs);
+    take_needs(spares, probes, needs);
 }
 
 // The plan by turns: 1 for a kept link, 0 for a rested one. Behind the working bytes are the slices that it works in.
@@ -88,8 +94,20 @@ pub fn by_turns(
     let probes = table.probes as usize;
     let links = table.links as usize;
     clear(work);
-    find_spares(spares, table);
-    plan_turns_search::chains::link_up(marks, site, order, half, digits, table, spares);
+    find_spares(spares, probes, links, table.needs, table.lows, table.highs);
+    plan_turns_search::chains::link_up(
+        marks,
+        site,
+        order,
+        half,
+        digits,
+        probes,
+        links,
+        table.lows,
+        table.highs,
+        table.costs,
+        spares,
+    );
     super::turns::take_turns(work, marks, site, probes);
     write_plan(plan, work, links);
     clear(work);

@@ -9,7 +9,6 @@ use super::directions::{
     COST, HELD_CURSOR, LINKS, OFFER_CURSOR, PROBES, TARGET, entry, of_probe, set_of_direction,
     set_of_probe, store,
 };
-use table::TableSlices;
 
 fn first_mark(j: usize) -> u16
     ensures { result ≡ first_mark j }
@@ -87,18 +86,12 @@ fn put_link(site: &mut [u16], i: usize, low: usize, high: usize, cost: usize)
     set_of_direction(site, 2 * i + 1, COST, cost);
 }
 
-fn put_links(site: &mut [u16], table: TableSlices<'_>)
-    requires { (table.links ≤ 2048) × (table.links ≤ length table.lows.now) × (table.links ≤ length table.highs.now) × (table.links ≤ length table.costs.now) × (8 * table.links + 2 ≤ length site.old) }
-    ensures { LinksPut table.entry.links table.entry.lows.now table.entry.highs.now table.entry.costs.now site.old site.new }
+fn put_links(site: &mut [u16], links: usize, lows: &[u16], highs: &[u16], costs: &[u16])
+    requires { (links ≤ 2048) × (links ≤ length lows.now) × (links ≤ length highs.now) × (links ≤ length costs.now) × (8 * links + 2 ≤ length site.old) }
+    ensures { LinksPut links lows.now highs.now costs.now site.old site.new }
 {
     for i in 0..links {
-        put_link(
-            site,
-            i,
-            entry(table.lows, i),
-            entry(table.highs, i),
-            entry(table.costs, i),
-        );
+        put_link(site, i, entry(lows, i), entry(highs, i), entry(costs, i));
     }
 }
 
@@ -113,16 +106,22 @@ fn put_spares(site: &mut [u16], probes: usize, links: usize, spares: &[u16])
 }
 
 // Stores all but the chains.
-fn put_site(site: &mut [u16], table: TableSlices<'_>, spares: &[u16])
-    requires { (table.links ≤ 2048) × (table.probes ≤ 256) × (table.links ≤ length table.lows.now) × (table.links ≤ length table.highs.now) × (table.links ≤ length table.costs.now) × (table.probes ≤ length spares.now)
-        × (8 * table.links + table.probes + 2 ≤ length site.old) }
+fn put_site(
+    site: &mut [u16],
+    probes: usize,
+    links: usize,
+    lows: &[u16],
+    highs: &[u16],
+    costs: &[u16],
+    spares: &[u16],
+)
+    requires { (links ≤ 2048) × (probes ≤ 256) × (links ≤ length lows.now) × (links ≤ length highs.now) × (links ≤ length costs.now) × (probes ≤ length spares.now)
+        × (8 * links + probes + 2 ≤ length site.old) }
     ensures { let x = site.new in
-        SiteOfLinks table.entry.probes table.entry.links table.entry.lows.now table.entry.highs.now table.entry.costs.now spares.now x
-        × ((d k : ℕ) → 2 ≤ k → k < 4 → d < 2 * table.entry.links → of_direction x d k ≡ of_direction site.old d k) }
+        SiteOfLinks probes links lows.now highs.now costs.now spares.now x
+        × ((d k : ℕ) → 2 ≤ k → k < 4 → d < 2 * links → of_direction x d k ≡ of_direction site.old d k) }
 {
-    let probes = table.probes as usize;
-    let links = table.links as usize;
-    put_links(site, table);
+    put_links(site, links, lows, highs, costs);
     put_spares(site, probes, links, spares);
     store(site, PROBES, probes);
     store(site, LINKS, links);
@@ -135,36 +134,23 @@ pub fn link_up(
     order: &mut [u16],
     half: &mut [u16],
     digits: &mut [u16],
-    table: TableSlices<'_>,
+    probes: usize,
+    links: usize,
+    lows: &[u16],
+    highs: &[u16],
+    costs: &[u16],
     spares: &[u16],
 )
-    requires { (table.links ≤ 2048) × (table.probes ≤ 256) × (table.links ≤ length table.lows.now) × (table.links ≤ length table.highs.now) × (table.links ≤ length table.costs.now)
-        × WorkingRoom table.probes table.links (length spares.now) (length marks.old) (length site.old) (length order.old) (length half.old) (length digits.old)
-        × ((i : ℕ) → i < table.links → (item table.lows.now i < item table.highs.now i) × (item table.highs.now i < table.probes)) }
+    requires { (links ≤ 2048) × (probes ≤ 256) × (links ≤ length lows.now) × (links ≤ length highs.now) × (links ≤ length costs.now)
+        × WorkingRoom probes links (length spares.now) (length marks.old) (length site.old) (length order.old) (length half.old) (length digits.old)
+        × ((i : ℕ) → i < links → (item lows.now i < item highs.now i) × (item highs.now i < probes)) }
     ensures { let x = site.new in
-        SiteInSlice x × SiteOfLinks table.entry.probes table.entry.links table.entry.lows.now table.entry.highs.now table.entry.costs.now spares.now x × Started x marks.new }
+        SiteInSlice x × SiteOfLinks probes links lows.now highs.now costs.now spares.now x × Started x marks.new }
 {
-    let links = table.links as usize;
     start_marks(marks);
-    plan_order::sorting::order_links(order, half, digits, links, table.costs);
-    chain_links(
-        marks,
-        site,
-        OFFER_CURSOR,
-        links,
-        table.lows,
-        table.highs,
-        order,
-    );
+    plan_order::sorting::order_links(order, half, digits, links, costs);
+    chain_links(marks, site, OFFER_CURSOR, links, lows, highs, order);
     turn_round(half, order, links);
-    chain_links(
-        marks,
-        site,
-        HELD_CURSOR,
-        links,
-        table.lows,
-        table.highs,
-        half,
-    );
-    put_site(site, table, spares);
+    chain_links(marks, site, HELD_CURSOR, links, lows, highs, half);
+    put_site(site, probes, links, lows, highs, costs, spares);
 }

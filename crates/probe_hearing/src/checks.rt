@@ -1,12 +1,10 @@
 // The faults of a bag, in their order.
 ghost use Rattle.std.specs.Prelude.{◌≡◌, [], map, ◌≤◌, length};
 ghost use Rattle.std.proofs.lemmas.List.Edits.{sets};
+ghost use Rattle.table.specs.Table.{of_slices};
 ghost use Rattle.table_links.specs.RisingSlices.{RisingSlices};
 ghost use Rattle.probe_bags.specs.Bag.{frames_of, events_of, bag_fault};
 ghost use Rattle.probe_hearing.specs.PackedEvents.{packed_event};
-ghost use Rattle.table.specs.Slices.{as_slices, table_of};
-
-use table::TableSlices;
 
 // A bag's fault, 0 for none, and where there is none how many frames it has.
 #[derive(Clone, Copy)]
@@ -18,19 +16,22 @@ pub struct Checked {
 // `state` is the fault of the table and of the record. Where there is no fault, `said` has what each frame says.
 pub fn check_bag(
     state: u8,
-    table: TableSlices<'_>,
+    number: u16,
+    probes: usize,
+    links: usize,
+    lows: &[u16],
+    highs: &[u16],
     probe: usize,
     bag: &[u8],
     free: usize,
     said: &mut [u16],
 ) -> Checked
-    requires { (state ≡ 0 → RisingSlices table.links table.lows.now table.highs.now × (table.links ≤ 2048)) × (length said.old ≡ 64) }
-    ensures { let t = table_of (as_slices table.entry) in
+    requires { (state ≡ 0 → RisingSlices links lows.now highs.now × (links ≤ 2048)) × (length said.old ≡ 64) }
+    ensures { let t = of_slices number probes links [] lows.now highs.now [] in
         let ls = frames_of bag.now in
         (result.fault ≡ bag_fault state t probe ls free)
         × (result.fault ≡ 0 → (result.count ≡ length ls) × (said.new ≡ sets said.old 0 (map packed_event (events_of t ls)))) }
 {
-    let probes = table.probes as usize;
     if state != 0 {
         return refused(state);
     }
@@ -38,7 +39,7 @@ pub fn check_bag(
     if 64 < count {
         return refused(32);
     }
-    let fault = super::frames::read_frames(table, probe, bag, said);
+    let fault = super::frames::read_frames(number, links, lows, highs, probe, bag, said);
     if fault != 0 {
         return refused(fault);
     }

@@ -50,7 +50,11 @@ pub fn tell_bag(
     let mut said = [0u16; 64];
     let checked = checks::check_bag(
         state,
-        table,
+        table.number,
+        table.probes as usize,
+        table.links as usize,
+        table.lows,
+        table.highs,
         probe as usize,
         bag,
         wake_log::storing::free(used, room),

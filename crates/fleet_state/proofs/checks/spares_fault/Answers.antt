@@ -6,6 +6,7 @@ use lib.ListN.{length}
 use Rattle.range.proofs.Faults.{first_same}
 use Rattle.range.proofs.Lists.{zeros_at}
 use Rattle.table.specs.Table.{Table, of_slices}
+use Rattle.table.specs.Slices.{as_slices, table_of}
 use Rattle.table.proofs.LegalLaws.{legal_table}
 use Rattle.fleet_state.proofs.Legal.{fits_ends}
 use Rattle.fleet_state.proofs.Spares.{over_counted}
@@ -48,5 +49,5 @@ over_spare_fault-requires c =
 pub returns : goal.returns
 returns c =
     let a = c.args in
-    let t : Table = of_slices 0 a.table.probes a.table.links a.table.needs.now a.table.lows.now a.table.highs.now [] in
+    let t : Table = table_of (as_slices a.table) in
     (c.over_spare_fault.ensures ∙ first_same _ _ a.table.probes (λ v l. over_counted t a.rec.now v _ _ _ (c.count_degrees.ensures v) (c.count_bytes.ensures v) (c.count_bytes-2.ensures v)), c.count_degrees.ensures)

@@ -1,7 +1,6 @@
 use mathlib.Core.Path.{sym, ◌∙◌}
 use Rattle.range.proofs.Faults.{or_here, or_next}
 use Rattle.table.proofs.Slices.{legal_slices}
-use Rattle.fleet_theory.proofs.Own.{fleet_same}
 use Rattle.fleet_state.proofs.Legal.{fits}
 use Rattle.table.specs.Slices.{as_slices}
 use Rattle.fleet_state.proofs.checks.state_fault.Goals as goal
@@ -18,4 +17,4 @@ pub returns : goal.returns
 returns c =
     let a = c.args in
     let told = c.fleet_fault.ensures in
-    (or_next _ _ _ _ c.slice_fault-fault.ensures c.if-fault-ne0.false (told.0 ∙ fleet_same a.table.number a.table.probes a.table.links a.table.needs.now a.table.lows.now a.table.highs.now a.table.costs.now a.rec.now), told.1)
+    (or_next _ _ _ _ c.slice_fault-fault.ensures c.if-fault-ne0.false told.0, told.1)

@@ -15,10 +15,10 @@ count_degrees-requires c =
     let a = c.args in
     let z = c.clear_counts in
     let n = z.auto.counts in
-    (search rules, search rules, search rules, ends_within a.table.probes a.table.links (length z.new.counts) (item a.table.lows.now) (item a.table.highs.now) c.requires.5 (omega (arith, c.requires.3)), λ v. ap (λ (x : List ℕ). item x v) z.ensures ∙ zeros_at (length a.spares.now) v)
+    (search rules, search rules, search rules, ends_within a.probes a.links (length z.new.counts) (item a.lows.now) (item a.highs.now) c.requires.5 (omega (arith, c.requires.3)), λ v. ap (λ (x : List ℕ). item x v) z.ensures ∙ zeros_at (length a.spares.now) v)
 
 pub returns : goal.returns
 returns c =
     let a = c.args in
     let n = c.count_degrees in
-    spares_right a.table.probes a.table.links a.table.needs.now a.table.lows.now a.table.highs.now n.new.counts _ (links_ends a.table.probes a.table.links (item a.table.lows.now) (item a.table.highs.now) c.requires.5) n.ensures (omega (arith, n.auto.counts, c.clear_counts.auto.counts, c.requires.3)) c.take_needs.ensures
+    spares_right a.probes a.links a.needs.now a.lows.now a.highs.now n.new.counts _ (links_ends a.probes a.links (item a.lows.now) (item a.highs.now) c.requires.5) n.ensures (omega (arith, n.auto.counts, c.clear_counts.auto.counts, c.requires.3)) c.take_needs.ensures

@@ -49,7 +49,7 @@ chain_links-requires-2 c =
       omega (arith, h.auto.to, o.auto.half, p.5.in_half),
       omega (arith, d.auto.site, p.5.in_site),
       λ i l. ((p.6 i l).0, omega (arith, (p.6 i l).1)),
-      round_below a.table.links a.table.costs.now p.0 (λ i. (c.type_inv.costs i).fits) o.new.order o.ensures o.new.half h.new.to (omega (arith, o.auto.half, p.5.in_half)) h.ensures,
+      round_below a.links a.costs.now p.0 (λ i. (c.type_inv.costs i).fits) o.new.order o.ensures o.new.half h.new.to (omega (arith, o.auto.half, p.5.in_half)) h.ensures,
       λ v l. let e = first_marks a.marks.now m.new.marks m.ensures v 3 (omega arith) (omega arith) in let f = d.ensures.1 v 3 (omega arith) (λ z. omega arith) in omega arith,
     )
 
@@ -92,14 +92,14 @@ returns c =
     let s = c.put_site in
     let n : length m.new.marks ≡ length a.marks.now = m.auto.marks in
     let k : length d.new.marks ≡ length m.new.marks = d.auto.marks in
-    let cheap : (i : ℕ) → item a.table.costs.now i < 65536 = λ i. (c.type_inv.costs i).fits in
-    let half_room : a.table.links ≤ length o.new.half = omega (arith, o.auto.half, p.5.in_half) in
-    let wide : a.table.probes ≤ length m.new.marks / 4 = omega (arith, p.5.in_marks) in
+    let cheap : (i : ℕ) → item a.costs.now i < 65536 = λ i. (c.type_inv.costs i).fits in
+    let half_room : a.links ≤ length o.new.half = omega (arith, o.auto.half, p.5.in_half) in
+    let wide : a.probes ≤ length m.new.marks / 4 = omega (arith, p.5.in_marks) in
     let up = rw (ap (λ (x : ℕ). x / 4) k) at u.ensures.0 in
-    let stay : (x : ℕ) → x < 2 * a.table.links → of_direction s.new.site x 2 ≡ of_direction d.new.site x 2 = λ x l. s.ensures.1 x 2 (omega arith) (omega arith) l ∙ u.ensures.2 x 2 (omega arith) (λ z. omega arith) in
-    let stay-up : (x : ℕ) → x < 2 * a.table.links → of_direction s.new.site x 3 ≡ of_direction u.new.site x 3 = λ x l. s.ensures.1 x 3 (omega arith) (omega arith) l in (
-      site_built a.table.links a.table.costs.now p.0 cheap o.new.order o.ensures o.new.half h.new.to half_room h.ensures a.table.probes a.table.lows.now a.table.highs.now a.spares.now s.new.site s.ensures.0 p.6 (length m.new.marks / 4) d.new.marks u.new.marks d.new.site u.new.site wide d.ensures.0 up stay stay-up p.1 (omega (arith, s.auto.site, u.auto.site, d.auto.site, p.5.in_site)),
+    let stay : (x : ℕ) → x < 2 * a.links → of_direction s.new.site x 2 ≡ of_direction d.new.site x 2 = λ x l. s.ensures.1 x 2 (omega arith) (omega arith) l ∙ u.ensures.2 x 2 (omega arith) (λ z. omega arith) in
+    let stay-up : (x : ℕ) → x < 2 * a.links → of_direction s.new.site x 3 ≡ of_direction u.new.site x 3 = λ x l. s.ensures.1 x 3 (omega arith) (omega arith) l in (
+      site_built a.links a.costs.now p.0 cheap o.new.order o.ensures o.new.half h.new.to half_room h.ensures a.probes a.lows.now a.highs.now a.spares.now s.new.site s.ensures.0 p.6 (length m.new.marks / 4) d.new.marks u.new.marks d.new.site u.new.site wide d.ensures.0 up stay stay-up p.1 (omega (arith, s.auto.site, u.auto.site, d.auto.site, p.5.in_site)),
       s.ensures.0,
-      marks_built a.table.links a.table.costs.now p.0 cheap o.new.order o.ensures o.new.half h.new.to half_room h.ensures a.table.probes a.table.lows.now a.table.highs.now a.spares.now s.new.site s.ensures.0 p.6 (length m.new.marks / 4) d.new.marks u.new.marks d.new.site u.new.site wide d.ensures.0 up stay stay-up
+      marks_built a.links a.costs.now p.0 cheap o.new.order o.ensures o.new.half h.new.to half_room h.ensures a.probes a.lows.now a.highs.now a.spares.now s.new.site s.ensures.0 p.6 (length m.new.marks / 4) d.new.marks u.new.marks d.new.site u.new.site wide d.ensures.0 up stay stay-up
           (λ v l. (u.ensures.1 v 0 (omega arith) (λ z. omega arith) ∙ d.ensures.1 v 0 (omega arith) (λ z. omega arith) ∙ first_marks a.marks.now m.new.marks m.ensures v 0 (omega arith) (omega arith), u.ensures.1 v 1 (omega arith) (λ z. omega arith) ∙ d.ensures.1 v 1 (omega arith) (λ z. omega arith) ∙ first_marks a.marks.now m.new.marks m.ensures v 1 (omega arith) (omega arith))) (λ v. u.ensures.1 v 2 (omega arith) (λ z. omega arith)),
     )

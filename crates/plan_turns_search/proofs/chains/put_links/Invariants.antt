@@ -3,4 +3,4 @@ use Rattle.plan_turns_search.specs.Record.{LinksPut}
 use Rattle.plan_turns_search.proofs.chains.put_links.Given as goal
 
 abbrev pub invariant-loop-i : goal.invariant-loop-i
-invariant-loop-i l = LinksPut l.i l.table.lows.now l.table.highs.now l.table.costs.now l.initial.site l.site
+invariant-loop-i l = LinksPut l.i l.lows l.highs l.costs l.initial.site l.site

@@ -13,6 +13,6 @@ returns c =
     let n = s₁.auto.site in
     let m = s₂.auto.site in
     let room = p.6 in (
-      site_of_links a.table.probes a.table.links a.table.lows.now a.table.highs.now a.table.costs.now a.spares.now a.site.now s₁.new.site s₂.new.site s₃.new.numbers s₄.new.numbers (omega arith) s₃.auto.numbers s₁.ensures s₂.ensures s₃.ensures s₄.ensures,
-      chains_put a.table.probes a.table.links a.table.lows.now a.table.highs.now a.table.costs.now a.spares.now a.site.now s₁.new.site s₂.new.site s₃.new.numbers s₄.new.numbers (omega arith) s₃.auto.numbers s₁.ensures s₂.ensures s₃.ensures s₄.ensures,
+      site_of_links a.probes a.links a.lows.now a.highs.now a.costs.now a.spares.now a.site.now s₁.new.site s₂.new.site s₃.new.numbers s₄.new.numbers (omega arith) s₃.auto.numbers s₁.ensures s₂.ensures s₃.ensures s₄.ensures,
+      chains_put a.probes a.links a.lows.now a.highs.now a.costs.now a.spares.now a.site.now s₁.new.site s₂.new.site s₃.new.numbers s₄.new.numbers (omega arith) s₃.auto.numbers s₁.ensures s₂.ensures s₃.ensures s₄.ensures,
     )

@@ -39,7 +39,7 @@ pub returns-then-heard-ne0 : goal.returns-then-heard-ne0
 returns-then-heard-ne0 c =
     let test : c.loop-at.at < length c.args.bag.now = c.loop-at-test.true in
     let line : List ℕ = line_bytes c.args.bag.now c.loop-at.at in
-    let table : Table = let a = c.args in of_slices a.table.number 0 a.table.links [] a.table.lows.now a.table.highs.now [] in
+    let table : Table = let a = c.args in of_slices a.number 0 a.links [] a.lows.now a.highs.now [] in
     let says : HearsFrame table c.args.probe line c.check_frame-heard.result = (
     let a = c.args in
     let k = c.loop-at.at in
@@ -54,7 +54,7 @@ pub packed_event-requires : goal.packed_event-requires
 packed_event-requires c =
     let test : c.loop-at.at < length c.args.bag.now = c.loop-at-test.true in
     let line : List ℕ = line_bytes c.args.bag.now c.loop-at.at in
-    let table : Table = let a = c.args in of_slices a.table.number 0 a.table.links [] a.table.lows.now a.table.highs.now [] in
+    let table : Table = let a = c.args in of_slices a.number 0 a.links [] a.lows.now a.highs.now [] in
     let says : HearsFrame table c.args.probe line c.check_frame-heard.result = (
     let a = c.args in
     let k = c.loop-at.at in
@@ -64,12 +64,12 @@ packed_event-requires c =
     let a = c.args in
     let z = c.if-heard-ne0.false in
     let none = sym says.0 ∙ z in
-    rw (says.1 z) (event_wider a.table.links 2048 (heard_of table (frame_of line)) c.requires.1 (heard_within table a.probe line none))
+    rw (says.1 z) (event_wider a.links 2048 (heard_of table (frame_of line)) c.requires.1 (heard_within table a.probe line none))
 
 pub offset_bounds-said-n : goal.offset_bounds-said-n
 offset_bounds-said-n c =
     let test : c.loop-at.at < length c.args.bag.now = c.loop-at-test.true in
-    let table : Table = let a = c.args in of_slices a.table.number 0 a.table.links [] a.table.lows.now a.table.highs.now [] in
+    let table : Table = let a = c.args in of_slices a.number 0 a.links [] a.lows.now a.highs.now [] in
     let room_for : length (frames_of c.args.bag.now) ≤ length c.args.said.now = omega (arith, c.requires.2, c.requires.3) in
     let l = c.loop-at in
     let a = c.args in
@@ -79,7 +79,7 @@ offset_bounds-said-n c =
 pub bounds-said-n : goal.bounds-said-n
 bounds-said-n c =
     let test : c.loop-at.at < length c.args.bag.now = c.loop-at-test.true in
-    let table : Table = let a = c.args in of_slices a.table.number 0 a.table.links [] a.table.lows.now a.table.highs.now [] in
+    let table : Table = let a = c.args in of_slices a.number 0 a.links [] a.lows.now a.highs.now [] in
     let room_for : length (frames_of c.args.bag.now) ≤ length c.args.said.now = omega (arith, c.requires.2, c.requires.3) in
     let l = c.loop-at in
     let a = c.args in
@@ -88,7 +88,7 @@ bounds-said-n c =
 pub overflow_add-n : goal.overflow_add-n
 overflow_add-n c =
     let test : c.loop-at.at < length c.args.bag.now = c.loop-at-test.true in
-    let table : Table = let a = c.args in of_slices a.table.number 0 a.table.links [] a.table.lows.now a.table.highs.now [] in
+    let table : Table = let a = c.args in of_slices a.number 0 a.links [] a.lows.now a.highs.now [] in
     let room_for : length (frames_of c.args.bag.now) ≤ length c.args.said.now = omega (arith, c.requires.2, c.requires.3) in
     let l = c.loop-at in
     let a = c.args in
@@ -104,7 +104,7 @@ pub loop-at-preserved : goal.loop-at-preserved
 loop-at-preserved c =
     let test : c.loop-at.at < length c.args.bag.now = c.loop-at-test.true in
     let line : List ℕ = line_bytes c.args.bag.now c.loop-at.at in
-    let table : Table = let a = c.args in of_slices a.table.number 0 a.table.links [] a.table.lows.now a.table.highs.now [] in
+    let table : Table = let a = c.args in of_slices a.number 0 a.links [] a.lows.now a.highs.now [] in
     let says : HearsFrame table c.args.probe line c.check_frame-heard.result = (
     let a = c.args in
     let k = c.loop-at.at in
@@ -124,7 +124,7 @@ pub returns : goal.returns
 returns c =
     let l = c.loop-at in
     let a = c.args in
-    let t : Table = of_slices a.table.number 0 a.table.links [] a.table.lows.now a.table.highs.now [] in (
+    let t : Table = of_slices a.number 0 a.links [] a.lows.now a.highs.now [] in (
       sym (read_fault_lem t a.probe a.bag.now a.said.now l.said l.n l.at l.invariant c.loop-at-test.false),
       (λ z. read_said t a.probe a.bag.now a.said.now l.said l.n l.at l.invariant c.loop-at-test.false),
     )

@@ -20,7 +20,7 @@ use Rattle.probe_hearing.proofs.Reading.{ReadSoFar, read_none, read_room, read_b
 use Rattle.probe_hearing.proofs.frames.read_frames.Given as goal
 
 abbrev pub invariant-loop-at : goal.invariant-loop-at
-invariant-loop-at l = ReadSoFar (of_slices l.table.number 0 l.table.links [] l.table.lows.now l.table.highs.now []) l.probe l.bag l.initial.said l.said l.n l.at
+invariant-loop-at l = ReadSoFar (of_slices l.number 0 l.links [] l.lows l.highs []) l.probe l.bag l.initial.said l.said l.n l.at
 
 abbrev pub decreases-loop-at : goal.decreases-loop-at
 decreases-loop-at l = length l.bag - l.at
