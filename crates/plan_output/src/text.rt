@@ -5,7 +5,7 @@ ghost use Rattle.output.specs.Output.{output_fault, Prints};
 ghost use Rattle.plan_output.specs.Output.{plan_text};
 
 use output::Output;
-use table::{CLOSING_BYTES, TableSlices, TableSlices};
+use table::{CLOSING_BYTES, TableSlices};
 
 // Prints the plan of the legal table in these slices. It works in `plan`, `order`, `half`, `digits` and `degrees`.
 pub fn print_plan(

@@ -53,5 +53,5 @@ returns c =
           let n = length_end x a.rec.now a.held a.changed in
           end_then x a.rec.now a.held a.changed _ a.at _ a.out.now _ _ (c.is_finished-done.ensures number costs) u.ensures.0 u.ensures.1 c.put_last.ensures
           ∙ sym (stored_fits a.out.now a.at (end_text x a.rec.now a.held a.changed) (omega (arith, c.if-out-end.false))),
-      sym (capped_below (a.at + cond (eqb a.held 0) 11 16) (omega (arith, c.if-out-end.false, c.well_formed.1.1.1.1.1.1.1.1.1.0)) ∙ omega arith),
+      sym (capped_below (a.at + cond (eqb a.held 0) 11 16) (omega (arith, c.if-out-end.false, c.well_formed.1.1.1.1.1.0)) ∙ omega arith),
     )
