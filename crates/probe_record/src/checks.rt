@@ -35,13 +35,11 @@ fn bytes_fault(rec: &[u8], links: usize, lows: &[u16], highs: &[u16], probe: usi
     requires { (links ≤ length lows.now) × (links ≤ length highs.now) × (2 * links ≤ length rec.now) }
     ensures { result ≡ first (byte_fault (of_slices 0 0 0 [] lows.now highs.now []) probe rec.now) links }
 {
-    let mut i = 0;
-    while i < links {
+    for i in 0..links {
         let fault = byte_fault(rec, lows, highs, probe, i);
         if fault != 0 {
             return fault;
         }
-        i += 1;
     }
     0
 }

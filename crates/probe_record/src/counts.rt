@@ -9,14 +9,10 @@ pub fn ones(rec: &[u8], links: usize, at: usize) -> usize
     ensures { (result ≡ count links (λ i. eqb (item rec.now (2 * i + at)) 1)) × (result ≤ links) }
 {
     let mut n = 0;
-    let mut i = 0;
-    while i < links {
-        let k = i;
-        i += 1;
-        if rec[2 * k + at] != 1 {
-            continue;
+    for i in 0..links {
+        if rec[2 * i + at] == 1 {
+            n += 1;
         }
-        n += 1;
     }
     n
 }
