@@ -42,8 +42,7 @@ pub fn put_kept(out: &mut [u8], plan: &[u8], table: TableSlices<'_>)
 {
     let links = table.links as usize;
     let mut at = super::starts::kept_start(0);
-    let mut i = 0;
-    while i < links {
+    for i in 0..links {
         at = put_link(
             out,
             at,
@@ -52,6 +51,5 @@ pub fn put_kept(out: &mut [u8], plan: &[u8], table: TableSlices<'_>)
             table.highs[i],
             table.costs[i],
         );
-        i += 1;
     }
 }

@@ -21,12 +21,10 @@ pub fn short_count(probes: usize, needs: &[u16], degrees: &[u16]) -> u32
     ensures { result ≡ count probes (λ v. ltb (item degrees.now v) (item needs.now v)) }
 {
     let mut n: u32 = 0;
-    let mut v = 0;
-    while v < probes {
+    for v in 0..probes {
         if is_short(degrees[v], needs[v]) {
             n += 1;
         }
-        v += 1;
     }
     n
 }
@@ -54,9 +52,7 @@ pub fn put_shorts(out: &mut [u8], start: usize, probes: usize, needs: &[u16], de
         (joined (λ v. short_line (ltb (item degrees.now v) (item needs.now v)) v (item needs.now v - item degrees.now v)) probes) }
 {
     let mut at = start;
-    let mut v = 0;
-    while v < probes {
+    for v in 0..probes {
         at = put_short(out, at, v as u32, degrees[v], needs[v]);
-        v += 1;
     }
 }

@@ -1,6 +1,5 @@
-use borrow.Author.Rules.{rules}
 use Prim.Native.Nat.{ℕ, ◌+◌}
-use mathlib.Core.Path.{◌≡◌, refl, ◌∙◌}
+use mathlib.Core.Path.{refl}
 use native.Mathlib.Omega.{arith}
 use Rattle.range.specs.Sum.{sum}
 use Rattle.range.specs.Lists.{joined}
@@ -13,16 +12,16 @@ use Rattle.plan_lines.proofs.kept_lines.put_kept.Goals as goal
 
 pub loop-i-init : goal.loop-i-init
 unfolding joined sum
-loop-i-init c = (search rules, c.kept_start-at.ensures, refl, refl)
+loop-i-init c = (c.kept_start-at.ensures, refl)
 
 pub put_link-at-requires : goal.put_link-at-requires
 put_link-at-requires c =
     let l = c.loop-i in
     let a = c.args in
     let n = weigh_next l.i (is_kept a.plan.now) (λ (j : ℕ). 1) in
-    let m = count_part (is_kept a.plan.now) (l.i + 1) a.table.links (omega (arith, c.loop-i-test.true)) in
+    let m = count_part (is_kept a.plan.now) (l.i + 1) a.table.links (omega arith) in
     let k = length_kept_line (is_kept a.plan.now l.i) (item a.table.lows.now l.i) (item a.table.highs.now l.i) (item a.table.costs.now l.i) in
-    omega (arith, l.invariant.1, l.invariant.3, c.requires.0)
+    omega (arith, l.invariant.0, c.requires.0)
 
 pub loop-i-preserved : goal.loop-i-preserved
 loop-i-preserved c =
@@ -31,12 +30,4 @@ loop-i-preserved c =
     let e = c.put_link-at.ensures in
     let n = weigh_next l.i (is_kept a.plan.now) (λ (j : ℕ). 1) in
     let k = length_kept_line (is_kept a.plan.now l.i) (item a.table.lows.now l.i) (item a.table.highs.now l.i) (item a.table.costs.now l.i) in
-    (search rules, omega (arith, e.1, l.invariant.1), lines_then (is_kept a.plan.now) (kept_line_at (is_kept a.plan.now) (item a.table.lows.now) (item a.table.highs.now) (item a.table.costs.now)) 13 (λ j. length_kept_line (is_kept a.plan.now j) (item a.table.lows.now j) (item a.table.highs.now j) (item a.table.costs.now j)) l.i (kept_start 0) l.at a.out.now l.out _ l.invariant.2 (omega (arith, l.invariant.1)) e.0, c.put_link-at.auto.out ∙ l.invariant.3)
-
-pub shape_of-out : goal.shape_of-out
-shape_of-out c = c.loop-i.invariant.3
-
-pub returns : goal.returns
-returns c =
-    let e : c.loop-i.i ≡ c.args.table.links = omega arith in
-    rw (← e) c.loop-i.invariant.2
+    (omega (arith, e.1, l.invariant.0), lines_then (is_kept a.plan.now) (kept_line_at (is_kept a.plan.now) (item a.table.lows.now) (item a.table.highs.now) (item a.table.costs.now)) 13 (λ j. length_kept_line (is_kept a.plan.now j) (item a.table.lows.now j) (item a.table.highs.now j) (item a.table.costs.now j)) l.i (kept_start 0) l.at a.out.now l.out _ l.invariant.1 (omega (arith, l.invariant.0)) e.0)

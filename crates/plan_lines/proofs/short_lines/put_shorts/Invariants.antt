@@ -1,8 +1,7 @@
--- Invariant: the lines of the short probes before v are stored, up to `at`. Measure: the probes that are left.
-use Prim.Native.Nat.{◌+◌, ◌-◌, ◌*◌, ◌≤◌}
+-- Invariant: the lines of the short probes before v are stored, up to `at`.
+use Prim.Native.Nat.{◌+◌, ◌*◌}
 use mathlib.Core.Path.{◌≡◌}
 use lib.Dec.{ltb}
-use lib.ListN.{length}
 use lib.Seq.{sets}
 use Rattle.range.specs.Sum.{count}
 use Rattle.range.specs.Lists.{joined}
@@ -11,7 +10,4 @@ use Rattle.plan_lines.proofs.Lengths.{short_line_at}
 use Rattle.plan_lines.proofs.short_lines.put_shorts.Given as goal
 
 abbrev pub invariant-loop-v : goal.invariant-loop-v
-invariant-loop-v l = (l.v ≤ l.probes) × (l.at ≡ l.start + 9 * count l.v (λ w. ltb (item l.degrees w) (item l.needs w))) × (l.out ≡ sets l.initial.out l.start (joined (short_line_at (item l.degrees) (item l.needs)) l.v)) × (length l.out ≡ length l.initial.out)
-
-abbrev pub decreases-loop-v : goal.decreases-loop-v
-decreases-loop-v l = l.probes - l.v
+invariant-loop-v l = (l.at ≡ l.start + 9 * count l.v (λ w. ltb (item l.degrees w) (item l.needs w))) × (l.out ≡ sets l.initial.out l.start (joined (short_line_at (item l.degrees) (item l.needs)) l.v))
