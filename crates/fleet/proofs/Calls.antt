@@ -32,7 +32,7 @@ use Rattle.fleet_theory.specs.Fleet.{own, marks, fleet_fault, restarts, of_one_p
 use Rattle.fleet.specs.declared.Finishing.{Finishing}
 use Rattle.fleet.specs.declared.Finishing.TheVariants as finishing
 use Rattle.fleet.specs.Answers.{Handled, finishing_reply}
-use Rattle.fleet_theory.proofs.Own.{own_same, marks_same, fleet_same}
+use Rattle.fleet_theory.proofs.Own.{own_same, marks_same}
 use Rattle.fleet_theory.proofs.Wipe.{wiped_same}
 
 refused_answer : (fault n : ℕ) (vs : List ℕ) → n ≡ fault → (n ≡ 0 → ⊥) → answer_reply (Refused n) ≡ reply_of fault vs

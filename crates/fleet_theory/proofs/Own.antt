@@ -244,8 +244,3 @@ pub marks_same : (number probes links : ℕ) (needs lows highs costs : List ℕ)
     → marks (of_slices 0 0 links [] lows highs []) p r ≡ marks (of_slices number probes links needs lows highs costs) p r
 unfolding marks
 marks_same number probes links needs lows highs costs p r = refl
-
-pub fleet_same : (number probes links : ℕ) (needs lows highs costs : List ℕ) (r : List ℕ)
-    → fleet_fault (of_slices 0 probes links needs lows highs []) r ≡ fleet_fault (of_slices number probes links needs lows highs costs) r
-unfolding own
-fleet_same number probes links needs lows highs costs r = refl

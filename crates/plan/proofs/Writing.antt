@@ -34,12 +34,6 @@ plan_writes input = record { writes = whole; plan = λ written w e. rw (whole wr
 
 -- the program's slice holds every output, so the text is printed and no refusal occurs
 module _ (s : List ℕ) (r : Output) (out out' : List ℕ) (long : 28950 ≤ length out) (p : PrintsText 256 2048 s r out out') where
-  pub print_done : (n : ℕ) → r ≡ Length n → Prints 0 (output_of 256 2048 s) (Length n) out out'
-  print_done n e =
-      let k = most 256 2048 s in
-      let q = rw (long_enough (length out) (output_of 256 2048 s) (omega arith)) at p in
-      record { answer = ap output_reply (sym e) ∙ q.answer; out = q.out }
-
   pub never_refused : (m : ℕ) → r ≡ Refused m → ⊥
   never_refused m e =
       let a = sym e ∙ always_printed 256 2048 s r out out' long p in

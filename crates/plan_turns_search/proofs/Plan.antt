@@ -96,9 +96,6 @@ module _ (number probes links : ℕ) (needs lows highs costs : List ℕ) (legal 
   pub small : (probes ≤ 256) × (links ≤ 2048)
   small = (good.size.few, good.size.within)
 
-  pub no_fault : first (link_fault probes (item lows) (item highs)) links ≡ 0
-  no_fault = good.links_pass
-
   pub ends : (i : ℕ) → i < links → Ends probes (item lows i) (item highs i)
   ends = good.ends
 

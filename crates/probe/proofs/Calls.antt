@@ -49,11 +49,6 @@ good_state x p m words f =
     let parts = state_parts x p m f in
     (parts.0, good_maps (table_of x) p m words parts.1)
 
--- the fault of a call about one link, by the fault of its state
-pub link_fault_lem : (r state : ℕ) (x : Slices) (p : ℕ) (m : Maps) (i : ℕ) → state ≡ state_fault x p m → r ≡ link_call_fault state (table_of x) p i
-    → r ≡ link_call_fault (state_fault x p m) (table_of x) p i
-link_fault_lem r state x p m i s e = e ∙ ap (λ (n : ℕ). link_call_fault n (table_of x) p i) s
-
 module _ (t : Table) (p : ℕ) (m : Maps) (good : GoodMaps t p m) where
   -- what an end is asked for may be sent by the bit that lets it
   pub asked_bit_lem : (k : Kind) (i : ℕ) → asked_bit k m.standing m.refused_in i ≡ sendable (asked_event k i) (bytes_of t.links m)

@@ -95,41 +95,6 @@ all_own t p (l ∷ ls) z =
     let a = frames_parts t p l ls z in
     (heard_own t p l a.0, all_own t p ls a.1)
 
--- Maps and entries do not read the table's number and its probe count.
-module _ (number probes links : ℕ) (needs lows highs costs : List ℕ) (p : ℕ) where
-  abbrev plain : Table
-  plain = of_slices 0 0 links needs lows highs costs
-
-  abbrev whole : Table
-  whole = of_slices number probes links needs lows highs costs
-
-  befalls_plain : (v : Event) (m : Maps) → befalls_maps plain p v m ≡ befalls_maps whole p v m
-  befalls_plain v m = befalls_same number probes links needs lows highs costs p v (bytes_of links m)
-
-  step_plain : (v : Event) (m : Maps) → alter_maps links (befalls_maps plain p v m) m ≡ alter_maps links (befalls_maps whole p v m) m
-  step_plain v m = ap (λ (o : Outcome). alter_maps links o m) (befalls_plain v m)
-
-  entry_plain : (v : Event) (m : Maps) → entry_of plain p (befalls_maps plain p v m) ≡ entry_of whole p (befalls_maps whole p v m)
-  entry_plain v m =
-      ap (λ (o : Outcome). entry_of plain p o) (befalls_plain v m) ∙ sym (entry_same 0 0 links needs lows highs costs p (befalls_maps whole p v m))
-      ∙ entry_same number probes links needs lows highs costs p (befalls_maps whole p v m)
-
-  pub maps_same : (vs : List Event) (m : Maps)
-      → maps_after (of_slices 0 0 links needs lows highs costs) p vs m ≡ maps_after (of_slices number probes links needs lows highs costs) p vs m
-  unfolding maps_after
-  maps_same [] m = refl
-  maps_same (v ∷ vs) m =
-      maps_same vs (alter_maps links (befalls_maps plain p v m) m) ∙ ap (λ (n : Maps). maps_after whole p vs n) (step_plain v m)
-
-  pub entries_same : (vs : List Event) (m : Maps)
-      → entries_after (of_slices 0 0 links needs lows highs costs) p vs m ≡ entries_after (of_slices number probes links needs lows highs costs) p vs m
-  unfolding entries_after
-  entries_same [] m = refl
-  entries_same (v ∷ vs) m =
-      ap (λ (e : Entry). e ∷ entries_after plain p vs (alter_maps links (befalls_maps plain p v m) m)) (entry_plain v m)
-      ∙ ap (λ (es : List Entry). entry_of whole p (befalls_maps whole p v m) ∷ es)
-      (entries_same vs (alter_maps links (befalls_maps plain p v m) m) ∙ ap (λ (n : Maps). entries_after whole p vs n) (step_plain v m))
-
 -- Frames are read by the table's number and the ends of its links alone.
 module _ (number links : ℕ) (lows highs : List ℕ) (probes probes' : ℕ) (needs needs' costs costs' : List ℕ) where
   abbrev one : Table

@@ -52,8 +52,7 @@ pub fn hear_frames(
         probe: 0,
         what: What::Enough,
     }; 64];
-    let mut n = 0;
-    while n < count {
+    for n in 0..count {
         let event = super::events::unpacked_event(said[n]);
         entries[n] = probe_decisions::steps::apply(
             event,
@@ -65,7 +64,6 @@ pub fn hear_frames(
             held,
             refused_in,
         );
-        n += 1;
     }
     Entries { count, entries }
 }

@@ -21,14 +21,6 @@ use Rattle.probe_hearing.specs.Told.{ToldBagCall}
 use Rattle.probe_hearing.proofs.Stored.{bag_entries, bag_reply}
 use Rattle.probe_log.specs.Logged.{ToldCall, LogsAtEnd}
 
-pub call_stored : (fault : ℕ) (t : Table) (p : ℕ) (event : Event) (used : ℕ) (r : Told) (before after : Maps) (log log' : List Entry)
-    → ToldCall fault t p event used (length log) r before after → log' ≡ set log r.at r.entry
-    → LogsAtEnd fault t p event r.answer before after used log log'
-call_stored fault t p event used r before after log log' c s =
-    let e = entry_of t p (befalls_maps t p event before) in
-    let is = wake.entry_stored fault used e r log log' c.told s in
-    record { befallen = record { answer = answer_reply_lem r.answer fault e is.0; maps_after_lem = c.maps_after_lem }; log_after = is.1 }
-
 pub bag_stored : (state : ℕ) (t : Table) (p : ℕ) (ls : List (List ℕ)) (used : ℕ) (r : ToldBag) (before after : Maps) (log log' : List Entry)
     → ToldBagCall (bag_fault state t p ls (length log - used)) t p ls r before after → log' ≡ sets log used (take r.entries.count r.entries.entries)
     → HeardBag (bag_fault state t p ls (length log - used)) t p ls r.answer before after used log log'

@@ -71,11 +71,6 @@ stored_at f (suc n) d i fits l = go (stored_at f n d i (omega arith)) (ℕ_discr
     go before (yes e) = rw e (get_or-set_same (stored f n d) n (f n) 0 (let k = length_stored f n d in omega arith))
     go before (no e) = get_or-set_other (stored f n d) n i (f n) 0 e ∙ before (omega arith)
 
-pub stored_zeros : (d : List ℕ) → stored (λ i. 0) (length d) d ≡ replicate (length d) 0
-stored_zeros d =
-    ext_get_or 0 (stored (λ i. 0) (length d) d) (replicate (length d) 0) (length_stored (λ i. 0) (length d) d ∙ sym (length-replicate (length d) 0))
-    (λ i l. let k = length_stored (λ i. 0) (length d) d in stored_at (λ i. 0) (length d) d i (omega arith) (omega arith) ∙ sym (zeros_at (length d) i))
-
 -- "entries beyond the table's own stay untouched"
 pub stored_beyond : (f : ℕ → ℕ) (n : ℕ) (d : List ℕ) (i : ℕ) → n ≤ i → get_or (stored f n d) i 0 ≡ get_or d i 0
 unfolding stored

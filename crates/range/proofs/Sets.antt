@@ -22,12 +22,6 @@ sets_append (x ∷ xs) ys l at =
 pub sets_then : (l m r : List ℕ) (at next : ℕ) (xs ys : List ℕ) → m ≡ sets l at xs → next ≡ at + length xs → r ≡ sets m next ys → r ≡ sets l at (xs ++ ys)
 sets_then l m r at next xs ys e n f = f ∙ rw (e, n) (sym (sets_append xs ys l at))
 
--- a list stored one by one
-pub sets_next : (l m xs : List ℕ) (at i : ℕ) → i < length xs → m ≡ sets l at (take i xs) → set m (at + i) (get_or xs i 0) ≡ sets l at (take (i + 1) xs)
-sets_next l m xs at i within e =
-    let k = length-take-le i xs (omega arith) in
-    rw (add-one i, take-suc xs i 0 within) (sets_then l m _ at (at + i) (take i xs) (get_or xs i 0 ∷ []) e (omega arith) refl)
-
 pub sets_start : (l xs : List ℕ) → length xs ≤ length l → sets l 0 xs ≡ xs ++ drop (length xs) l
 sets_start l xs fits = sets-eq xs l 0 (omega arith) ∙ (let e : 0 + length xs ≡ length xs = omega arith in rw e)
 

@@ -46,9 +46,6 @@ module _ (x : Slices) (fine : slices_fault x ≡ 0) (rec : List ℕ) (good : fle
 
 -- printed, and not refused
 module _ (fault : ℕ) (printed : List ℕ) (r : Output) (out out' : List ℕ) (h : Prints fault printed r out out') where
-  pub printed_as : (n : ℕ) → r ≡ output.Length n → Prints fault printed (output.Length n) out out'
-  printed_as n e = record { answer = ap output_reply (sym e) ∙ h.answer; out = h.out }
-
   pub never_refused : fault ≡ 0 → (n : ℕ) → r ≡ output.Refused n → ⊥
   never_refused none n e =
       let k = rw none at (prints_answer h) in

@@ -50,11 +50,3 @@ slot_is r log used i e = go r (is_used (length log) used i) e
     go (Used d) false e = let z : ◌≡◌ {A = ℕ} 0 1 = cc in absurd (omega arith)
     go Unused true e = let z : ◌≡◌ {A = ℕ} 0 1 = cc in absurd (omega arith)
     go Unused false e = refl
-
--- and back
-pub slot_reply_lem : (r : Slot) (log : List Entry) (used i : ℕ) → r ≡ slot_of log used i → slot_reply r ≡ values (slot_values log used i)
-slot_reply_lem r log used i e = ap slot_reply e ∙ go (is_used (length log) used i)
-  where
-    go : (b : Bool) → slot_reply (cond b (Used (get_or log i no_entry)) Unused) ≡ values (cond b (entry_values (get_or log i no_entry)) [])
-    go true = refl
-    go false = refl

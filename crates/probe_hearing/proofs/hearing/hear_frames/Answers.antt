@@ -23,29 +23,26 @@ use Rattle.probe_hearing.proofs.hearing.hear_frames.Goals as goal
 
 pub loop-n-init : goal.loop-n-init
 loop-n-init c =
-    (omega arith, refl, heard_none _ _ _ _ _ c.requires.2, refl, refl, refl, refl)
+    (refl, heard_none _ _ _ _ _ c.requires.2, refl, refl, refl, refl)
 
 pub offset_bounds-said-n : goal.offset_bounds-said-n
-offset_bounds-said-n c = let l : c.loop-n.n < length c.args.said.now = omega (arith, c.loop-n-test.true, c.requires.4) in search rules
+offset_bounds-said-n c = let l : c.loop-n.n < length c.args.said.now = omega (arith, c.requires.4) in search rules
 
 pub bounds-said-n : goal.bounds-said-n
-bounds-said-n c = omega (arith, c.loop-n-test.true, c.requires.4)
+bounds-said-n c = omega (arith, c.requires.4)
 
 pub apply-requires : goal.apply-requires
 apply-requires c =
     let table : Table = let a = c.args in table_of (as_slices a.table) in
     let l = c.loop-n in
-    let own = c.requires.5 l.n c.loop-n-test.true in
-    (c.requires.0, l.invariant.1 ∙ c.requires.1, l.invariant.2.good, rw c.unpacked_event-event.ensures (own_within table c.args.probe (unpacked_event (get_or c.args.said.now l.n 0)) own))
+    let own = c.requires.5 l.n (omega arith) in
+    (c.requires.0, l.invariant.0 ∙ c.requires.1, l.invariant.1.good, rw c.unpacked_event-event.ensures (own_within table c.args.probe (unpacked_event (get_or c.args.said.now l.n 0)) own))
 
 pub offset_bounds-entries-n : goal.offset_bounds-entries-n
-offset_bounds-entries-n c = omega (arith, c.loop-n-test.true, c.requires.3)
+offset_bounds-entries-n c = omega (arith, c.requires.3)
 
 pub bounds-entries-n : goal.bounds-entries-n
-bounds-entries-n c = omega (arith, c.loop-n-test.true, c.requires.3, c.loop-n.invariant.2.long)
-
-pub overflow_add-n : goal.overflow_add-n
-overflow_add-n c = omega (arith, c.loop-n-test.true, c.requires.3)
+bounds-entries-n c = omega (arith, c.requires.3, c.loop-n.invariant.1.long)
 
 pub loop-n-preserved : goal.loop-n-preserved
 loop-n-preserved c =
@@ -57,12 +54,12 @@ loop-n-preserved c =
     let events-at : (n : ℕ) → n < c.args.count → unpacked_event (get_or c.args.said.now n 0) ≡ get_or vs n (unpacked_event 0) = λ n l. ap unpacked_event (sym (get_or-take c.args.count c.args.said.now n 0 l)) ∙ sym (get_or-map unpacked_event (take c.args.count c.args.said.now) n 0) in
     let a = c.args in
     let l = c.loop-n in
-    let less = c.loop-n-test.true in
+    let less : l.n < a.count = omega arith in
     let is = c.unpacked_event-event.ensures in
     let own = c.requires.5 l.n less in
     let said = c.apply.ensures in
     let v = unpacked_event (get_or a.said.now l.n 0) in
-    (omega (arith, less), said.2 (rw is (is_frame (get_or a.said.now l.n 0))) ∙ l.invariant.1, heard_next _ _ _ _ _ _ _ l.n l.invariant.2 rising (events-more l.n less) _ (unpacked_event 0) (is ∙ events-at l.n less) (rw is own) _ _ said.0 said.1, search rules, search rules, search rules, search rules)
+    (said.2 (rw is (is_frame (get_or a.said.now l.n 0))) ∙ l.invariant.0, heard_next _ _ _ _ _ _ _ l.n l.invariant.1 rising (events-more l.n less) _ (unpacked_event 0) (is ∙ events-at l.n less) (rw is own) _ _ said.0 said.1, search rules, search rules, search rules, search rules)
 
 pub returns : goal.returns
 returns c =
@@ -76,5 +73,5 @@ returns c =
     ap (λ (all : List Entry). record { count = c.args.count; entries = all }) is
     ∙ ap (λ (k : ℕ). record { count = k; entries = sets (replicate 64 no_entry) 0 es }) (sym (length_entries table c.args.probe vs maps ∙ as_many))) in
     let l = c.loop-n in
-    let done = events-done l.n c.loop-n-test.false in
-    (told_is l.entries (heard_entries _ _ _ _ _ _ _ l.n l.invariant.2 done), heard_maps _ _ _ _ _ _ _ l.n l.invariant.2 done)
+    let done = events-done l.n (omega arith) in
+    (told_is l.entries (heard_entries _ _ _ _ _ _ _ l.n l.invariant.1 done), heard_maps _ _ _ _ _ _ _ l.n l.invariant.1 done)
