@@ -6,6 +6,7 @@ ghost use Rattle.table.specs.Slices.{as_slices};
 ghost use Rattle.fleet.specs.Answers.{Handled, finishing_reply, whether_finished, changes_of};
 
 use table::TableSlices;
+use table::counted::CountedTable;
 
 pub mod line_checks;
 pub mod steps;
@@ -32,7 +33,11 @@ pub fn event(
     if fault != 0 {
         return wake_log::Answer::Refused(fault);
     }
-    steps::handle_line(table, &degrees, rec, line, used, room)
+    let counted = CountedTable {
+        table,
+        degrees: &degrees,
+    };
+    steps::handle_line(counted, rec, line, used, room)
 }
 
 // Whether the fleet is finished.

@@ -10,6 +10,7 @@ ghost use Rattle.table.specs.Slices.{slices_fault, table_of, as_slices};
 ghost use Rattle.fleet.specs.Answers.{Handled};
 
 use table::TableSlices;
+use table::counted::CountedTable;
 
 // Lets the event befall the probe, or restarts it: the fleet's record altered, and the entry.
 fn apply(
@@ -42,39 +43,50 @@ fn apply(
 
 // A line to a fleet whose table and record are already checked, and each probe's links counted. `used` of the log's `room` entries are used.
 pub fn handle_line(
-    table: TableSlices<'_>,
-    degrees: &[u16],
+    counted: CountedTable<'_>,
     rec: &mut [u8],
     line: &[u8],
     used: usize,
     room: usize,
 ) -> wake_log::Answer
-    requires { let x = as_slices table in
-        (slices_fault x ≡ 0) × (fleet_fault (table_of x) rec.old ≡ 0) × (table.probes ≤ length degrees.now) × Degrees (table_of x) degrees.now }
-    ensures { Handled (as_slices table.entry) used room line.now result rec.old rec.new }
+    requires { fleet_fault (table_of (as_slices counted.table)) rec.old ≡ 0 }
+    ensures { Handled (as_slices counted.entry.table) used room line.now result rec.old rec.new }
 {
-    let probes = table.probes as usize;
-    let links = table.links as usize;
+    let probes = counted.table.probes as usize;
+    let links = counted.table.links as usize;
     let frame = probe_frame::frame_line::read_frame(line);
     let ends = super::line_checks::check_line(
-        table.number,
+        counted.table.number,
         probes,
         links,
-        table.lows,
-        table.highs,
+        counted.table.lows,
+        counted.table.highs,
         frame,
     );
     if ends.fault != 0 {
         return wake_log::Answer::Refused(ends.fault);
     }
     let event = super::line_checks::line_event(frame.kind, ends.link);
-    let unsent = super::line_checks::unsent_fault(event, table.lows, table.highs, rec, frame.from);
+    let unsent = super::line_checks::unsent_fault(
+        event,
+        counted.table.lows,
+        counted.table.highs,
+        rec,
+        frame.from,
+    );
     if unsent != 0 {
         return wake_log::Answer::Refused(unsent);
     }
     if room <= used {
         return wake_log::Answer::Refused(26);
     }
-    let e = apply(frame.kind == 3, event, table, degrees, frame.to as u16, rec);
+    let e = apply(
+        frame.kind == 3,
+        event,
+        counted.table,
+        counted.degrees,
+        frame.to as u16,
+        rec,
+    );
     wake_log::Answer::Logged(e)
 }

@@ -8,7 +8,7 @@ ghost use Rattle.script_output.specs.Handling.{before, HandlesPiece};
 ghost use Rattle.script_output.specs.declared.Handling.TheVariants.{Printed};
 
 use script_steps::{Place, Progress};
-use table::TableSlices;
+use table::counted::CountedTable;
 
 // The progress that a piece goes on from: of an unfinished line at most 16 bytes are held.
 pub fn begun(progress: Progress) -> Progress
@@ -26,19 +26,18 @@ pub fn begun(progress: Progress) -> Progress
 
 // Handles a piece in a slice that holds its answers. Each probe's links are counted.
 pub fn handle_piece(
-    table: TableSlices<'_>,
-    degrees: &[u16],
+    counted: CountedTable<'_>,
     rec: &mut [u8],
     line: &mut [u8],
     progress: Progress,
     piece: &[u8],
     out: &mut [u8],
 ) -> Place
-    requires { let x = as_slices table in
-        (slices_fault x ≡ 0) × (fleet_fault (table_of x) rec.old ≡ 0) × (table.probes ≤ length degrees.now) × Degrees (table_of x) degrees.now
+    requires { let x = as_slices counted.table in
+        (fleet_fault (table_of x) rec.old ≡ 0)
         × (16 ≤ length line.old) × (length (after_piece x 1024 (before progress rec.old line.old) piece.now).out ≤ length out.old) }
-    ensures { HandlesPiece (as_slices table.entry) progress piece.now (Printed result.at result.progress)
+    ensures { HandlesPiece (as_slices counted.entry.table) progress piece.now (Printed result.at result.progress)
         rec.old rec.new line.old line.new out.old out.new }
 {
-    script_pieces::pieces::take_piece(table, degrees, rec, line, begun(progress), piece, out)
+    script_pieces::pieces::take_piece(counted, rec, line, begun(progress), piece, out)
 }

@@ -10,6 +10,7 @@ ghost use Rattle.script_theory.specs.Script.{script_text};
 use output::Output;
 use script_steps::{Place, Progress};
 use table::TableSlices;
+use table::counted::CountedTable;
 
 // A script's start: nothing is printed, used, held or changed.
 fn begin() -> Place
@@ -26,38 +27,35 @@ fn begin() -> Place
 }
 
 // The lines behind a table, all of them, and the end, printed as far as they fit. Answers their length.
-fn put_script(table: TableSlices<'_>, degrees: &[u16], text: &[u8], out: &mut [u8]) -> usize
-    requires { let x = as_slices table in
-        (slices_fault x ≡ 0) × (table.probes ≤ length degrees.now) × Degrees (table_of x) degrees.now }
-    ensures { let printed = script_text (as_slices table.entry) 1024 text.now in
+fn put_script(counted: CountedTable<'_>, text: &[u8], out: &mut [u8]) -> usize
+    ensures { let printed = script_text (as_slices counted.entry.table) 1024 text.now in
         (result ≡ capped (length printed)) × (length printed ≤ length out.old → out.new ≡ sets out.old 0 printed) }
 {
-    let probes = table.probes as usize;
-    let links = table.links as usize;
+    let probes = counted.table.probes as usize;
+    let links = counted.table.links as usize;
     let mut bytes = [0u8; 16384];
     let rec = &mut bytes[..8 * links];
     let start = begin();
-    let closed = script_steps::steps::take_lines(table, degrees, rec, text, out, start);
+    let closed = script_steps::steps::take_lines(counted, rec, text, out, start);
     let place = closed.place;
     let p = place.progress;
     let mut unclosed = 0;
     if closed.rest < text.len() {
         unclosed = 1;
     }
-    super::ending::put_end(table, degrees, rec, unclosed, p.changed, out, place.at)
+    super::ending::put_end(counted, rec, unclosed, p.changed, out, place.at)
 }
 
 // Whether a slice of this length holds what the lines behind a table print. Five bytes for each byte, and 11, hold any output; else it is counted.
-fn script_fits(table: TableSlices<'_>, degrees: &[u16], text: &[u8], room: usize) -> bool
-    requires { let x = as_slices table in
-        (slices_fault x ≡ 0) × (table.probes ≤ length degrees.now) × Degrees (table_of x) degrees.now × (room < 9223372036854775808) }
-    ensures { result ≡ leb (length (script_text (as_slices table.entry) 1024 text.now)) room }
+fn script_fits(counted: CountedTable<'_>, text: &[u8], room: usize) -> bool
+    requires { room < 9223372036854775808 }
+    ensures { result ≡ leb (length (script_text (as_slices counted.entry.table) 1024 text.now)) room }
 {
     if text.len() + 3 <= room / 5 {
         return true;
     }
     let mut none = [0u8; 1];
-    let length = put_script(table, degrees, text, &mut none[..0]);
+    let length = put_script(counted, text, &mut none[..0]);
     length <= room
 }
 

@@ -16,6 +16,7 @@ use script_steps::Progress;
 use standard_io::Got;
 use std::io::{Read, Write};
 use table::TableSlices;
+use table::counted::CountedTable;
 
 pub const UNREAD: [u8; 36] = *b"script: the input could not be read\n";
 
@@ -37,17 +38,15 @@ pub fn handle_all<R: Read, W: Write, E: Write>(
     input: &mut R,
     output: &mut W,
     errors: &mut E,
-    table: TableSlices<'_>,
-    degrees: &[u16],
+    counted: CountedTable<'_>,
     rec: &mut [u8],
     line: &mut [u8],
     text: &mut [u8],
     out: &mut [u8],
 ) -> Stop
-    requires { let x = as_slices table in
-        (slices_fault x ≡ 0) × (rec.old ≡ (start x).bytes) × (table.probes ≤ length degrees.now) × Degrees (table_of x) degrees.now
+    requires { (rec.old ≡ (start (as_slices counted.table)).bytes)
         × (16 ≤ length line.old) × (length text.old ≤ 4096) × (20560 ≤ length out.old) }
-    ensures { HandlesInput (as_slices table.entry) result line.old rec.new line.new (length text.old)
+    ensures { HandlesInput (as_slices counted.entry.table) result line.old rec.new line.new (length text.old)
         (R.remaining input.old) (R.remaining input.new) (W.contents output.old) (W.contents output.new) }
 {
     let mut progress = Progress {
@@ -59,8 +58,7 @@ pub fn handle_all<R: Read, W: Write, E: Write>(
         match standard_io::read_some(input, text) {
             Got::Bytes(n) => {
                 let place = script_output::checked::handle_piece(
-                    table,
-                    degrees,
+                    counted,
                     rec,
                     line,
                     progress,

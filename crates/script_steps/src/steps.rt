@@ -10,24 +10,22 @@ ghost use Rattle.script_steps.specs.Within.{under_way, Buffered};
 ghost use Rattle.script_steps.specs.Closing.{Closed};
 
 use super::{Lines, Place, Progress};
-use table::TableSlices;
+use table::counted::CountedTable;
 
 // A line, or 16 bytes of a longer one, to a fleet whose table and record are already checked; its answer is printed from an offset on, where it fits.
 pub fn answer_line(
-    table: TableSlices<'_>,
-    degrees: &[u16],
+    counted: CountedTable<'_>,
     rec: &mut [u8],
     line: &[u8],
     out: &mut [u8],
     place: Place,
 ) -> Place
-    requires { let x = as_slices table in
-        (slices_fault x ≡ 0) × (fleet_fault (table_of x) rec.old ≡ 0) × (table.probes ≤ length degrees.now) × Degrees (table_of x) degrees.now × (place.at ≤ 9223372036854775808) }
-    ensures { Buffered (after_line (as_slices table.entry) 1024 (under_way place.progress rec.old []) line.now)
+    requires { (fleet_fault (table_of (as_slices counted.table)) rec.old ≡ 0) × (place.at ≤ 9223372036854775808) }
+    ensures { Buffered (after_line (as_slices counted.entry.table) 1024 (under_way place.progress rec.old []) line.now)
         place.at result rec.new [] out.old out.new }
 {
     let progress = place.progress;
-    let answer = fleet::steps::handle_line(table, degrees, rec, line, progress.used as usize, 1024);
+    let answer = fleet::steps::handle_line(counted, rec, line, progress.used as usize, 1024);
     Place {
         at: script_lines::answers::put_answer(out, place.at, answer),
         progress: Progress {
@@ -57,17 +55,15 @@ fn refuse_line(out: &mut [u8], place: Place) -> Place
 
 // The lines that a piece closes, where no byte of its first line is held.
 pub fn take_lines(
-    table: TableSlices<'_>,
-    degrees: &[u16],
+    counted: CountedTable<'_>,
     rec: &mut [u8],
     piece: &[u8],
     out: &mut [u8],
     start: Place,
 ) -> Lines
-    requires { let x = as_slices table in
-        (slices_fault x ≡ 0) × (fleet_fault (table_of x) rec.old ≡ 0) × (table.probes ≤ length degrees.now) × Degrees (table_of x) degrees.now
+    requires { (fleet_fault (table_of (as_slices counted.table)) rec.old ≡ 0)
         × (start.progress.held ≡ 0) × (start.at ≤ 9223372036854775808) }
-    ensures { Closed (as_slices table.entry) (under_way start.progress rec.old []) piece.now start.at result rec.new [] out.old out.new }
+    ensures { Closed (as_slices counted.entry.table) (under_way start.progress rec.old []) piece.now start.at result rec.new [] out.old out.new }
 {
     let mut place = start;
     let mut at = 0;
@@ -76,7 +72,7 @@ pub fn take_lines(
         if next - at != 15 {
             place = refuse_line(out, place);
         } else {
-            place = answer_line(table, degrees, rec, &piece[at..next], out, place);
+            place = answer_line(counted, rec, &piece[at..next], out, place);
         }
         at = next;
         next = super::line_bytes::line_end(piece, at);

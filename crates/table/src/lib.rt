@@ -5,6 +5,7 @@ ghost use Rattle.table.specs.Slices.{as_slices};
 ghost use Rattle.table.specs.Checking.{ChecksTable};
 
 pub mod checks;
+pub mod counted;
 pub mod degrees;
 pub mod numbers;
 pub mod starts;

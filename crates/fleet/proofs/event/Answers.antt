@@ -19,13 +19,16 @@ returns-then-fault-ne0 c =
     let a = c.args in
     state_refused a.table.number a.table.probes a.table.links a.table.needs.now a.table.lows.now a.table.highs.now a.table.costs.now a.used a.room a.line.now a.rec.now _ c.state_fault-fault.ensures.0 c.if-fault-ne0.true
 
+pub invariant_of-counted : goal.invariant_of-counted
+invariant_of-counted c =
+    let x : Slices = as_slices c.args.table in
+    let told = c.state_fault-fault in
+    let none = sym told.ensures.0 ∙ c.if-fault-ne0.false in
+    let fine = or_left (slices_fault x) (fleet_fault (table_of x) c.args.rec.now) none in
+    let room : length told.new.degrees ≡ 256 = told.auto.degrees in
+    record { legal = fine; in_degrees = omega (arith, (legal_slices 256 2048 x fine).few, room); are_counted = told.ensures.1 c.if-fault-ne0.false }
+
 pub handle_line-requires : goal.handle_line-requires
 handle_line-requires c =
-    let a = c.args in
-    let x : Slices = as_slices a.table in
-    let told = c.state_fault-fault in
-    let z : or_else (slices_fault x) (fleet_fault (table_of x) a.rec.now) ≡ 0 = sym told.ensures.0 ∙ c.if-fault-ne0.false in
-    let fine = or_left (slices_fault x) (fleet_fault (table_of x) a.rec.now) z in
-    let g = legal_slices 256 2048 x fine in
-    let room : length told.new.degrees ≡ 256 = told.auto.degrees in
-    (fine, or_right (slices_fault x) (fleet_fault (table_of x) a.rec.now) z, omega (arith, g.few, room), told.ensures.1 c.if-fault-ne0.false)
+    let x : Slices = as_slices c.args.table in
+    or_right (slices_fault x) (fleet_fault (table_of x) c.args.rec.now) (sym c.state_fault-fault.ensures.0 ∙ c.if-fault-ne0.false)

@@ -16,44 +16,44 @@ use Rattle.script_pieces.proofs.pieces.count_piece.Goals as goal
 pub copy-requires : goal.copy-requires
 copy-requires c =
     let a = c.args in
-    let x = as_slices a.table in
-    let m = links_within x c.requires.0 in
-    let f = fleet_good (table_of x) a.rec.now c.requires.1 in
+    let x = as_slices a.counted.table in
+    let m = links_within x c.args.counted.legal in
+    let f = fleet_good (table_of x) a.rec.now c.requires.0 in
     (omega (arith, f.0), omega arith)
 
 pub slice_bounds-bytes-end : goal.slice_bounds-bytes-end
 slice_bounds-bytes-end c =
     let a = c.args in
-    let x = as_slices a.table in
-    let m = links_within x c.requires.0 in
-    let f = fleet_good (table_of x) a.rec.now c.requires.1 in
+    let x = as_slices a.counted.table in
+    let m = links_within x c.args.counted.legal in
+    let f = fleet_good (table_of x) a.rec.now c.requires.0 in
     omega (arith, f.0, c.copy.auto.to)
 
 pub slice_bounds-take_closed-end : goal.slice_bounds-take_closed-end
 slice_bounds-take_closed-end c =
     let a = c.args in
-    let x = as_slices a.table in
-    let m = links_within x c.requires.0 in
-    let f = fleet_good (table_of x) a.rec.now c.requires.1 in
+    let x = as_slices a.counted.table in
+    let m = links_within x c.args.counted.legal in
+    let f = fleet_good (table_of x) a.rec.now c.requires.0 in
     sym (length-take-le _ _ (omega (arith, f.0, c.copy.auto.to)))
 
 pub take_closed-closed-requires : goal.take_closed-closed-requires
 take_closed-closed-requires c =
     let a = c.args in
-    let x = as_slices a.table in
-    let m = links_within x c.requires.0 in
-    let f = fleet_good (table_of x) a.rec.now c.requires.1 in
+    let x = as_slices a.counted.table in
+    let m = links_within x c.args.counted.legal in
+    let f = fleet_good (table_of x) a.rec.now c.requires.0 in
     let zeros : List ℕ = replicate 16384 0 in
     let whole = copied_part zeros _ a.rec.now (length a.rec.now) c.copy.ensures (omega (arith, f.0)) (omega arith) ∙ take_all (length a.rec.now) a.rec.now (omega arith) in
-    (c.requires.0, rw whole c.requires.1, c.requires.2, c.requires.3, c.requires.4, c.requires.5)
+    (c.args.counted.legal, rw whole c.requires.0, c.args.counted.in_degrees, c.args.counted.are_counted, c.requires.1, c.requires.2)
 
 pub returns : goal.returns
 returns c =
     let a = c.args in
-    let x = as_slices a.table in
-    let m = links_within x c.requires.0 in
-    let f = fleet_good (table_of x) a.rec.now c.requires.1 in
+    let x = as_slices a.counted.table in
+    let m = links_within x c.args.counted.legal in
+    let f = fleet_good (table_of x) a.rec.now c.requires.0 in
     let zeros : List ℕ = replicate 16384 0 in
     let whole = copied_part zeros _ a.rec.now (length a.rec.now) c.copy.ensures (omega (arith, f.0)) (omega arith) ∙ take_all (length a.rec.now) a.rec.now (omega arith) in
-    let n = length-take-le a.progress.held a.line.now c.requires.5 in
-    piece_counted x (under_way a.progress a.rec.now a.line.now) a.piece.now _ _ _ _ _ (omega (arith, c.requires.4)) (rw whole at c.take_closed-closed.ensures)
+    let n = length-take-le a.progress.held a.line.now c.requires.2 in
+    piece_counted x (under_way a.progress a.rec.now a.line.now) a.piece.now _ _ _ _ _ (omega (arith, c.requires.1)) (rw whole at c.take_closed-closed.ensures)

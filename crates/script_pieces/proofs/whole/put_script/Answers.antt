@@ -17,50 +17,50 @@ use Rattle.script_pieces.proofs.whole.put_script.Goals.{else-closed-text, then-c
 pub overflow_mul-bytes : goal.overflow_mul-bytes
 overflow_mul-bytes c =
     let a = c.args in
-    let x = as_slices a.table in
-    let m = links_within x c.requires.0 in
+    let x = as_slices a.counted.table in
+    let m = links_within x c.args.counted.legal in
     omega arith
 
 pub slice_bounds-bytes-end : goal.slice_bounds-bytes-end
 slice_bounds-bytes-end c =
     let a = c.args in
-    let x = as_slices a.table in
-    let m = links_within x c.requires.0 in
+    let x = as_slices a.counted.table in
+    let m = links_within x c.args.counted.legal in
     omega arith
 
 pub slice_bounds-rec-end : goal.slice_bounds-rec-end
 slice_bounds-rec-end c =
     let a = c.args in
-    let x = as_slices a.table in
-    let m = links_within x c.requires.0 in
+    let x = as_slices a.counted.table in
+    let m = links_within x c.args.counted.legal in
     sym (length-take-le _ _ (omega arith))
 
 pub take_lines-closed-requires : goal.take_lines-closed-requires
 take_lines-closed-requires c =
     let start = c.begin-start.ensures in
     let a = c.args in
-    let x = as_slices a.table in
-    let m = links_within x c.requires.0 in
-    (c.requires.0, zeros_pass x c.requires.0 (omega arith), c.requires.1, c.requires.2, start.2, omega arith)
+    let x = as_slices a.counted.table in
+    let m = links_within x c.args.counted.legal in
+    (c.args.counted.legal, zeros_pass x c.args.counted.legal (omega arith), c.args.counted.in_degrees, c.args.counted.are_counted, start.2, omega arith)
 
 pub put_end-requires : goal.put_end-requires
 put_end-requires c =
     let a = c.args in
-    let x = as_slices a.table in
+    let x = as_slices a.counted.table in
     let k = c.take_lines-closed in
-    let m = links_within x c.requires.0 in
+    let m = links_within x c.args.counted.legal in
     let zeros : List ℕ = replicate 16384 0 in
-    let n = length-take-le (8 * a.table.links) zeros (omega arith) in
-    (fits a.table.number a.table.probes a.table.links a.table.needs.now a.table.lows.now a.table.highs.now a.table.costs.now (legal_slices 256 2048 x c.requires.0), omega (arith, k.auto.rec), c.requires.1, c.requires.2, at_most _ _ _ _ _ _ _ k.ensures.buffered)
+    let n = length-take-le (8 * a.counted.table.links) zeros (omega arith) in
+    (fits a.counted.table.number a.counted.table.probes a.counted.table.links a.counted.table.needs.now a.counted.table.lows.now a.counted.table.highs.now a.counted.table.costs.now (legal_slices 256 2048 x c.args.counted.legal), omega (arith, k.auto.rec), c.args.counted.in_degrees, c.args.counted.are_counted, at_most _ _ _ _ _ _ _ k.ensures.buffered)
 
 pub returns : goal.returns
 returns c =
     let k = c.take_lines-closed in
     let start = c.begin-start.ensures in
     let a = c.args in
-    let x = as_slices a.table in
+    let x = as_slices a.counted.table in
     let e = c.put_end.ensures in
-    let m = links_within x c.requires.0 in
-    let w : 8 * a.table.links ≤ 16384 = omega arith in
-    let r = all_ready x c.requires.0 w a.text.now _ (start.1, start.2, start.3) _ _ a.out.now _ _ (rw start.0 at k.ensures) (elim c.if-closed-text.branch [ then-closed-text w ↦ inl (w.if-closed-text.true, w.unclosed-is) | else-closed-text w ↦ inr (w.if-closed-text.false, w.unclosed-is) ]) in
-    (all_length x c.requires.0 w a.text.now _ a.out.now _ a.out.now _ _ _ r _ e.1, all_printed x c.requires.0 w a.text.now _ a.out.now _ _ _ _ _ r k.auto.out (omega arith) (e.0 a.table.number a.table.costs.now))
+    let m = links_within x c.args.counted.legal in
+    let w : 8 * a.counted.table.links ≤ 16384 = omega arith in
+    let r = all_ready x c.args.counted.legal w a.text.now _ (start.1, start.2, start.3) _ _ a.out.now _ _ (rw start.0 at k.ensures) (elim c.if-closed-text.branch [ then-closed-text w ↦ inl (w.if-closed-text.true, w.unclosed-is) | else-closed-text w ↦ inr (w.if-closed-text.false, w.unclosed-is) ]) in
+    (all_length x c.args.counted.legal w a.text.now _ a.out.now _ a.out.now _ _ _ r _ e.1, all_printed x c.args.counted.legal w a.text.now _ a.out.now _ _ _ _ _ r k.auto.out (omega arith) (e.0 a.counted.table.number a.counted.table.costs.now))

@@ -14,14 +14,14 @@ use Rattle.script_pieces.proofs.whole.script_fits.Goals as goal
 pub returns-then-text-room : goal.returns-then-text-room
 returns-then-text-room c =
     let a = c.args in
-    let x = as_slices a.table in
-    let m = links_within x c.requires.0 in
-    let w : 8 * a.table.links ≤ 16384 = omega arith in
-    let n = script_short x c.requires.0 w a.text.now in
+    let x = as_slices a.counted.table in
+    let m = links_within x c.args.counted.legal in
+    let w : 8 * a.counted.table.links ≤ 16384 = omega arith in
+    let n = script_short x c.args.counted.legal w a.text.now in
     sym (le-leb (length (script_text x 1024 a.text.now)) a.room (omega (arith, c.if-text-room.true)))
 
 pub returns : goal.returns
 returns c =
     let a = c.args in
-    let x = as_slices a.table in
-    ap (λ (k : ℕ). leb k a.room) c.put_script-length.ensures.0 ∙ capped_leb (length (script_text x 1024 a.text.now)) a.room c.requires.3
+    let x = as_slices a.counted.table in
+    ap (λ (k : ℕ). leb k a.room) c.put_script-length.ensures.0 ∙ capped_leb (length (script_text x 1024 a.text.now)) a.room c.requires

@@ -5,5 +5,5 @@ use Rattle.script_reads.proofs.reads.handle_all.Given as goal
 
 abbrev pub invariant-loop : goal.invariant-loop
 invariant-loop g l =
-    Turned (as_slices l.table) l.fn.line (left_of l.progress l.rec l.line)
+    Turned (as_slices l.counted.table) l.fn.line (left_of l.progress l.rec l.line)
     (g.R.Read.remaining l.fn.input) (g.R.Read.remaining l.input) (g.W.Write.contents l.fn.output) (g.W.Write.contents l.output)

@@ -17,8 +17,8 @@ use Rattle.script_steps.proofs.steps.take_lines.Goals.{then-next-at-ne15, else-n
 pub loop-at-init : goal.loop-at-init
 loop-at-init c =
     let a = c.args in
-    let x = as_slices a.table in
-    (omega arith, c.line_end-next.ensures, none_taken x a.piece.now a.start a.rec.now a.out.now c.requires.4 c.requires.5, refl, refl)
+    let x = as_slices a.counted.table in
+    (omega arith, c.line_end-next.ensures, none_taken x a.piece.now a.start a.rec.now a.out.now c.requires.1 c.requires.2, refl, refl)
 
 pub refuse_line-place-requires : goal.refuse_line-place-requires
 refuse_line-place-requires c =
@@ -27,9 +27,9 @@ refuse_line-place-requires c =
 pub answer_line-place-requires : goal.answer_line-place-requires
 answer_line-place-requires c =
     let a = c.args in
-    let x = as_slices a.table in
+    let x = as_slices a.counted.table in
     let v = c.loop-at.invariant in
-    (c.requires.0, still_usable x (under_way a.start.progress a.rec.now []) _ a.start.at _ _ _ _ _ c.requires.0 c.requires.1 v.2, c.requires.2, c.requires.3, at_most _ a.start.at _ _ _ _ _ v.2)
+    (c.args.counted.legal, still_usable x (under_way a.start.progress a.rec.now []) _ a.start.at _ _ _ _ _ c.args.counted.legal c.requires.0 v.2, c.args.counted.in_degrees, c.args.counted.are_counted, at_most _ a.start.at _ _ _ _ _ v.2)
 
 pub loop-at-smaller : goal.loop-at-smaller
 loop-at-smaller c =
@@ -47,15 +47,15 @@ loop-at-preserved c =
     let j = c.if-next-at-ne15 in
     let l = c.loop-at in
     let a = c.args in
-    let x = as_slices a.table in
+    let x = as_slices a.counted.table in
     let p = under_way a.start.progress a.rec.now [] in
     let v = l.invariant in
     let k = end_within a.piece.now l.at v.0 in
-    let good = still_usable x p _ a.start.at _ _ _ _ _ c.requires.0 c.requires.1 v.2 in
+    let good = still_usable x p _ a.start.at _ _ _ _ _ c.args.counted.legal c.requires.0 v.2 in
     let answered : Buffered (after_line x 1024 (under_way l.place.progress l.rec []) (take (l.next - l.at) (drop l.at a.piece.now))) l.place.at j.place j.rec [] l.out j.out =
     elim j.branch [
       | then-next-at-ne15 w ↦ rw (w.rec-is, w.out-is, w.place-is)
-          (line_refused x p a.piece.now a.start.at l.at l.next l.place _ l.rec _ l.out _ c.requires.0 good (omega arith) v.2 (omega (arith, v.1)) (omega (arith, v.1)) w.if-next-at-ne15.true w.refuse_line-place.ensures)
+          (line_refused x p a.piece.now a.start.at l.at l.next l.place _ l.rec _ l.out _ c.args.counted.legal good (omega arith) v.2 (omega (arith, v.1)) (omega (arith, v.1)) w.if-next-at-ne15.true w.refuse_line-place.ensures)
       | else-next-at-ne15 w ↦ rw (w.rec-is, w.out-is, w.place-is) w.answer_line-place.ensures
     ] in
     let same : (length j.rec ≡ length l.rec) × (length j.out ≡ length l.out) =

@@ -17,7 +17,7 @@ use Rattle.script_steps.proofs.steps.take_lines.Given as goal
 abbrev pub invariant-loop-at : goal.invariant-loop-at
 invariant-loop-at l =
     (l.at ≤ length l.piece) × (l.next ≡ l.at + closed_length (drop l.at l.piece))
-    × Buffered (after_piece (as_slices l.table) 1024 (under_way l.initial.place.progress l.initial.rec []) (take l.at l.piece)) l.initial.place.at l.place l.rec [] l.initial.out l.out
+    × Buffered (after_piece (as_slices l.counted.table) 1024 (under_way l.initial.place.progress l.initial.rec []) (take l.at l.piece)) l.initial.place.at l.place l.rec [] l.initial.out l.out
     × (length l.rec ≡ length l.initial.rec) × (length l.out ≡ length l.initial.out)
 
 abbrev pub decreases-loop-at : goal.decreases-loop-at
