@@ -49,7 +49,11 @@ pub fn finished(table: TableSlices<'_>, rec: &[u8]) -> Finishing
     if fault != 0 {
         return Finishing::Refused(fault);
     }
-    Finishing::Says(fleet_finishing::finishing::is_finished(table, &degrees, rec))
+    let counted = CountedTable {
+        table,
+        degrees: &degrees,
+    };
+    Finishing::Says(fleet_finishing::finishing::is_finished(counted, rec))
 }
 
 // How many changes an event made, by its entry; marks and wipes count nowhere.

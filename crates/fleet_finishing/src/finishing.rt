@@ -7,7 +7,7 @@ ghost use Rattle.fleet_state.specs.Within.{LegalWithoutCosts};
 ghost use Rattle.fleet_finishing.specs.Opening.{may_open};
 ghost use Rattle.table.specs.Slices.{as_slices, table_of};
 
-use table::TableSlices;
+use table::counted::CountedTable;
 
 // Whether a frame that may be sent would alter a byte.
 fn may_alter(out: u8, into: u8) -> bool
@@ -62,11 +62,11 @@ fn none_opens(
 }
 
 // Whether the fleet is finished, by each probe's number of links; the costs do not bear on it.
-pub fn is_finished(table: TableSlices<'_>, degrees: &[u16], rec: &[u8]) -> bool
-    requires { LegalWithoutCosts table.probes table.links table.needs.now table.lows.now table.highs.now × (8 * table.links ≤ length rec.now)
-        × (table.probes ≤ length degrees.now) × Degrees (table_of (as_slices table)) degrees.now }
-    ensures { (number : ℕ) (costs : List ℕ) → result ≡ finished (of_slices number table.entry.probes table.entry.links table.entry.needs.now table.entry.lows.now table.entry.highs.now costs) rec.now }
+pub fn is_finished(counted: CountedTable<'_>, rec: &[u8]) -> bool
+    requires { 8 * counted.table.links ≤ length rec.now }
+    ensures { (number : ℕ) (costs : List ℕ) → result ≡ finished (of_slices number counted.entry.table.probes counted.entry.table.links counted.entry.table.needs.now counted.entry.table.lows.now counted.entry.table.highs.now costs) rec.now }
 {
+    let table = counted.table;
     let probes = table.probes as usize;
     let links = table.links as usize;
     if !none_alters(rec, links) {
@@ -76,5 +76,5 @@ pub fn is_finished(table: TableSlices<'_>, degrees: &[u16], rec: &[u8]) -> bool
     let mut untried = [0u16; 256];
     fleet_state::counts::count_bytes(&mut standing, rec, links, table.lows, table.highs, 0, 2, 1);
     fleet_state::counts::count_bytes(&mut untried, rec, links, table.lows, table.highs, 0, 2, 0);
-    none_opens(probes, table.needs, degrees, &standing, &untried)
+    none_opens(probes, table.needs, counted.degrees, &standing, &untried)
 }

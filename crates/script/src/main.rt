@@ -14,6 +14,7 @@ use script_table::input::read_table_text;
 use standard_io::Filling;
 use std::io::{Read, Write};
 use table::TableSlices;
+use table::counted::CountedTable;
 use table::degrees::count_degrees;
 
 // What is left to write: what the text's end printed; nothing where a read or write failed.
@@ -53,10 +54,11 @@ fn answer_script<R: Read, W: Write, E: Write>(
     let mut line = [0u8; 16];
     let mut degrees = [0u16; 256];
     count_degrees(&mut degrees, table.links as usize, table.lows, table.highs);
-    let stop = handle_all(
-        input, output, errors, table, &degrees, rec, &mut line, text, out,
-    );
-    match stop {
+    let counted = CountedTable {
+        table,
+        degrees: &degrees,
+    };
+    match handle_all(input, output, errors, counted, rec, &mut line, text, out) {
         Stop::AtEnd(progress) => Ending::Printed(end(table, rec, progress, out)),
         Stop::Failed => Ending::Failed,
     }

@@ -34,8 +34,7 @@ pub fn handle_piece(
     out: &mut [u8],
 ) -> Place
     requires { let x = as_slices counted.table in
-        (fleet_fault (table_of x) rec.old ≡ 0)
-        × (16 ≤ length line.old) × (length (after_piece x 1024 (before progress rec.old line.old) piece.now).out ≤ length out.old) }
+        (fleet_fault (table_of x) rec.old ≡ 0) × (16 ≤ length line.old) × (length (after_piece x 1024 (before progress rec.old line.old) piece.now).out ≤ length out.old) }
     ensures { HandlesPiece (as_slices counted.entry.table) progress piece.now (Printed result.at result.progress)
         rec.old rec.new line.old line.new out.old out.new }
 {

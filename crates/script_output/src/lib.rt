@@ -12,6 +12,7 @@ ghost use Rattle.script_output.specs.Handling.{piece_fault, HandlesPiece, end_ca
 use output::Output;
 use script_steps::Progress;
 use table::TableSlices;
+use table::counted::CountedTable;
 
 pub mod checked;
 
@@ -41,8 +42,6 @@ fn piece_fault(
     if line.len() < 16 {
         return 8;
     }
-    let probe_count = table.probes as usize;
-    let link_count = table.links as usize;
     let fault = fleet_state::checks::state_fault(table, rec, degrees);
     if fault != 0 {
         return fault;
@@ -50,7 +49,8 @@ fn piece_fault(
     if begun.held as usize + piece.len() <= room / 5 {
         return 0;
     }
-    let length = script_pieces::pieces::count_piece(table, degrees, rec, line, begun, piece);
+    let counted = CountedTable { table, degrees };
+    let length = script_pieces::pieces::count_piece(counted, rec, line, begun, piece);
     if room < length {
         return 8;
     }
@@ -74,7 +74,11 @@ pub fn script_piece(
     if fault != 0 {
         return Handling::Refused(fault);
     }
-    let place = checked::handle_piece(table, &degrees, rec, line, progress, piece, out);
+    let counted = CountedTable {
+        table,
+        degrees: &degrees,
+    };
+    let place = checked::handle_piece(counted, rec, line, progress, piece, out);
     let reached = place.progress;
     Handling::Printed {
         length: place.at,
@@ -91,16 +95,17 @@ pub fn script_end(table: TableSlices<'_>, rec: &[u8], progress: Progress, out: &
     if out.len() < script_pieces::ending::end_length(progress.held) {
         return Output::Refused(8);
     }
-    let probe_count = table.probes as usize;
-    let link_count = table.links as usize;
     let mut degrees = [0u16; 256];
     let fault = fleet_state::checks::state_fault(table, rec, &mut degrees);
     if fault != 0 {
         return Output::Refused(fault);
     }
-    let length = script_pieces::ending::put_end(
+    let counted = CountedTable {
         table,
-        &degrees,
+        degrees: &degrees,
+    };
+    let length = script_pieces::ending::put_end(
+        counted,
         rec,
         progress.held,
         progress.changed,

@@ -6,7 +6,7 @@ ghost use Rattle.fleet_state.specs.Within.{LegalWithoutCosts};
 ghost use Rattle.script_lines.specs.Fitting.{capped, stored_within};
 ghost use Rattle.script_theory.specs.Script.{end_text};
 
-use table::TableSlices;
+use table::counted::CountedTable;
 
 // The length of what the text's end prints.
 pub fn end_length(held: u32) -> usize
@@ -20,18 +20,16 @@ pub fn end_length(held: u32) -> usize
 
 // What the text's end prints, from an offset on, where it fits. Answers where it ends. The table's number and costs do not bear on it.
 pub fn put_end(
-    table: TableSlices<'_>,
-    degrees: &[u16],
+    counted: CountedTable<'_>,
     rec: &[u8],
     held: u32,
     changed: u32,
     out: &mut [u8],
     at: usize,
 ) -> usize
-    requires { LegalWithoutCosts table.probes table.links table.needs.now table.lows.now table.highs.now × (8 * table.links ≤ length rec.now)
-        × (table.probes ≤ length degrees.now) × Degrees (table_of (as_slices table)) degrees.now × (at ≤ 9223372036854775808) }
+    requires { (8 * counted.table.links ≤ length rec.now) × (at ≤ 9223372036854775808) }
     ensures { ((number : ℕ) (costs : List ℕ) → (out.new ≡ stored_within out.old at
-        (end_text (slices_of number table.entry.probes table.entry.links table.entry.needs.now table.entry.lows.now table.entry.highs.now costs) rec.now held changed)))
+        (end_text (slices_of number counted.entry.table.probes counted.entry.table.links counted.entry.table.needs.now counted.entry.table.lows.now counted.entry.table.highs.now costs) rec.now held changed)))
         × (result ≡ capped (at + cond (eqb held 0) 11 16)) }
 {
     let end = at + end_length(held);
@@ -39,7 +37,7 @@ pub fn put_end(
         return script_lines::answers::cap(end);
     }
     let next = script_lines::answers::put_unclosed(out, at, held);
-    let done = fleet_finishing::finishing::is_finished(table, degrees, rec);
+    let done = fleet_finishing::finishing::is_finished(counted, rec);
     script_lines::answers::put_last(out, next, done, changed);
     end
 }

@@ -31,7 +31,6 @@ fn put_script(counted: CountedTable<'_>, text: &[u8], out: &mut [u8]) -> usize
     ensures { let printed = script_text (as_slices counted.entry.table) 1024 text.now in
         (result ≡ capped (length printed)) × (length printed ≤ length out.old → out.new ≡ sets out.old 0 printed) }
 {
-    let probes = counted.table.probes as usize;
     let links = counted.table.links as usize;
     let mut bytes = [0u8; 16384];
     let rec = &mut bytes[..8 * links];
@@ -68,9 +67,12 @@ pub fn print_script(table: TableSlices<'_>, text: &[u8], out: &mut [u8]) -> Outp
     let links = table.links as usize;
     let mut degrees = [0u16; 256];
     table::degrees::count_degrees(&mut degrees, links, table.lows, table.highs);
-    let room = out.len();
-    if !script_fits(table, &degrees, text, room) {
+    let counted = CountedTable {
+        table,
+        degrees: &degrees,
+    };
+    if !script_fits(counted, text, out.len()) {
         return Output::Refused(8);
     }
-    Output::Length(put_script(table, &degrees, text, out))
+    Output::Length(put_script(counted, text, out))
 }

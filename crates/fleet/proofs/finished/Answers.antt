@@ -9,7 +9,6 @@ use Rattle.range.proofs.Lists.{zeros_at}
 use Rattle.table.proofs.Slices.{legal_slices}
 use Rattle.fleet_theory.specs.Fleet.{fleet_fault}
 use Rattle.table.specs.Slices.{Slices, table_of, slices_fault, as_slices}
-use Rattle.fleet_state.proofs.Legal.{fits}
 use Rattle.fleet_state.proofs.CheckLaws.{fleet_good}
 use Rattle.fleet.proofs.Calls.{finishing_refused, finishing_says}
 use Rattle.fleet.proofs.finished.Goals as goal
@@ -22,16 +21,19 @@ returns-then-fault-ne0 c =
     let a = c.args in
     finishing_refused _ _ _ c.state_fault-fault.ensures.0 c.if-fault-ne0.true
 
+pub invariant_of-counted : goal.invariant_of-counted
+invariant_of-counted c =
+    let x : Slices = as_slices c.args.table in
+    let told = c.state_fault-fault in
+    let fine = or_left (slices_fault x) (fleet_fault (table_of x) c.args.rec.now) (sym told.ensures.0 ∙ c.if-fault-ne0.false) in
+    let room : length told.new.degrees ≡ 256 = told.auto.degrees in
+    record { legal = fine; in_degrees = omega (arith, (legal_slices 256 2048 x fine).few, room); are_counted = told.ensures.1 c.if-fault-ne0.false }
+
 pub is_finished-requires : goal.is_finished-requires
 is_finished-requires c =
-    let a = c.args in
-    let x : Slices = as_slices a.table in
-    let told = c.state_fault-fault in
-    let z : or_else (slices_fault x) (fleet_fault (table_of x) a.rec.now) ≡ 0 = sym told.ensures.0 ∙ c.if-fault-ne0.false in
-    let f = fleet_good (table_of x) a.rec.now (or_right (slices_fault x) (fleet_fault (table_of x) a.rec.now) z) in
-    let g = legal_slices 256 2048 x (or_left (slices_fault x) (fleet_fault (table_of x) a.rec.now) z) in
-    let room : length told.new.degrees ≡ 256 = told.auto.degrees in
-    (fits a.table.number a.table.probes a.table.links a.table.needs.now a.table.lows.now a.table.highs.now a.table.costs.now g, omega (arith, f.0), omega (arith, g.few, room), told.ensures.1 c.if-fault-ne0.false)
+    let x : Slices = as_slices c.args.table in
+    let f = fleet_good (table_of x) c.args.rec.now (or_right (slices_fault x) (fleet_fault (table_of x) c.args.rec.now) (sym c.state_fault-fault.ensures.0 ∙ c.if-fault-ne0.false)) in
+    omega (arith, f.0)
 
 pub returns : goal.returns
 returns c =

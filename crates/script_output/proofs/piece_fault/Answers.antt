@@ -43,16 +43,18 @@ returns-then-begun-piece c =
     let fits : length printed ≤ a.room = omega (arith, c.if-begun-piece.true) in
     (fault_short x p a.piece.now (length a.line.now) a.room _ c.if-line-lt16.false f 0 c.if-fault-ne0.false (sym (long_enough a.room printed fits)), λ z. c.state_fault-fault.ensures.1 c.if-fault-ne0.false)
 
+pub invariant_of-counted : goal.invariant_of-counted
+invariant_of-counted c =
+    let x = as_slices c.args.table in
+    let told = c.state_fault-fault in
+    let fine = or_left (slices_fault x) (fleet_fault (table_of x) c.args.rec.now) (sym told.ensures.0 ∙ c.if-fault-ne0.false) in
+    let room : length told.new.degrees ≡ 256 = told.auto.degrees ∙ c.requires.2 in
+    record { legal = fine; in_degrees = omega (arith, (legal_slices 256 2048 x fine).few, room); are_counted = told.ensures.1 c.if-fault-ne0.false }
+
 pub count_piece-length-requires : goal.count_piece-length-requires
 count_piece-length-requires c =
-    let a = c.args in
-    let x = as_slices a.table in
-    let f = c.state_fault-fault.ensures.0 in
-    let g = legal_slices 256 2048 x (or_left (slices_fault x) (fleet_fault (table_of x) a.rec.now) (sym f ∙ c.if-fault-ne0.false)) in
-    let told = c.state_fault-fault in
-    let room : length told.new.degrees ≡ 256 = told.auto.degrees ∙ c.requires.2 in
-    let z = sym f ∙ c.if-fault-ne0.false in
-    (or_left (slices_fault x) (fleet_fault (table_of x) a.rec.now) z, or_right (slices_fault x) (fleet_fault (table_of x) a.rec.now) z, omega (arith, g.few, room), told.ensures.1 c.if-fault-ne0.false, c.requires.0, omega (arith, c.requires.0, c.if-line-lt16.false))
+    let x = as_slices c.args.table in
+    (or_right (slices_fault x) (fleet_fault (table_of x) c.args.rec.now) (sym c.state_fault-fault.ensures.0 ∙ c.if-fault-ne0.false), c.requires.0, omega (arith, c.requires.0, c.if-line-lt16.false))
 
 pub returns-then-room-length : goal.returns-then-room-length
 returns-then-room-length c =

@@ -11,7 +11,6 @@ use Rattle.range.proofs.Faults.{or_left, or_right, or_here, or_none}
 use Rattle.table.proofs.Slices.{legal_slices}
 use Rattle.table.specs.Slices.{table_of, slices_fault, as_slices}
 use Rattle.fleet_theory.specs.Fleet.{fleet_fault}
-use Rattle.fleet_state.proofs.Legal.{fits}
 use Rattle.fleet_state.proofs.CheckLaws.{fleet_good}
 use Rattle.output.specs.Output.{output_fault}
 use Rattle.output.proofs.Printing.{prints_refused, prints_done, too_short, long_enough}
@@ -43,17 +42,19 @@ returns-then-fault-ne0 c =
     let f = c.state_fault-fault.ensures.0 in
     prints_refused _ _ printed a.out.now (f ∙ sym (or_none (output_fault (length a.out.now) printed) (site_fault x a.rec.now) (long_enough (length a.out.now) printed long))) c.if-fault-ne0.true
 
+pub invariant_of-counted : goal.invariant_of-counted
+invariant_of-counted c =
+    let x = as_slices c.args.table in
+    let told = c.state_fault-fault in
+    let fine = or_left (slices_fault x) (fleet_fault (table_of x) c.args.rec.now) (sym told.ensures.0 ∙ c.if-fault-ne0.false) in
+    let room : length told.new.degrees ≡ 256 = told.auto.degrees in
+    record { legal = fine; in_degrees = omega (arith, (legal_slices 256 2048 x fine).few, room); are_counted = told.ensures.1 c.if-fault-ne0.false }
+
 pub put_end-length-requires : goal.put_end-length-requires
 put_end-length-requires c =
-    let a = c.args in
-    let x = as_slices a.table in
-    let f = c.state_fault-fault.ensures.0 in
-    let z = sym f ∙ c.if-fault-ne0.false in
-    let l = legal_slices 256 2048 x (or_left (slices_fault x) (fleet_fault (table_of x) a.rec.now) z) in
-    let told = c.state_fault-fault in
-    let room : length told.new.degrees ≡ 256 = told.auto.degrees in
-    let g = fleet_good (table_of x) a.rec.now (or_right (slices_fault x) (fleet_fault (table_of x) a.rec.now) z) in
-    (fits a.table.number a.table.probes a.table.links a.table.needs.now a.table.lows.now a.table.highs.now a.table.costs.now l, omega (arith, g.0), omega (arith, l.few, room), told.ensures.1 c.if-fault-ne0.false, omega arith)
+    let x = as_slices c.args.table in
+    let g = fleet_good (table_of x) c.args.rec.now (or_right (slices_fault x) (fleet_fault (table_of x) c.args.rec.now) (sym c.state_fault-fault.ensures.0 ∙ c.if-fault-ne0.false)) in
+    (omega (arith, g.0), omega arith)
 
 pub returns : goal.returns
 returns c =

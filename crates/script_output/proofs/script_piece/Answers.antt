@@ -20,12 +20,17 @@ returns-then-fault-ne0 c =
     let g = call_is x _ a.progress a.piece.now a.rec.now a.line.now (length a.out.now) _ c.begun-begun.ensures c.piece_fault-fault.ensures.0 in
     unhandled _ _ _ a.rec.now a.line.now a.out.now g c.if-fault-ne0.true
 
-pub handle_piece-place-requires : goal.handle_piece-place-requires
-handle_piece-place-requires c =
+pub invariant_of-counted : goal.invariant_of-counted
+invariant_of-counted c =
     let a = c.args in
     let x = as_slices a.table in
     let told = c.piece_fault-fault in
     let g = call_given x _ a.progress a.piece.now a.rec.now a.line.now (length a.out.now) _ c.begun-begun.ensures told.ensures.0 c.if-fault-ne0.false in
     let room : length told.new.degrees ≡ 256 = told.auto.degrees in
-    let l = legal_slices 256 2048 x g.fine in
-    (g.fine, g.good, omega (arith, l.few, room), told.ensures.1 c.if-fault-ne0.false, g.long, g.fits)
+    record { legal = g.fine; in_degrees = omega (arith, (legal_slices 256 2048 x g.fine).few, room); are_counted = told.ensures.1 c.if-fault-ne0.false }
+
+pub handle_piece-place-requires : goal.handle_piece-place-requires
+handle_piece-place-requires c =
+    let a = c.args in
+    let g = call_given (as_slices a.table) _ a.progress a.piece.now a.rec.now a.line.now (length a.out.now) _ c.begun-begun.ensures c.piece_fault-fault.ensures.0 c.if-fault-ne0.false in
+    (g.good, g.long, g.fits)

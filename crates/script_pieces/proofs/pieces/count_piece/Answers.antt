@@ -45,7 +45,7 @@ take_closed-closed-requires c =
     let f = fleet_good (table_of x) a.rec.now c.requires.0 in
     let zeros : List ℕ = replicate 16384 0 in
     let whole = copied_part zeros _ a.rec.now (length a.rec.now) c.copy.ensures (omega (arith, f.0)) (omega arith) ∙ take_all (length a.rec.now) a.rec.now (omega arith) in
-    (c.args.counted.legal, rw whole c.requires.0, c.args.counted.in_degrees, c.args.counted.are_counted, c.requires.1, c.requires.2)
+    (rw whole c.requires.0, c.requires.1, c.requires.2)
 
 pub returns : goal.returns
 returns c =

@@ -17,19 +17,19 @@ take_lines-behind-requires c =
     let e = c.take_shared-first.ensures in
     let a = c.args in
     let x = as_slices a.counted.table in
-    (c.args.counted.legal, still_usable x (under_way a.progress a.rec.now a.line.now) _ 0 _ _ _ _ _ c.args.counted.legal c.requires.0 e.2, c.args.counted.in_degrees, c.args.counted.are_counted, omega arith, at_most _ 0 _ _ _ _ _ e.2)
+    (still_usable x (under_way a.progress a.rec.now a.line.now) _ 0 _ _ _ _ _ c.args.counted.legal c.requires.0 e.2, omega arith, at_most _ 0 _ _ _ _ _ e.2)
 
 pub overflow_add-result : goal.overflow_add-result
 overflow_add-result c =
     let t = c.take_shared-first in
     let a = c.args in
     let x = as_slices a.counted.table in
-    let r = closed_then x (under_way a.progress a.rec.now a.line.now) a.piece.now _ _ _ _ _ a.line.now a.out.now _ _ t.ensures.0 c.if-p-ne0.false t.auto.out (omega (arith, c.well_formed.1.1.1.1.1.1.0)) t.ensures.2 c.take_lines-behind.ensures in
-    omega (arith, r.within, c.well_formed.1.1.1.1.1.0)
+    let r = closed_then x (under_way a.progress a.rec.now a.line.now) a.piece.now _ _ _ _ _ a.line.now a.out.now _ _ t.ensures.0 c.if-p-ne0.false t.auto.out (omega (arith, c.well_formed.1.1.1.1.1.0)) t.ensures.2 c.take_lines-behind.ensures in
+    omega (arith, r.within, c.well_formed.1.1.1.1.0)
 
 pub returns : goal.returns
 returns c =
     let t = c.take_shared-first in
     let a = c.args in
     let x = as_slices a.counted.table in
-    closed_then x (under_way a.progress a.rec.now a.line.now) a.piece.now _ _ _ _ _ a.line.now a.out.now _ _ t.ensures.0 c.if-p-ne0.false t.auto.out (omega (arith, c.well_formed.1.1.1.1.1.1.0)) t.ensures.2 c.take_lines-behind.ensures
+    closed_then x (under_way a.progress a.rec.now a.line.now) a.piece.now _ _ _ _ _ a.line.now a.out.now _ _ t.ensures.0 c.if-p-ne0.false t.auto.out (omega (arith, c.well_formed.1.1.1.1.1.0)) t.ensures.2 c.take_lines-behind.ensures

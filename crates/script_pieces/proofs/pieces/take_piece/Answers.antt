@@ -9,7 +9,7 @@ use Rattle.script_pieces.proofs.pieces.take_piece.Goals as goal
 
 pub take_closed-closed-requires : goal.take_closed-closed-requires
 take_closed-closed-requires c =
-    (c.args.counted.legal, c.requires.0, c.args.counted.in_degrees, c.args.counted.are_counted, c.requires.1, omega (arith, c.requires.1, c.requires.2))
+    (c.requires.0, c.requires.1, omega (arith, c.requires.1, c.requires.2))
 
 pub append-held-requires : goal.append-held-requires
 append-held-requires c =

@@ -18,12 +18,14 @@ count_degrees-requires c =
     let m = may_count a.table.number a.table.probes a.table.links a.table.needs.now a.table.lows.now a.table.highs.now a.table.costs.now c.requires in
     (m.0, m.1, m.2, m.3, zeros_at 256)
 
-pub script_fits-requires : goal.script_fits-requires
-script_fits-requires c =
-    let a = c.args in
-    let g = legal_slices 256 2048 (as_slices a.table) c.requires in
+pub invariant_of-counted : goal.invariant_of-counted
+invariant_of-counted c =
+    let g = legal_slices 256 2048 (as_slices c.args.table) c.requires in
     let room : length c.count_degrees.new.counts ≡ 256 = c.count_degrees.auto.counts in
-    (c.requires, omega (arith, g.few, room), c.count_degrees.ensures, omega (arith, c.well_formed.1.1.0))
+    record { legal = c.requires; in_degrees = omega (arith, g.few, room); are_counted = c.count_degrees.ensures }
+
+pub script_fits-requires : goal.script_fits-requires
+script_fits-requires c = omega (arith, c.well_formed.1.1.0)
 
 pub returns-then-not-script_fits : goal.returns-then-not-script_fits
 returns-then-not-script_fits c =
@@ -32,13 +34,6 @@ returns-then-not-script_fits c =
     let printed = script_text x 1024 a.text.now in
     let fits = sym c.script_fits.ensures ∙ not-true _ c.if-not-script_fits.true-raw in
     prints_refused _ 8 _ _ (too_short (length a.out.now) printed (leb-false (length printed) (length a.out.now) fits)) (λ z. omega arith)
-
-pub put_script-requires : goal.put_script-requires
-put_script-requires c =
-    let a = c.args in
-    let g = legal_slices 256 2048 (as_slices a.table) c.requires in
-    let room : length c.count_degrees.new.counts ≡ 256 = c.count_degrees.auto.counts in
-    (c.requires, omega (arith, g.few, room), c.count_degrees.ensures)
 
 pub returns : goal.returns
 returns c =

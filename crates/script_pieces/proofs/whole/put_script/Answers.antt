@@ -41,17 +41,15 @@ take_lines-closed-requires c =
     let a = c.args in
     let x = as_slices a.counted.table in
     let m = links_within x c.args.counted.legal in
-    (c.args.counted.legal, zeros_pass x c.args.counted.legal (omega arith), c.args.counted.in_degrees, c.args.counted.are_counted, start.2, omega arith)
+    (zeros_pass x c.args.counted.legal (omega arith), start.2, omega arith)
 
 pub put_end-requires : goal.put_end-requires
 put_end-requires c =
-    let a = c.args in
-    let x = as_slices a.counted.table in
+    let x = as_slices c.args.counted.table in
     let k = c.take_lines-closed in
     let m = links_within x c.args.counted.legal in
-    let zeros : List ℕ = replicate 16384 0 in
-    let n = length-take-le (8 * a.counted.table.links) zeros (omega arith) in
-    (fits a.counted.table.number a.counted.table.probes a.counted.table.links a.counted.table.needs.now a.counted.table.lows.now a.counted.table.highs.now a.counted.table.costs.now (legal_slices 256 2048 x c.args.counted.legal), omega (arith, k.auto.rec), c.args.counted.in_degrees, c.args.counted.are_counted, at_most _ _ _ _ _ _ _ k.ensures.buffered)
+    let n = length-take-le (8 * x.links) (replicate {A = ℕ} 16384 0) (omega arith) in
+    (omega (arith, k.auto.rec), at_most _ _ _ _ _ _ _ k.ensures.buffered)
 
 pub returns : goal.returns
 returns c =

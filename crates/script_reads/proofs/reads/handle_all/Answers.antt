@@ -20,7 +20,7 @@ handle_piece-place-requires g c =
     let n = length-take-le c.in-Bytes.n c.read_some.new.buf (omega (arith, w.1, c.read_some.auto.buf)) in
     let usable = handled_usable x c.args.counted.legal a.line.now l.progress l.rec l.line c.requires.1 l.invariant.handled in
     let fits = piece_fits x l.rec l.progress l.line (take c.in-Bytes.n c.read_some.new.buf) l.out (omega (arith, n, w.1, l.auto.text, l.auto.out, c.requires.2, c.requires.3)) in
-    (c.args.counted.legal, usable, c.args.counted.in_degrees, c.args.counted.are_counted, omega (arith, l.auto.line, c.requires.1), fits)
+    (usable, omega (arith, l.auto.line, c.requires.1), fits)
 
 pub returns-in-End : goal.returns-in-End
 returns-in-End g c =

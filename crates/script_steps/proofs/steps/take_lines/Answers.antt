@@ -29,7 +29,7 @@ answer_line-place-requires c =
     let a = c.args in
     let x = as_slices a.counted.table in
     let v = c.loop-at.invariant in
-    (c.args.counted.legal, still_usable x (under_way a.start.progress a.rec.now []) _ a.start.at _ _ _ _ _ c.args.counted.legal c.requires.0 v.2, c.args.counted.in_degrees, c.args.counted.are_counted, at_most _ a.start.at _ _ _ _ _ v.2)
+    (still_usable x (under_way a.start.progress a.rec.now []) _ a.start.at _ _ _ _ _ c.args.counted.legal c.requires.0 v.2, at_most _ a.start.at _ _ _ _ _ v.2)
 
 pub loop-at-smaller : goal.loop-at-smaller
 loop-at-smaller c =
