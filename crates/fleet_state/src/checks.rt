@@ -110,8 +110,6 @@ pub fn state_fault(table: TableSlices<'_>, rec: &[u8], degrees: &mut [u16]) -> u
     ensures { let x = as_slices table.entry in
         (result ≡ or_else (slices_fault x) (fleet_fault (table_of x) rec.now)) × (result ≡ 0 → Degrees (table_of x) degrees.new) }
 {
-    let probes = table.probes as usize;
-    let links = table.links as usize;
     let fault = table::checks::slice_fault(256, 2048, table);
     if fault != 0 {
         return fault;

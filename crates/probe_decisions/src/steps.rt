@@ -69,7 +69,6 @@ pub fn apply(
         let o = befalls_maps t probe event before in
         (result ≡ entry_of t probe o) × (after ≡ alter_maps table.entry.links o before) × (IsHeard event → own.new ≡ own.old) }
 {
-    let links = table.links as usize;
     let outcome = super::decisions::decide(
         event,
         own,
