@@ -1,5 +1,5 @@
 -- How the code comes to its answer, and what the answer then is.
-use Prim.Native.Nat.{ℕ, ◌+◌, ◌*◌, ◌≤◌, ◌<◌}
+use Prim.Native.Nat.{ℕ, ◌*◌, ◌≤◌, ◌<◌}
 use mathlib.Core.Path.{◌≡◌, ◌∙◌, ap}
 use mathlib.Core.Bool.{Bool, true, false, cond}
 use mathlib.Core.List.{List}
@@ -15,13 +15,12 @@ use Rattle.range.proofs.Sums.{weigh_same}
 use Rattle.range.proofs.Faults.{or_left, or_right}
 use Rattle.table.specs.Table.{Table, of_slices, dearer}
 use Rattle.table.specs.Legal.{table_fault, lent_fault}
-use Rattle.table.specs.Slices.{Slices, slices_of, table_of, slices_room_fault, slice_fault}
+use Rattle.table.specs.Slices.{Slices, table_of, slices_room_fault, slice_fault}
 use Rattle.table.proofs.Accepted.{table_wider}
 use Rattle.table.proofs.Slices.{legal_slices}
 use Rattle.plan_theory.specs.Plan.{kept, rested, kept_count, cost_of, plan_byte, is_kept}
 use Rattle.plan_theory.proofs.Plan.{stored_kept}
-use Rattle.plan_turns_search.specs.Record.{WorkingRoom}
-use Rattle.plan_methods.specs.Planning.{plan_fault, turns_fault, planning_reply, plan_values, SlseReady, Plans, PlansAndClears}
+use Rattle.plan_methods.specs.Planning.{plan_fault, turns_fault, planning_reply, plan_values, Plans, PlansAndClears}
 use Rattle.plan_methods.specs.declared.Planning.{Planning}
 use Rattle.plan_methods.specs.declared.Planning.TheVariants.{Plan, Refused}
 
@@ -66,53 +65,25 @@ lent_good lent needed e = go (dec_lt lent needed)
     go (yes l) = let a : ◌≡◌ {A = ℕ} 8 0 = rw (lt-ltb lent needed l) at e in absurd (omega arith)
     go (no n) = omega arith
 
--- what a call that is not refused has: within the smaller limits, and so within the full ones
-module _ (pmax lmax probes links : ℕ) (needs lows highs costs : List ℕ) (plan : ℕ) (p : pmax ≤ 256) (l : lmax ≤ 2048) (e : plan_fault pmax lmax (slices_of 0 probes links needs lows highs costs) plan ≡ 0) where
-  abbrev slices : Slices
-  slices = slices_of 0 probes links needs lows highs costs
+-- what a call that is not refused has: a table within the limits, and so within the full ones, with room for it and its plan
+pub record Passed (pmax lmax : ℕ) (x : Slices) (plan : ℕ) : Type 0 where
+  pub legal : table_fault 256 2048 (table_of x) ≡ 0
+  pub room : slices_room_fault x ≡ 0
+  pub few : x.probes ≤ pmax
+  pub within : x.links ≤ lmax
+  pub in_plan : x.links ≤ plan
 
-  passed : slice_fault pmax lmax slices ≡ 0
-  passed = or_right (lent_fault plan links) (slice_fault pmax lmax slices) e
-
-  pub legal : table_fault 256 2048 (table_of slices) ≡ 0
-  legal = table_wider pmax lmax 256 2048 (table_of slices) p l (or_right (slices_room_fault slices) (table_fault pmax lmax (table_of slices)) passed)
-
-  pub room : slices_room_fault slices ≡ 0
-  room = or_left (slices_room_fault slices) (table_fault pmax lmax (table_of slices)) passed
-
-  pub few : (probes ≤ pmax) × (links ≤ lmax)
-  few = let k = legal_slices pmax lmax slices passed in (k.few, k.within)
-
-  pub in_plan : links ≤ plan
-  in_plan = lent_good plan links (or_left (lent_fault plan links) (slice_fault pmax lmax slices) e)
-
-  pub slse_ready : (order half digits counts : ℕ) → lmax ≤ order → lmax ≤ half → (1 < digits) × (digits ≤ 256) → pmax ≤ counts
-      → SlseReady links needs lows highs costs plan order half digits counts
-  slse_ready order half digits counts lo lh base lc =
-      let k = few in
-      record {
-        probes = probes;
-        legal = legal;
-        room = room;
-        in_counts = omega (arith, k.0);
-        in_plan = in_plan;
-        in_order = omega (arith, k.1);
-        in_half = omega (arith, k.1);
-        base = base;
-      }
-
-  pub turns_room : (spares marks site order half digits : ℕ) → pmax ≤ spares → 4 * pmax ≤ marks → 8 * lmax + pmax + 2 ≤ site → lmax ≤ order → lmax ≤ half → (1 < digits) × (digits ≤ 256)
-      → WorkingRoom probes links spares marks site order half digits
-  turns_room spares marks site order half digits ls lm lx lo lh base =
-      let k = few in
-      record {
-        in_spares = omega (arith, k.0);
-        in_marks = omega (arith, k.0);
-        in_site = omega (arith, k.0, k.1);
-        in_order = omega (arith, k.1);
-        in_half = omega (arith, k.1);
-        base = base;
-      }
+pub passed : (pmax lmax : ℕ) (x : Slices) (plan : ℕ) → pmax ≤ 256 → lmax ≤ 2048 → plan_fault pmax lmax x plan ≡ 0 → Passed pmax lmax x plan
+passed pmax lmax x plan p l e =
+    let s = or_right (lent_fault plan x.links) (slice_fault pmax lmax x) e in
+    let k = legal_slices pmax lmax x s in
+    record {
+      legal = table_wider pmax lmax 256 2048 (table_of x) p l k.legal;
+      room = or_left (slices_room_fault x) (table_fault pmax lmax (table_of x)) s;
+      few = k.few;
+      within = k.within;
+      in_plan = lent_good plan x.links (or_left (lent_fault plan x.links) (slice_fault pmax lmax x) e);
+    }
 
 -- and one with working bytes
 pub turns_passed : (pmax lmax : ℕ) (x : Slices) (plan work : ℕ) → turns_fault pmax lmax x plan work ≡ 0 → (4 * x.links ≤ work) × (plan_fault pmax lmax x plan ≡ 0)

@@ -1,5 +1,5 @@
-// Planning within limits, in lent slices, and the answer that goes with a plan. The public planners call these.
-ghost use Rattle.std.specs.Prelude.{◌≡◌, ℕ, ◌*◌, ◌<◌, ◌≤◌, length};
+// Planning within limits. The public planners, of the full limits and of the display, call these.
+ghost use Rattle.std.specs.Prelude.{◌≡◌, ℕ, ◌+◌, ◌*◌, ◌<◌, ◌≤◌, length};
 ghost use Rattle.range.specs.Sum.{weigh, count};
 ghost use Rattle.range.specs.Lists.{stored};
 ghost use Rattle.table.specs.Table.{item, of_slices};
@@ -7,14 +7,14 @@ ghost use Rattle.table.specs.Slices.{as_slices, table_of};
 ghost use Rattle.table.specs.Legal.{table_fault, room_fault};
 ghost use Rattle.plan_theory.specs.Plan.{kept, plan_byte, is_kept};
 ghost use Rattle.plan_turns_search.specs.Record.{WorkingRoom};
-ghost use Rattle.plan_methods.specs.Planning.{plan_fault, turns_fault, SlseReady, Plans, PlansAndClears};
+ghost use Rattle.plan_methods.specs.Planning.{plan_fault, turns_fault, SlseReady, Plans, PlansAndClears, PlansBySlse, PlansByTurns};
 ghost use Rattle.plan_methods.specs.declared.Planning.TheVariants.{Plan};
 
 use super::Planning;
 use table::TableSlices;
 
 // The fault of a call with a plan of this length, within the limits pmax and lmax.
-pub fn plan_fault(pmax: usize, lmax: usize, table: TableSlices<'_>, plan: usize) -> u8
+fn plan_fault(pmax: usize, lmax: usize, table: TableSlices<'_>, plan: usize) -> u8
     ensures { result ≡ plan_fault pmax lmax (as_slices table.entry) plan }
 {
     let links = table.links as usize;
@@ -25,7 +25,7 @@ pub fn plan_fault(pmax: usize, lmax: usize, table: TableSlices<'_>, plan: usize)
 }
 
 // And with working bytes of this length.
-pub fn turns_fault(pmax: usize, lmax: usize, table: TableSlices<'_>, plan: usize, work: usize) -> u8
+fn turns_fault(pmax: usize, lmax: usize, table: TableSlices<'_>, plan: usize, work: usize) -> u8
     requires { table.links < 65536 }
     ensures { result ≡ turns_fault pmax lmax (as_slices table.entry) plan work }
 {
@@ -70,7 +70,7 @@ pub fn slse_plan(
 }
 
 // The same plan, and its answer.
-pub fn slse_answer(
+fn slse_answer(
     plan: &mut [u8],
     order: &mut [u16],
     half: &mut [u16],
@@ -88,7 +88,7 @@ pub fn slse_answer(
 }
 
 // The plan by offers in turn of a legal table, and its answer. Behind the working bytes are the slices that it works in.
-pub fn turns_answer(
+fn turns_answer(
     plan: &mut [u8],
     work: &mut [u8],
     spares: &mut [u16],
@@ -108,4 +108,55 @@ pub fn turns_answer(
     let links = table.links as usize;
     plan_turns::method::by_turns(plan, work, spares, marks, site, order, half, digits, table);
     answer(plan, links, table.costs)
+}
+
+// The plan by S-LSE within the limits PMAX and LMAX, in slices of their size.
+pub fn plan_by_slse<const PMAX: usize, const LMAX: usize>(
+    table: TableSlices<'_>,
+    plan: &mut [u8],
+) -> Planning
+    requires { (1 < PMAX) × (PMAX ≤ 256) × (LMAX ≤ 2048) }
+    ensures { PlansBySlse PMAX LMAX (as_slices table.entry) result plan.old plan.new }
+{
+    let fault = plan_fault(PMAX, LMAX, table, plan.len());
+    if fault != 0 {
+        return Planning::Refused(fault);
+    }
+    let mut order = [0u16; LMAX];
+    let mut half = [0u16; LMAX];
+    let mut digits = [0u16; PMAX];
+    let mut counts = [0u16; PMAX];
+    slse_answer(plan, &mut order, &mut half, &mut digits, &mut counts, table)
+}
+
+// The plan by offers in turn within them. MARKS and SITE follow from PMAX and LMAX, but no const argument may be computed.
+pub fn plan_by_turns<const PMAX: usize, const LMAX: usize, const MARKS: usize, const SITE: usize>(
+    table: TableSlices<'_>,
+    plan: &mut [u8],
+    work: &mut [u8],
+) -> Planning
+    requires { (1 < PMAX) × (PMAX ≤ 256) × (LMAX ≤ 2048) × (MARKS ≡ 4 * PMAX) × (SITE ≡ 8 * LMAX + PMAX + 2) }
+    ensures { PlansByTurns PMAX LMAX (as_slices table.entry) result plan.old plan.new work.old work.new }
+{
+    let fault = turns_fault(PMAX, LMAX, table, plan.len(), work.len());
+    if fault != 0 {
+        return Planning::Refused(fault);
+    }
+    let mut spares = [0u16; PMAX];
+    let mut marks = [0u16; MARKS];
+    let mut site = [0u16; SITE];
+    let mut order = [0u16; LMAX];
+    let mut half = [0u16; LMAX];
+    let mut digits = [0u16; PMAX];
+    turns_answer(
+        plan,
+        work,
+        &mut spares,
+        &mut marks,
+        &mut site,
+        &mut order,
+        &mut half,
+        &mut digits,
+        table,
+    )
 }

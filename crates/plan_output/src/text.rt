@@ -1,14 +1,14 @@
-// The whole output of a plan.
+// The whole output of a plan, and of a text within limits.
 ghost use Rattle.std.specs.Prelude.{◌≡◌, ◌<◌, ◌≤◌, length};
 ghost use Rattle.table.specs.Slices.{table_of, slices_fault, as_slices};
 ghost use Rattle.output.specs.Output.{output_fault, Prints};
-ghost use Rattle.plan_output.specs.Output.{plan_text};
+ghost use Rattle.plan_output.specs.Output.{plan_text, PrintsText};
 
 use output::Output;
 use table::{CLOSING_BYTES, TableSlices};
 
 // Prints the plan of the legal table in these slices. It works in `plan`, `order`, `half`, `digits` and `degrees`.
-pub fn print_plan(
+fn print_plan(
     out: &mut [u8],
     plan: &mut [u8],
     order: &mut [u16],
@@ -40,4 +40,50 @@ pub fn print_plan(
     plan_lines::short_lines::put_shorts(out, shorts, probes, table.needs, degrees);
     table_write::line::put_closing(out, end);
     Output::Length(end + CLOSING_BYTES)
+}
+
+// Prints the plan of the table that a text gives within the limits PMAX and LMAX, or the text's refusal.
+pub fn plan_text<const PMAX: usize, const LMAX: usize>(text: &[u8], out: &mut [u8]) -> Output
+    requires { (1 < PMAX) × (PMAX ≤ 256) × (LMAX ≤ 2048) }
+    ensures { PrintsText PMAX LMAX text.now result out.old out.new }
+{
+    let mut needs = [0u16; PMAX];
+    let mut lows = [0u16; LMAX];
+    let mut highs = [0u16; LMAX];
+    let mut costs = [0u16; LMAX];
+    let read = table_read::limited::read_limited(
+        text, &mut needs, &mut lows, &mut highs, &mut costs, PMAX, LMAX, false,
+    );
+    match read {
+        table_read::Reading::Table {
+            number,
+            probes,
+            links,
+            rest: _,
+        } => {
+            let mut plan = [0u8; LMAX];
+            let mut order = [0u16; LMAX];
+            let mut half = [0u16; LMAX];
+            let mut digits = [0u16; PMAX];
+            let mut degrees = [0u16; PMAX];
+            print_plan(
+                out,
+                &mut plan,
+                &mut order,
+                &mut half,
+                &mut digits,
+                &mut degrees,
+                TableSlices {
+                    number,
+                    probes,
+                    links,
+                    needs: &needs,
+                    lows: &lows,
+                    highs: &highs,
+                    costs: &costs,
+                },
+            )
+        }
+        table_read::Reading::Refused(fault) => output::refusals::print_refusal(out, fault),
+    }
 }

@@ -1,4 +1,3 @@
-use borrow.Author.Rules.{rules}
 use mathlib.Core.Path.{sym, ◌∙◌}
 use Rattle.table_write.proofs.Answers.{room_short, room_enough}
 use Rattle.plan_methods.proofs.limited.plan_fault.Goals as goal

@@ -1,31 +1,30 @@
-use borrow.Author.Rules.{rules}
 use Prim.Native.Nat.{ℕ}
 use native.Mathlib.Omega.{arith}
 use lib.ListN.{length-replicate}
 use Rattle.table_read.specs.Reading.{Lent}
 use Rattle.plan_output.proofs.Reading.{refusal_printed, plan_printed, print_ready}
-use Rattle.plan_output.proofs.plan_text.Goals as goal
+use Rattle.plan_output.proofs.text.plan_text.Goals as goal
 
 pub print_plan-requires : goal.print_plan-requires
-print_plan-requires c =
+print_plan-requires g c =
     let a = c.args in
-    let k = c.read_table-read in
+    let k = c.read_limited-read in
     let b : Lent = record { needs = k.new.needs; lows = k.new.lows; highs = k.new.highs; costs = k.new.costs } in
-    let f = print_ready 256 2048 a.text.now _ b k.ensures (omega arith) (omega arith) _ _ _ _ c.in-Table.is in
-    let l = length-replicate {A = ℕ} 2048 0 in
-    let p = length-replicate {A = ℕ} 256 0 in
+    let f = print_ready g.row.PMAX g.row.LMAX a.text.now _ b k.ensures (omega arith) (omega arith) _ _ _ _ c.in-Table.is in
+    let l = length-replicate {A = ℕ} g.row.LMAX 0 in
+    let p = length-replicate {A = ℕ} g.row.PMAX 0 in
     (f.0, omega (arith, f.1), omega (arith, f.1), omega (arith, f.1), omega arith, omega arith, omega (arith, f.2))
 
 pub returns-in-Table : goal.returns-in-Table
-returns-in-Table c =
+returns-in-Table g c =
     let a = c.args in
-    let k = c.read_table-read in
+    let k = c.read_limited-read in
     let b : Lent = record { needs = k.new.needs; lows = k.new.lows; highs = k.new.highs; costs = k.new.costs } in
-    plan_printed 256 2048 a.text.now _ b k.ensures (omega arith) (omega arith) _ _ _ _ c.in-Table.is _ a.out.now _ c.print_plan.ensures
+    plan_printed g.row.PMAX g.row.LMAX a.text.now _ b k.ensures (omega arith) (omega arith) _ _ _ _ c.in-Table.is _ a.out.now _ c.print_plan.ensures
 
 pub returns-in-Refused : goal.returns-in-Refused
-returns-in-Refused c =
+returns-in-Refused g c =
     let a = c.args in
-    let k = c.read_table-read in
+    let k = c.read_limited-read in
     let b : Lent = record { needs = k.new.needs; lows = k.new.lows; highs = k.new.highs; costs = k.new.costs } in
-    refusal_printed 256 2048 a.text.now _ b k.ensures _ _ a.out.now _ c.in-Refused.is c.print_refusal.ensures
+    refusal_printed g.row.PMAX g.row.LMAX a.text.now _ b k.ensures _ _ a.out.now _ c.in-Refused.is c.print_refusal.ensures
