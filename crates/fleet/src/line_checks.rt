@@ -8,6 +8,8 @@ ghost use Rattle.table_links.specs.RisingSlices.{RisingSlices};
 ghost use Rattle.fleet_theory.specs.Fleet.{marks, of_one_probe, event_ends_fault, event_line_fault, unsent_fault};
 
 use super::LineEnds;
+use fleet_rules::Side;
+use fleet_rules::own_bytes::own_mark;
 
 fn refused(fault: u8) -> LineEnds
     ensures { result ≡ record { fault = fault; link = 0 } }
@@ -109,13 +111,13 @@ pub fn unsent_fault(
     match event {
         probe_rules::Event::Opening => 0,
         probe_rules::Event::Offer(i) => {
-            if fleet_rules::own_bytes::out_mark(rec, lows, highs, from, i) == 1 {
+            if own_mark(Side::Out, rec, lows, highs, from, i) == 1 {
                 return 0;
             }
             27
         }
         probe_rules::Event::Refusal(i) => {
-            if fleet_rules::own_bytes::in_mark(rec, lows, highs, from, i) == 1 {
+            if own_mark(Side::In, rec, lows, highs, from, i) == 1 {
                 return 0;
             }
             27

@@ -9,28 +9,25 @@ use lib.ListN.{set}
 use Rattle.table.specs.Table.{Table, touches}
 use Rattle.table_links.proofs.Own.{Next}
 use Rattle.fleet_theory.specs.Fleet.{out_at, in_at, wiped_to}
+use Rattle.fleet_rules.specs.declared.Side.{Side}
+use Rattle.fleet_rules.specs.declared.Side.TheVariants.{Out, In}
+use Rattle.fleet_rules.specs.Sides.{own_at}
 
 -- within the record
-module _ (t : Table) (p i n : ℕ) (l : i < n / 8) where
-  pub out_mark_below : out_at t p i + 4 < n
-  out_mark_below = go (eqb p (t.low i))
-    where
-      go : (b : Bool) → cond b (8 * i) (8 * i + 2) + 4 < n
-      go true = omega arith
-      go false = omega arith
+pub mark_below : (side : Side) (t : Table) (p i n : ℕ) → i < n / 8 → own_at side t p i + 4 < n
+mark_below Out t p i n l = go (eqb p (t.low i))
+  where
+    go : (b : Bool) → cond b (8 * i) (8 * i + 2) + 4 < n
+    go true = omega arith
+    go false = omega arith
+mark_below In t p i n l = go (eqb p (t.low i))
+  where
+    go : (b : Bool) → cond b (8 * i + 3) (8 * i + 1) + 4 < n
+    go true = omega arith
+    go false = omega arith
 
-  pub in_mark_below : in_at t p i + 4 < n
-  in_mark_below = go (eqb p (t.low i))
-    where
-      go : (b : Bool) → cond b (8 * i + 3) (8 * i + 1) + 4 < n
-      go true = omega arith
-      go false = omega arith
-
-  pub out_below : out_at t p i < n
-  out_below = let a = out_mark_below in omega arith
-
-  pub in_below : in_at t p i < n
-  in_below = let a = in_mark_below in omega arith
+pub byte_below : (side : Side) (t : Table) (p i n : ℕ) → i < n / 8 → own_at side t p i < n
+byte_below side t p i n l = let a = mark_below side t p i n l in omega arith
 
 module _ (t : Table) (p : ℕ) (r : List ℕ) where
   pub wiped_none : wiped_to t p 0 r ≡ r

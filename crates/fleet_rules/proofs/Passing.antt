@@ -15,7 +15,9 @@ use Rattle.table.specs.Table.{Table, of_slices, touches, dearer}
 use Rattle.table_links.proofs.Own.{Next}
 use Rattle.probe_record.specs.Record.{own_with}
 use Rattle.fleet_theory.specs.Fleet.{own}
-use Rattle.fleet_rules.specs.Survey.{side_byte, side_better, Surveyed}
+use Rattle.fleet_rules.specs.declared.Side.{Side}
+use Rattle.fleet_rules.specs.Sides.{wanted, side_byte, side_better}
+use Rattle.fleet_rules.specs.Survey.{Surveyed}
 use Rattle.fleet_rules.specs.declared.Survey.{Survey}
 
 pub one_most : (c : Bool) → cond c 1 0 ≤ 1
@@ -93,8 +95,8 @@ module _ (t : Table) (p : ℕ) (byte : ℕ → ℕ) (better : ℕ → ℕ → Bo
       }
 
 -- what a pass tells does not hang on the number, the probe count and the needs
-pub surveyed_same : (value number probes links : ℕ) (needs lows highs costs : List ℕ) (p : ℕ) (r : List ℕ) (s : Survey)
-    → (let t = of_slices 0 0 links [] lows highs costs in Surveyed t p (side_byte value (own t p r)) (side_better value t) value links s)
-    → (let t = of_slices number probes links needs lows highs costs in Surveyed t p (side_byte value (own t p r)) (side_better value t) value links s)
+pub surveyed_same : (side : Side) (number probes links : ℕ) (needs lows highs costs : List ℕ) (p : ℕ) (r : List ℕ) (s : Survey)
+    → (let t = of_slices 0 0 links [] lows highs costs in Surveyed t p (side_byte side (own t p r)) (side_better side t) (wanted side) links s)
+    → (let t = of_slices number probes links needs lows highs costs in Surveyed t p (side_byte side (own t p r)) (side_better side t) (wanted side) links s)
 unfolding dearer own
-surveyed_same value number probes links needs lows highs costs p r s g = record { ones = g.ones; chosen = g.chosen }
+surveyed_same side number probes links needs lows highs costs p r s g = record { ones = g.ones; chosen = g.chosen }

@@ -5,10 +5,12 @@ ghost use Rattle.table_links.specs.OrderedLinks.{OrderedLinks};
 ghost use Rattle.probe_rules.specs.Rules.{opening, offer, befalls};
 ghost use Rattle.probe_rules.specs.Within.{EventWithin};
 ghost use Rattle.fleet_theory.specs.Fleet.{own};
-ghost use Rattle.fleet_rules.specs.Survey.{side_byte, side_better, Surveyed};
+ghost use Rattle.fleet_rules.specs.Sides.{wanted, cheapest, side_byte, side_better};
+ghost use Rattle.fleet_rules.specs.Survey.{Surveyed};
 ghost use Rattle.table.specs.Slices.{as_slices, table_of};
 
-use super::Survey;
+use super::own_bytes::own_byte;
+use super::{Side, Survey};
 use probe_rules::{Event, Outcome};
 use table::TableSlices;
 
@@ -21,36 +23,25 @@ fn one_if(byte: u8) -> usize
     0
 }
 
-// The end's byte on the link k: with value 0 the outbound byte, with value 1 the inbound one.
-fn side_byte(value: u8, rec: &[u8], lows: &[u16], highs: &[u16], probe: usize, k: usize) -> u8
-    requires { (k < length lows.now) × (k < length highs.now) × (k < 65536) × (8 * k + 7 < length rec.now) }
-    ensures { (links : ℕ) → k < links
-        → result ≡ side_byte value (own (of_slices 0 0 links [] lows.now highs.now []) probe rec.now) k }
-{
-    if value == 1 {
-        return super::own_bytes::in_byte(rec, lows, highs, probe, k);
-    }
-    super::own_bytes::out_byte(rec, lows, highs, probe, k)
-}
-
-// The best link so far, with the link k.
-fn best_with(value: u8, byte: u8, costs: &[u16], links: usize, k: usize, best: usize) -> usize
+// The best link so far, with the link k: the dearest of the untried ones, the cheapest of those held.
+fn best_with(side: Side, byte: u8, costs: &[u16], links: usize, k: usize, best: usize) -> usize
     requires { (links ≤ length costs.now) × (k < links) }
     ensures { let cost = item costs.now in
-        result ≡ cond (eqb byte value && (leb links best || cond (eqb value 1) (dearer_by_place cost best k) (dearer_by_place cost k best))) k best }
+        result ≡ cond (eqb byte (wanted side) && (leb links best || cond (cheapest side) (dearer_by_place cost best k) (dearer_by_place cost k best))) k best }
 {
-    if byte != value {
-        return best;
-    }
-    if table_links::order::goes_before(value == 1, costs, links, k, best) {
+    let (wanted, cheapest) = match side {
+        Side::Out => (0, false),
+        Side::In => (1, true),
+    };
+    if byte == wanted && table_links::order::goes_before(cheapest, costs, links, k, best) {
         return k;
     }
     best
 }
 
-// With value 0 the end's offers standing and its dearest untried link, with value 1 its offers held and the cheapest of them.
+// The end's offers standing and its dearest untried link, or its offers held and the cheapest of them.
 fn survey(
-    value: u8,
+    side: Side,
     rec: &[u8],
     links: usize,
     lows: &[u16],
@@ -60,7 +51,7 @@ fn survey(
 ) -> Survey
     requires { OrderedLinks links lows.now highs.now costs.now × (length rec.now ≡ 8 * links) }
     ensures { let t = of_slices 0 0 links [] lows.now highs.now costs.now in
-        Surveyed t probe (side_byte value (own t probe rec.now)) (side_better value t) value links result }
+        Surveyed t probe (side_byte side (own t probe rec.now)) (side_better side t) (wanted side) links result }
 {
     let mut s = Survey {
         count: 0,
@@ -69,10 +60,10 @@ fn survey(
     let mut i = table_links::ends::next_own(links, lows, highs, probe, 0);
     // Stays a while: the step goes to the probe's next own link.
     while i < links {
-        let byte = side_byte(value, rec, lows, highs, probe, i);
+        let byte = own_byte(side, rec, lows, highs, probe, i);
         s = Survey {
             count: s.count + one_if(byte),
-            best: best_with(value, byte, costs, links, i, s.best),
+            best: best_with(side, byte, costs, links, i, s.best),
         };
         i = table_links::ends::next_own(links, lows, highs, probe, i + 1);
     }
@@ -86,7 +77,15 @@ fn decide_opening(rec: &[u8], table: TableSlices<'_>, degrees: &[u16], probe: us
         result ≡ opening t probe (own t probe rec.now) }
 {
     let links = table.links as usize;
-    let s = survey(0, rec, links, table.lows, table.highs, table.costs, probe);
+    let s = survey(
+        Side::Out,
+        rec,
+        links,
+        table.lows,
+        table.highs,
+        table.costs,
+        probe,
+    );
     if table_links::spares::spare_at(degrees, table.needs, probe) <= s.count {
         return Outcome::Enough;
     }
@@ -109,7 +108,15 @@ fn decide_offer(
         result ≡ offer t probe (own t probe rec.now) i }
 {
     let links = table.links as usize;
-    let s = survey(1, rec, links, table.lows, table.highs, table.costs, probe);
+    let s = survey(
+        Side::In,
+        rec,
+        links,
+        table.lows,
+        table.highs,
+        table.costs,
+        probe,
+    );
     if s.count < table_links::spares::spare_at(degrees, table.needs, probe) {
         return Outcome::Taken(i);
     }
@@ -139,13 +146,13 @@ pub fn decide(
     match event {
         Event::Opening => decide_opening(rec, table, degrees, probe),
         Event::Offer(i) => {
-            if super::own_bytes::in_byte(rec, table.lows, table.highs, probe, i) != 0 {
+            if own_byte(Side::In, rec, table.lows, table.highs, probe, i) != 0 {
                 return Outcome::NoChange(i);
             }
             decide_offer(rec, table, degrees, probe, i)
         }
         Event::Refusal(i) => {
-            if super::own_bytes::out_byte(rec, table.lows, table.highs, probe, i) == 2 {
+            if own_byte(Side::Out, rec, table.lows, table.highs, probe, i) == 2 {
                 return Outcome::NoChange(i);
             }
             Outcome::RefusalLearnt(i)

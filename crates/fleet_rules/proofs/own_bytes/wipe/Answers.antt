@@ -6,13 +6,9 @@ use lib.ListN.{set, length-set}
 use Rattle.table.specs.Table.{Table, of_slices}
 use Rattle.table_links.proofs.Own.{Next, next_own_is}
 use Rattle.fleet_theory.specs.Fleet.{wiped_to}
-use Rattle.fleet_rules.proofs.Own.{out_below, in_below, wiped_skip, wiped_next, wiped_none}
+use Rattle.fleet_rules.specs.declared.Side.TheVariants.{Out, In}
+use Rattle.fleet_rules.proofs.Own.{byte_below, wiped_skip, wiped_next, wiped_none}
 use Rattle.fleet_rules.proofs.own_bytes.wipe.Goals as goal
-
-pub next_own-i-requires : goal.next_own-i-requires
-next_own-i-requires c =
-    let p = c.requires in
-    (p.0, p.1, omega arith)
 
 pub loop-i-init : goal.loop-i-init
 loop-i-init c =
@@ -22,36 +18,19 @@ loop-i-init c =
     let n : Next t a.probe 0 first c.next_own-i.result = rw c.next_own-i.ensures (next_own_is t a.probe 0 first) in
     (n.within, n.inside, sym (wiped_none t a.probe a.rec.now) ∙ wiped_skip t a.probe a.rec.now 0 _ first n, refl)
 
-pub out_at-out-requires : goal.out_at-out-requires
-out_at-out-requires c =
-    let p = c.requires in
-    let w = c.loop-i-test.true in
-    (omega (arith, p.0), omega (arith, p.2))
-
-pub in_at-into-requires : goal.in_at-into-requires
-in_at-into-requires c =
-    let p = c.requires in
-    let w = c.loop-i-test.true in
-    (omega (arith, p.0), omega (arith, p.2))
-
 pub bounds-rec-out : goal.bounds-rec-out
 bounds-rec-out c =
     let a = c.args in
     let l = c.loop-i in
     let w = c.loop-i-test.true in
-    rw c.out_at-out.ensures (out_below (of_slices 0 0 0 [] a.lows.now [] []) a.probe l.i _ (omega (arith, c.requires.3, l.invariant.3)))
+    rw c.own_at-out.ensures (byte_below Out (of_slices 0 0 0 [] a.lows.now [] []) a.probe l.i _ (omega (arith, c.requires.3, l.invariant.3)))
 
 pub bounds-rec-into : goal.bounds-rec-into
 bounds-rec-into c =
     let a = c.args in
     let l = c.loop-i in
     let w = c.loop-i-test.true in
-    simp length-set (rw c.in_at-into.ensures (in_below (of_slices 0 0 0 [] a.lows.now [] []) a.probe l.i _ (omega (arith, c.requires.3, l.invariant.3))))
-
-pub next_own-i-requires-in-loop-i : goal.next_own-i-requires-in-loop-i
-next_own-i-requires-in-loop-i c =
-    let p = c.requires in
-    (p.0, p.1, omega (arith, c.loop-i-test.true))
+    simp length-set (rw c.own_at-into.ensures (byte_below In (of_slices 0 0 0 [] a.lows.now [] []) a.probe l.i _ (omega (arith, c.requires.3, l.invariant.3))))
 
 pub loop-i-smaller : goal.loop-i-smaller
 loop-i-smaller c =
@@ -73,11 +52,8 @@ loop-i-preserved c =
     let w = c.loop-i-test.true in
     let next : l.i + 1 ≤ a.links = omega (arith, w) in
     let n : Next t a.probe (l.i + 1) next c.next_own-i-in-loop-i.result = rw c.next_own-i-in-loop-i.ensures (next_own_is t a.probe (l.i + 1) next) in
-    let stored : set (set l.rec c.out_at-out.result 0) c.in_at-into.result 0 ≡ wiped_to t a.probe (l.i + 1) r = rw (c.out_at-out.ensures, c.in_at-into.ensures, l.invariant.2) (wiped_next t a.probe r l.i (l.invariant.1 w)) in
+    let stored : set (set l.rec c.own_at-out.result 0) c.own_at-into.result 0 ≡ wiped_to t a.probe (l.i + 1) r = rw (c.own_at-out.ensures, c.own_at-into.ensures, l.invariant.2) (wiped_next t a.probe r l.i (l.invariant.1 w)) in
     (n.within, n.inside, stored ∙ wiped_skip t a.probe r (l.i + 1) _ next n, simp length-set l.invariant.3)
-
-pub shape_of-rec : goal.shape_of-rec
-shape_of-rec c = c.loop-i.invariant.3
 
 pub returns : goal.returns
 returns c =
