@@ -7,6 +7,7 @@ use native.Mathlib.Numerals.{add-one}
 use native.Mathlib.Omega.{arith}
 use lib.ListN.{length, get_or, take, drop, set, replicate, length-map, length-replicate, get_or-map}
 use lib.Seq.{sets, sets-eq, take-suc, length-take-le, take-append_seam}
+use Rattle.std.proofs.lemmas.List.{take-map}
 use mir.Val.{Val}
 use denote.Laws.{Is}
 use denote.Struct.Laws as LL
@@ -40,17 +41,12 @@ module _ {A : Type 0} where
   pub stored_first : (xs l : List A) → length xs ≤ length l → take (length xs) (sets l 0 xs) ≡ xs
   stored_first xs l room = ap (take (length xs)) (sets-eq xs l 0 (omega (arith, room))) ∙ take-append_seam xs (drop (0 + length xs) l)
 
-map_take : {A B : Type 0} (f : A → B) (k : ℕ) (xs : List A) → map f (take k xs) ≡ take k (map f xs)
-map_take f zero xs = refl
-map_take f (suc k) [] = refl
-map_take {B = B} f (suc k) (x ∷ xs) = ap (λ (r : List B). f x ∷ r) (map_take f k xs)
-
--- the same, where each entry is stored as a number
-pub packed_next : {A : Type 0} (f : A → ℕ) (l : List ℕ) (xs : List A) (at k : ℕ) (d : A) → k < length xs
+-- the same, where of each entry f is stored
+pub stored_next : {A B : Type 0} (f : A → B) (l : List B) (xs : List A) (at k : ℕ) (d : A) → k < length xs
     → set (sets l at (map f (take k xs))) (at + k) (f (get_or xs k d)) ≡ sets l at (map f (take (k + 1) xs))
-packed_next f l xs at k d within =
+stored_next f l xs at k d within =
     let n = length-map xs f in
-    rw (map_take f k xs, map_take f (k + 1) xs, ← get_or-map f xs k d) (sets_next l (map f xs) at k (f d) (omega (arith, within, n)))
+    rw (← take-map f k xs, ← take-map f (k + 1) xs, ← get_or-map f xs k d) (sets_next l (map f xs) at k (f d) (omega (arith, within, n)))
 
 -- what a bag's entries hold in the first places
 pub of_entries : (es : List Entry) → length es ≤ 64 → take (entries_of es).count (entries_of es).entries ≡ es

@@ -150,6 +150,6 @@ pub fn hear_bag(
         used,
         log.len(),
     );
-    bag_entries::logs::append_all(log, used, t.entries);
+    bag_entries::logs::store_all(log, used, t.entries);
     t.answer
 }
