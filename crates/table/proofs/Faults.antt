@@ -8,7 +8,7 @@ use lib.Dec.{ltb, leb, eqb}
 use borrow.Author.Tests.{ltb-true, ltb-false, leb-false, eqb-true, eqb-false, not-false, eq-eqb, ne_eqb, lt-ltb, le-ltb}
 use Rattle.range.specs.First.{first}
 use Rattle.range.proofs.Bools.{and_left, and_right, or_false_left, or_false_right, unless_none, when_none}
-use Rattle.range.proofs.Faults.{or_left, or_here, or_next, or_none, first_none, first_all}
+use Rattle.range.proofs.Faults.{or_left, or_none, first_none, first_all}
 use Rattle.table.specs.Legal.{ends_fault, order_fault, link_fault, size_fault, room_fault, Ends, Size, Room}
 
 pub ends_good : (probes low high : ℕ) → ends_fault probes low high ≡ 0 → Ends probes low high
@@ -60,26 +60,6 @@ room_good probes links needs lows highs costs e =
       equal = eqb-true lows highs (not-false (eqb lows highs) (or_false_left (not (eqb lows highs)) unequal b));
       equal₂ = eqb-true highs costs (not-false (eqb highs costs) (or_false_left (not (eqb highs costs)) short d));
     }
-
--- How the code comes to a link's fault, by ends l and h that are its low and high.
-module _ (probes : ℕ) (low high : ℕ → ℕ) (i l h r : ℕ) (el : l ≡ low i) (eh : h ≡ high i) (e : r ≡ ends_fault probes l h) where
-  abbrev order : ℕ
-  order = cond (eqb i 0) 0 (order_fault (low (i - 1)) (high (i - 1)) (low i) (high i))
-
-  ends : r ≡ ends_fault probes (low i) (high i)
-  ends = e ∙ rw (el, eh)
-
-  pub link_not_ends : (r ≡ 0 → ⊥) → r ≡ link_fault probes low high i
-  unfolding link_fault
-  link_not_ends n = or_here r (ends_fault probes (low i) (high i)) order ends n
-
-  pub link_alone : r ≡ 0 → i ≡ 0 → 0 ≡ link_fault probes low high i
-  unfolding link_fault
-  link_alone z k = or_next r (ends_fault probes (low i) (high i)) order 0 ends z (rw (eq-eqb i 0 k))
-
-  pub link_after : r ≡ 0 → (i ≡ 0 → ⊥) → (l₀ h₀ q : ℕ) → l₀ ≡ low (i - 1) → h₀ ≡ high (i - 1) → q ≡ order_fault l₀ h₀ l h → q ≡ link_fault probes low high i
-  unfolding link_fault
-  link_after z k l₀ h₀ q el₀ eh₀ f = or_next r (ends_fault probes (low i) (high i)) order q ends z (f ∙ rw (el₀, eh₀, el, eh, ne_eqb i 0 k))
 
 -- How the code finds that a link passes: none of the tests that fail it does.
 ends_pass : (probes low high : ℕ) → (leb high low || leb probes high) ≡ false → ends_fault probes low high ≡ 0

@@ -1,74 +1,59 @@
 // The checks of a table. The table's text, the plan, the ends and the fleet call these.
 ghost use Rattle.std.specs.Prelude.{◌≡◌, true, [], ◌-◌, ◌<◌, ◌≤◌, length};
 ghost use Rattle.range.specs.First.{first};
+ghost use Rattle.refusals.specs.Refusals.{fault_of};
 ghost use Rattle.table.specs.Table.{item, of_slices};
-ghost use Rattle.table.specs.Legal.{size_fault, ends_fault, order_fault, link_fault, table_fault, room_fault};
+ghost use Rattle.table.specs.Legal.{size_fault, ends_fault, order_fault, link_fault, room_fault};
 ghost use Rattle.table.specs.Slices.{slice_fault, as_slices};
-ghost use Rattle.table.specs.Checking.{ChecksTable};
 
+use super::TableSlices;
 use super::numbers::wide;
-use super::{Checking, TableSlices};
+use refusals::Refusal;
 
 // 3
-pub fn size_fault(pmax: usize, lmax: usize, probes: usize, links: usize) -> u8
-    ensures { result ≡ size_fault pmax lmax probes links }
+pub fn check_size(pmax: usize, lmax: usize, probes: usize, links: usize) -> Result<(), Refusal>
+    ensures { fault_of result ≡ size_fault pmax lmax probes links }
 {
-    if probes == 0 {
-        return 3;
+    if probes == 0 || pmax < probes || lmax < links {
+        return Err(Refusal::Size);
     }
-    if pmax < probes {
-        return 3;
-    }
-    if lmax < links {
-        return 3;
-    }
-    0
+    Ok(())
 }
 
 // 4
-pub fn ends_fault(probes: usize, low: usize, high: usize) -> u8
-    ensures { result ≡ ends_fault probes low high }
+pub fn check_ends(probes: usize, low: usize, high: usize) -> Result<(), Refusal>
+    ensures { fault_of result ≡ ends_fault probes low high }
 {
-    if high <= low {
-        return 4;
+    if low < high && high < probes {
+        Ok(())
+    } else {
+        Err(Refusal::Ends)
     }
-    if probes <= high {
-        return 4;
-    }
-    0
 }
 
 // 5
-pub fn order_fault(low0: usize, high0: usize, low: usize, high: usize) -> u8
-    ensures { result ≡ order_fault low0 high0 low high }
+pub fn check_order(low0: usize, high0: usize, low: usize, high: usize) -> Result<(), Refusal>
+    ensures { fault_of result ≡ order_fault low0 high0 low high }
 {
-    if low0 < low {
-        return 0;
+    if low0 < low || (low0 == low && high0 < high) {
+        Ok(())
+    } else {
+        Err(Refusal::Order)
     }
-    if low < low0 {
-        return 5;
-    }
-    if high0 < high {
-        return 0;
-    }
-    5
 }
 
 // 4, then 5, of one link.
-fn link_fault(probes: usize, lows: &[u16], highs: &[u16], i: usize) -> u8
+fn check_link(probes: usize, lows: &[u16], highs: &[u16], i: usize) -> Result<(), Refusal>
     requires { (i < length lows.now) × (i < length highs.now) }
-    ensures { result ≡ link_fault probes (item lows.now) (item highs.now) i }
+    ensures { fault_of result ≡ link_fault probes (item lows.now) (item highs.now) i }
 {
     let low = wide(lows[i]);
     let high = wide(highs[i]);
-    let fault = ends_fault(probes, low, high);
-    if fault != 0 {
-        return fault;
-    }
+    check_ends(probes, low, high)?;
     if i == 0 {
-        return 0;
+        return Ok(());
     }
-    order_fault(wide(lows[i - 1]), wide(highs[i - 1]), low, high)
+    check_order(wide(lows[i - 1]), wide(highs[i - 1]), low, high)
 }
 
 // Whether every link passes 4 and 5. No number is read twice and nothing branches, so that several links are compared at a time. Before the first link stand 0 and 0, which come before any link that passes 4.
@@ -92,97 +77,50 @@ fn are_rising(probes: u16, links: usize, lows: &[u16], highs: &[u16]) -> bool
 }
 
 // 4 and 5, link by link.
-fn links_fault(probes: usize, links: usize, lows: &[u16], highs: &[u16]) -> u8
+fn check_links(probes: usize, links: usize, lows: &[u16], highs: &[u16]) -> Result<(), Refusal>
     requires { (links ≤ length lows.now) × (links ≤ length highs.now) }
-    ensures { result ≡ first (link_fault probes (item lows.now) (item highs.now)) links }
+    ensures { fault_of result ≡ first (link_fault probes (item lows.now) (item highs.now)) links }
 {
-    if probes < 65536 {
-        if are_rising(probes as u16, links, lows, highs) {
-            return 0;
-        }
+    if probes < 65536 && are_rising(probes as u16, links, lows, highs) {
+        return Ok(());
     }
     for i in 0..links {
-        let fault = link_fault(probes, lows, highs, i);
-        if fault != 0 {
-            return fault;
-        }
+        check_link(probes, lows, highs, i)?;
     }
-    0
-}
-
-// 3, then 4 and 5 link by link.
-fn table_fault(
-    pmax: usize,
-    lmax: usize,
-    probes: usize,
-    links: usize,
-    lows: &[u16],
-    highs: &[u16],
-) -> u8
-    requires { (links ≤ length lows.now) × (links ≤ length highs.now) }
-    ensures { result ≡ table_fault pmax lmax (of_slices 0 probes links [] lows.now highs.now []) }
-{
-    let size = size_fault(pmax, lmax, probes, links);
-    if size != 0 {
-        return size;
-    }
-    links_fault(probes, links, lows, highs)
+    Ok(())
 }
 
 // 8, by the lengths of the table's slices.
-pub fn room_fault(
+pub fn check_room(
     probes: usize,
     links: usize,
     needs: usize,
     lows: usize,
     highs: usize,
     costs: usize,
-) -> u8
-    ensures { result ≡ room_fault probes links needs lows highs costs }
+) -> Result<(), Refusal>
+    ensures { fault_of result ≡ room_fault probes links needs lows highs costs }
 {
-    if needs < probes {
-        return 8;
+    if needs < probes || lows != highs || highs != costs || lows < links {
+        return Err(Refusal::Slice);
     }
-    if lows != highs {
-        return 8;
-    }
-    if highs != costs {
-        return 8;
-    }
-    if lows < links {
-        return 8;
-    }
-    0
+    Ok(())
 }
 
-// 8, 3, then 4 and 5 link by link.
-pub fn slice_fault(pmax: usize, lmax: usize, table: TableSlices<'_>) -> u8
-    ensures { result ≡ slice_fault pmax lmax (as_slices table.entry) }
+// 8, 3, then 4 and 5 link by link, within the limits pmax and lmax.
+pub fn check_slices(pmax: usize, lmax: usize, table: TableSlices<'_>) -> Result<(), Refusal>
+    ensures { fault_of result ≡ slice_fault pmax lmax (as_slices table.entry) }
 {
     let probes = table.probes as usize;
     let links = table.links as usize;
-    let room = room_fault(
+    check_room(
         probes,
         links,
         table.needs.len(),
         table.lows.len(),
         table.highs.len(),
         table.costs.len(),
-    );
-    if room != 0 {
-        return room;
-    }
-    table_fault(pmax, lmax, probes, links, table.lows, table.highs)
-}
-
-// The answer of a check within the limits pmax and lmax.
-pub fn check_limited(pmax: usize, lmax: usize, table: TableSlices<'_>) -> Checking
-    ensures { ChecksTable pmax lmax (as_slices table.entry) result }
-{
-    let fault = slice_fault(pmax, lmax, table);
-    if fault == 0 {
-        Checking::Fine
-    } else {
-        Checking::Refused(fault)
-    }
+    )?;
+    check_size(pmax, lmax, probes, links)?;
+    check_links(probes, links, table.lows, table.highs)
 }

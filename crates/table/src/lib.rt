@@ -4,6 +4,8 @@
 ghost use Rattle.table.specs.Slices.{as_slices};
 ghost use Rattle.table.specs.Checking.{ChecksTable};
 
+use refusals::Refusal;
+
 pub mod checks;
 pub mod counted;
 pub mod degrees;
@@ -34,16 +36,9 @@ pub struct TableSlices<'a> {
     pub costs: &'a [u16],
 }
 
-// A table's answer: fine, or the number of its refusal.
-#[derive(Clone, Copy)]
-pub enum Checking {
-    Fine,
-    Refused(u8),
-}
-
 // Checks a table that is given in slices by its number, probe count and link count.
-pub fn check_table(table: TableSlices<'_>) -> Checking
+pub fn check_table(table: TableSlices<'_>) -> Result<(), Refusal>
     ensures { ChecksTable 256 2048 (as_slices table.entry) result }
 {
-    checks::check_limited(256, 2048, table)
+    checks::check_slices(256, 2048, table)
 }
