@@ -9,7 +9,7 @@ use lib.ListN.{length, get_or}
 use Rattle.range.specs.First.{or_else, first}
 use Rattle.hex_digits.specs.Digits.{value_of}
 use Rattle.lines.specs.declared.Line.{Line}
-use Rattle.lines.specs.declared.Line.TheVariants.{Here, Missing}
+use Rattle.std.specs.Prelude.{Option, Some, None}
 use Rattle.lines.specs.Line.{line_at}
 use Rattle.lines.specs.Digits.{length_fault, digit_fault, line_fault}
 use Rattle.table.specs.Table.{Table, item, touches, spare, between}
@@ -52,9 +52,9 @@ unless_other : (b : Bool) (n : ℕ) → Other n → Other (cond b 0 n)
 unless_other true n o = λ e. omega arith
 unless_other false n o = o
 
-length_other : (width : ℕ) (l : Line) → Other (length_fault width l)
-length_other width (Here start len) = unless_other (eqb len width) 1 (λ e. omega arith)
-length_other width Missing = λ e. omega arith
+length_other : (width : ℕ) (l : Option Line) → Other (length_fault width l)
+length_other width (Some line) = unless_other (eqb line.len width) 1 (λ e. omega arith)
+length_other width None = λ e. omega arith
 
 frame_other : (l : List ℕ) → Other (frame_fault l)
 unfolding frame_fault line_fault

@@ -2,7 +2,7 @@
 use Prim.Native.Nat.{ℕ, zero, suc, ◌+◌, ◌-◌, ◌*◌, ◌/◌, ◌%◌, ◌^◌, ◌≤◌, ◌<◌}
 use mathlib.Core.Path.{◌≡◌, refl, sym, ◌∙◌, ap}
 use mathlib.Core.Logic.{◌⊎◌, inl, inr}
-use mathlib.Core.Bool.{true, false, ◌&&◌}
+use mathlib.Core.Bool.{Bool, true, false, cond, ◌&&◌}
 use mathlib.Core.List.{List, [], ◌∷◌, ◌++◌}
 use native.Mathlib.Nat.{pow-suc, pow-le-pow_right, add-zero}
 use native.Mathlib.Numerals.{add-one}
@@ -12,7 +12,8 @@ use lib.Dec.{ltb}
 use lib.ListN.{length, get_or, take, drop, set, length-append, length-drop, get_or-append}
 use lib.Seq.{take-suc, get_or-drop, sets, get_or_at, set_comm}
 use borrow.Author.Tests.{lt-ltb, le-ltb, le-leb, lt-leb}
-use Rattle.hex_digits.specs.Digits.{value_of, digit_of, number_at, are_digits, digits}
+use Rattle.std.specs.Prelude.{Some, None}
+use Rattle.hex_digits.specs.Digits.{value_of, digit_of, number_at, are_digits, number_in, digits}
 
 -- The value of a byte, by its range.
 
@@ -235,3 +236,11 @@ put_step l m at (suc w) v d some e h =
     let k : suc w - 1 ≡ w = omega arith in
     let last = rw (length_digits w (v / 16)) at (sets_last (digits w (v / 16)) l at (digit_of (v % 16))) in
     rw (k, e) (sym last ∙ h)
+
+-- a number that is read has digits alone
+pub number_in_some : (s : List ℕ) (at w n : ℕ) → Some n ≡ number_in s at w → (are_digits s at w ≡ true) × (n ≡ number_at s at w)
+number_in_some s at w n e = go (are_digits s at w) e
+  where
+    go : (b : Bool) → Some n ≡ cond b (Some (number_at s at w)) None → (b ≡ true) × (n ≡ number_at s at w)
+    go true e = (refl, cc)
+    go false e = let z : ◌≡◌ {A = ℕ} 0 1 = cc in absurd (omega arith)

@@ -1,5 +1,5 @@
 -- Numbers as lower-case hexadecimal digits.
-use Rattle.std.specs.Prelude.{ℕ, zero, suc, ◌+◌, ◌-◌, ◌*◌, ◌/◌, ◌%◌, Bool, true, cond, ◌&&◌, List, [], ◌∷◌, ◌++◌, leb, ltb, get_or}
+use Rattle.std.specs.Prelude.{ℕ, zero, suc, ◌+◌, ◌-◌, ◌*◌, ◌/◌, ◌%◌, Bool, true, cond, ◌&&◌, List, [], ◌∷◌, ◌++◌, leb, ltb, get_or, Option, Some, None}
 
 -- "for each byte its digit value, or 255 where it is no digit"
 unfoldable pub value_of : ℕ → ℕ
@@ -18,6 +18,10 @@ number_at s at (suc w) = number_at s at w * 16 + value_of (get_or s (at + w) 0)
 unfoldable pub are_digits : List ℕ → ℕ → ℕ → Bool
 are_digits s at zero = true
 are_digits s at (suc w) = are_digits s at w && ltb (value_of (get_or s (at + w) 0)) 16
+
+-- the number that they write, where each is a digit
+abbrev pub number_in : List ℕ → ℕ → ℕ → Option ℕ
+number_in s at w = cond (are_digits s at w) (Some (number_at s at w)) None
 
 -- the w digits that write v, the highest first
 unfoldable pub digits : ℕ → ℕ → List ℕ

@@ -1,14 +1,7 @@
 // Fields of digits. The table's reader and writer, the frames and the programs call these, within the bounds that they ask.
 ghost use Rattle.std.specs.Prelude.{◌≡◌, ℕ, ◌+◌, ◌≤◌, ◌<◌, length, get_or};
 ghost use Rattle.std.proofs.lemmas.List.Edits.{sets};
-ghost use Rattle.hex_digits.specs.Digits.{value_of, digit_of, number_at, are_digits, digits};
-
-// Bytes that were read: the number that they write as digits, and whether each is a digit.
-#[derive(Clone, Copy)]
-pub struct Digits {
-    pub number: usize,
-    pub good: bool,
-}
+ghost use Rattle.hex_digits.specs.Digits.{value_of, digit_of, number_in, digits};
 
 fn wide(x: u8) -> usize
     ensures { result ≡ x }
@@ -17,9 +10,9 @@ fn wide(x: u8) -> usize
 }
 
 // In one pass, by the table of the bytes' values. No 14 digits have values that add up to 255, which a byte that is no digit has alone.
-fn read_by(values: &[u8], text: &[u8], at: usize, width: usize) -> Digits
+fn read_by(values: &[u8], text: &[u8], at: usize, width: usize) -> Option<usize>
     requires { ((b : ℕ) → b < 256 → get_or values.now b 0 ≡ value_of b) × (length values.now ≡ 256) × (at + width ≤ length text.now) × (width ≤ 14) }
-    ensures { (result.number ≡ number_at text.now at width) × (result.good ≡ are_digits text.now at width) }
+    ensures { result ≡ number_in text.now at width }
 {
     let mut number: usize = 0;
     let mut sum: usize = 0;
@@ -28,16 +21,13 @@ fn read_by(values: &[u8], text: &[u8], at: usize, width: usize) -> Digits
         number = number * 16 + value;
         sum += value;
     }
-    Digits {
-        number,
-        good: sum < 255,
-    }
+    if sum < 255 { Some(number) } else { None }
 }
 
-// The bytes from an offset on, read as digits.
-pub fn read_digits(text: &[u8], at: usize, width: usize) -> Digits
+// The number that bytes from an offset on write, where each is a digit.
+pub fn read_digits(text: &[u8], at: usize, width: usize) -> Option<usize>
     requires { (at + width ≤ length text.now) × (width ≤ 14) }
-    ensures { (result.number ≡ number_at text.now at width) × (result.good ≡ are_digits text.now at width) }
+    ensures { result ≡ number_in text.now at width }
 {
     read_by(&super::values::VALUES, text, at, width)
 }

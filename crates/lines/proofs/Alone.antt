@@ -9,13 +9,15 @@ use lib.Dec.{eqb}
 use lib.ListN.{length, get_or, drop, length-drop}
 use lib.Seq.{take_all, get_or-take, get_or-drop, length-take-le}
 use borrow.Author.Tests.{ne_eqb, lt-ltb, le-ltb}
+use Rattle.std.specs.Prelude.{None, Result, Ok, Err}
 use Rattle.range.specs.First.{or_else, first}
-use Rattle.range.specs.Reply.{reply_of}
 use Rattle.range.proofs.Faults.{first_same}
+use Rattle.refusals.specs.Refusals.{number_of, reply_in}
+use Rattle.refusals.specs.declared.Refusal.{Refusal}
+use Rattle.refusals.proofs.Laws.{number_some}
 use Rattle.hex_digits.specs.Digits.{number_at}
 use Rattle.lines.specs.Line.{until_feed, line_at}
 use Rattle.lines.specs.Digits.{digit_fault, line_fault}
-use Rattle.lines.specs.declared.Line.TheVariants.{Missing}
 use Rattle.lines.specs.Fields.{digits_of, numbers_at, line_reply, line_bytes, need_fields, triple_fields, frame_fields, SameAsAlone, LinesAlone, ReadsLine}
 use Rattle.lines.proofs.Feeds.{until_le, until_at, until_before, until_is}
 use Rattle.lines.proofs.Lines.{line_good, until_width, fault_of_missing}
@@ -34,7 +36,7 @@ numbers_same s t a b (w ∷ ws) h =
     (λ j l. let e : a + w + j ≡ a + (w + j) = omega arith in let f : b + w + j ≡ b + (w + j) = omega arith in rw (e, f) (h (w + j) (omega arith))) in
     rw (number_same s t a b w (λ j l. h j (omega arith)), later)
 
-missing_at : (s : List ℕ) (at : ℕ) → length s ≤ at + until_feed (drop at s) → (line_at s at).line ≡ Missing
+missing_at : (s : List ℕ) (at : ℕ) → length s ≤ at + until_feed (drop at s) → (line_at s at).line ≡ None
 unfolding line_at
 missing_at s at l = rw (le-ltb (at + until_feed (drop at s)) (length s) l)
 
@@ -67,7 +69,7 @@ module _ (s : List ℕ) (at : ℕ) where
   open_all : (end < length (drop at s) → ⊥) → bytes ≡ drop at s
   open_all n = let l = until_le (drop at s) in take_all (end + 1) (drop at s) (omega arith)
 
-  missing : (end < length (drop at s) → ⊥) → ((line_at s at).line ≡ Missing) × ((line_at bytes 0).line ≡ Missing)
+  missing : (end < length (drop at s) → ⊥) → ((line_at s at).line ≡ None) × ((line_at bytes 0).line ≡ None)
   missing n =
       let l = until_le (drop at s) in
       let k = length-drop at s in
@@ -120,9 +122,6 @@ pub lines_alone : LinesAlone
 lines_alone = record { need = same_as_alone need_fields; header_and_link = same_as_alone triple_fields; frame = same_as_alone frame_fields }
 
 -- what was read of a line is what it gives
-pub reads_reply : (ws s : List ℕ) (at fault : ℕ) (numbers : List ℕ) → ReadsLine ws s at fault numbers → reply_of fault numbers ≡ line_reply ws s at
-reads_reply ws s at fault numbers r = go (ℕ_discrete fault 0)
-  where
-    go : Dec (fault ≡ 0) → reply_of fault numbers ≡ line_reply ws s at
-    go (yes e) = rw (r.1 e, r.0)
-    go (no n) = rw (← r.0, ne_eqb fault 0 n)
+pub reads_reply : {A : Type 0} (numbers : A → List ℕ) (ws s : List ℕ) (at : ℕ) (r : Result A Refusal) → ReadsLine numbers ws s at r → reply_in numbers r ≡ line_reply ws s at
+reads_reply numbers ws s at (Ok x) r = rw (r.1, ← r.0)
+reads_reply numbers ws s at (Err e) r = rw (← r.0, ne_eqb (number_of e) 0 (number_some e))

@@ -8,15 +8,15 @@ use lib.Dec.{ltb, eqb}
 use lib.ListN.{length, get_or, drop, length-drop}
 use lib.Seq.{get_or-drop}
 use borrow.Author.Tests.{ltb-true, lt-ltb, eqb-true, eq-eqb, ne_eqb}
+use Rattle.std.specs.Prelude.{Option, Some, None}
 use Rattle.range.specs.First.{or_else, first}
 use Rattle.range.proofs.Bools.{unless_none}
 use Rattle.range.proofs.Faults.{or_left, or_right, first_all, none_first}
 use Rattle.hex_digits.specs.Digits.{value_of, number_at, are_digits}
 use Rattle.hex_digits.proofs.Laws.{number_fits}
-use Rattle.lines.specs.Line.{until_feed, line_at}
+use Rattle.lines.specs.Line.{until_feed, here, line_at}
 use Rattle.lines.specs.Digits.{length_fault, digit_fault, line_fault}
 use Rattle.lines.specs.declared.Line.{Line}
-use Rattle.lines.specs.declared.Line.TheVariants.{Here, Missing}
 use Rattle.lines.specs.declared.Found.{Found}
 use Rattle.lines.proofs.Feeds.{until_at, until_is}
 
@@ -26,16 +26,17 @@ pub record There (s : List ℕ) (at start len : ℕ) : Type 0 where
   pub closes : len ≡ until_feed (drop at s)
   pub within : at + len < length s
 
-pub there : (s : List ℕ) (at start len : ℕ) → (line_at s at).line ≡ Here start len → There s at start len
+pub there : (s : List ℕ) (at start len : ℕ) → (line_at s at).line ≡ here start len → There s at start len
 unfolding line_at
 there s at start len e = go (ltb (at + until_feed (drop at s)) (length s)) refl e
   where
     go : (b : Bool) → ltb (at + until_feed (drop at s)) (length s) ≡ b
-        → (cond {A = Found} b (record { line = Here at (until_feed (drop at s)); next = at + until_feed (drop at s) + 1 }) (record { line = Missing; next = length s })).line ≡ Here start len
+        → (cond {A = Found} b (record { line = here at (until_feed (drop at s)); next = at + until_feed (drop at s) + 1 }) (record { line = None; next = length s })).line ≡ here start len
         → There s at start len
     go true t h =
-        let a : at ≡ start = cc in
-        let l : until_feed (drop at s) ≡ len = cc in
+        let e : ◌≡◌ {A = Line} (record { start = at; len = until_feed (drop at s) }) (record { start = start; len = len }) = cc in
+        let a : at ≡ start = ap (λ (l : Line). l.start) e in
+        let l : until_feed (drop at s) ≡ len = ap (λ (l : Line). l.len) e in
         let w : at + until_feed (drop at s) < length s = ltb-true (at + until_feed (drop at s)) (length s) t in
         record { starts = sym a; closes = sym l; within = omega arith }
     go false t h = let z : ◌≡◌ {A = ℕ} 0 1 = cc in absurd (omega arith)
@@ -56,10 +57,10 @@ line_good s at width e = go (line_at s at).line refl (or_left (length_fault widt
         (unless_none (ltb (value_of (get_or s (at + j) 0)) 16) 1
         (first_all (λ j. digit_fault (get_or s (at + j) 0)) width j (or_right (length_fault width (line_at s at).line) (first (λ j. digit_fault (get_or s (at + j) 0)) width) e) l))
 
-    go : (l : Line) → (line_at s at).line ≡ l → length_fault width l ≡ 0 → GoodLine s at width
-    go (Here start len) h z =
-        let t = there s at start len h in
-        let n : len ≡ width = eqb-true len width (unless_none (eqb len width) 0 z) in
+    go : (l : Option Line) → (line_at s at).line ≡ l → length_fault width l ≡ 0 → GoodLine s at width
+    go (Some line) h z =
+        let t = there s at line.start line.len h in
+        let n : line.len ≡ width = eqb-true line.len width (unless_none (eqb line.len width) 0 z) in
         let k = t.closes in
         let inside : until_feed (drop at s) < length (drop at s) = simp length-drop (let w = t.within in omega arith) in
         let f = until_at (drop at s) inside in
@@ -69,7 +70,7 @@ line_good s at width e = go (line_at s at).line refl (or_left (length_fault widt
           feed = ap (λ (m : ℕ). get_or s (at + m) 0) (sym n ∙ k) ∙ sym (get_or-drop at s (until_feed (drop at s)) 0) ∙ f;
           digits = digit;
         }
-    go Missing h z = absurd (omega arith)
+    go None h z = absurd (omega arith)
 
 -- a line feed is no digit
 feed_value : value_of 10 ≡ 255
@@ -110,24 +111,24 @@ pub fault_of_feed : (s : List ℕ) (at width : ℕ) → (at + width < length s �
 unfolding line_fault
 fault_of_feed s at width none = go (line_at s at).line refl
   where
-    go : (l : Line) → (line_at s at).line ≡ l → 1 ≡ or_else (length_fault width l) (first (λ j. digit_fault (get_or s (at + j) 0)) width)
-    go (Here start len) h =
-        let t = there s at start len h in
+    go : (l : Option Line) → (line_at s at).line ≡ l → 1 ≡ or_else (length_fault width l) (first (λ j. digit_fault (get_or s (at + j) 0)) width)
+    go (Some line) h =
+        let t = there s at line.start line.len h in
         let k = t.closes in
         let w = t.within in
         let inside : until_feed (drop at s) < length (drop at s) = simp length-drop (omega arith) in
-        let feed : len ≡ width → get_or s (at + width) 0 ≡ 10 =
+        let feed : line.len ≡ width → get_or s (at + width) 0 ≡ 10 =
         λ e. ap (λ (m : ℕ). get_or s (at + m) 0) (sym e ∙ k) ∙ sym (get_or-drop at s (until_feed (drop at s)) 0) ∙ until_at (drop at s) inside in
-        rw (ne_eqb len width (λ e. none (omega arith) (feed e)))
-    go Missing h = refl
+        rw (ne_eqb line.len width (λ e. none (omega arith) (feed e)))
+    go None h = refl
 
 -- a line that is missing
-pub fault_of_missing : (s : List ℕ) (at width : ℕ) → (line_at s at).line ≡ Missing → 1 ≡ line_fault s at width
+pub fault_of_missing : (s : List ℕ) (at width : ℕ) → (line_at s at).line ≡ None → 1 ≡ line_fault s at width
 unfolding line_fault
 fault_of_missing s at width h = rw h
 
 -- a line of another length
-pub fault_of_length : (s : List ℕ) (at width start len : ℕ) → (line_at s at).line ≡ Here start len → (len ≡ width → ⊥) → 1 ≡ line_fault s at width
+pub fault_of_length : (s : List ℕ) (at width start len : ℕ) → (line_at s at).line ≡ here start len → (len ≡ width → ⊥) → 1 ≡ line_fault s at width
 unfolding line_fault
 fault_of_length s at width start len h n = rw (h, ne_eqb len width n)
 
@@ -141,7 +142,7 @@ digits_first s at (suc w) = rw (digits_first s at w) (go (are_digits s at w) (lt
     go false b = refl
 
 -- a byte of it is no digit
-pub fault_of_digits : (s : List ℕ) (at width start len : ℕ) → (line_at s at).line ≡ Here start len → len ≡ width → are_digits s at width ≡ false → 2 ≡ line_fault s at width
+pub fault_of_digits : (s : List ℕ) (at width start len : ℕ) → (line_at s at).line ≡ here start len → len ≡ width → are_digits s at width ≡ false → 2 ≡ line_fault s at width
 unfolding line_fault
 fault_of_digits s at width start len h n bad = rw (h, eq-eqb len width n, digits_first s at width, bad)
 

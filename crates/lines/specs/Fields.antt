@@ -1,6 +1,8 @@
 -- Lines of fields, and a line read where it stands: document 02, No. 5.
-use Rattle.std.specs.Prelude.{ℕ, ◌+◌, ◌≡◌, List, [], ◌∷◌, take, drop}
+use Rattle.std.specs.Prelude.{ℕ, ◌+◌, ◌≡◌, List, [], ◌∷◌, take, drop, Result, IfOk}
 use Rattle.range.specs.Reply.{Reply, reply_of}
+use Rattle.refusals.specs.Refusals.{fault_of}
+use Rattle.refusals.specs.declared.Refusal.{Refusal}
 use Rattle.hex_digits.specs.Digits.{number_at}
 use Rattle.lines.specs.Line.{until_feed}
 use Rattle.lines.specs.Digits.{line_fault}
@@ -48,5 +50,5 @@ pub record LinesAlone : Type 0 where
   pub frame : SameAsAlone frame_fields
 
 -- a line of these fields was read at an offset: its fault, and its numbers where it has none
-abbrev pub ReadsLine : List ℕ → List ℕ → ℕ → ℕ → List ℕ → Type 0
-ReadsLine ws s at fault numbers = (fault ≡ line_fault s at (digits_of ws)) × (fault ≡ 0 → numbers ≡ numbers_at s at ws)
+abbrev pub ReadsLine : {A : Type 0} → (A → List ℕ) → List ℕ → List ℕ → ℕ → Result A Refusal → Type 0
+ReadsLine numbers ws s at r = (fault_of r ≡ line_fault s at (digits_of ws)) × IfOk r (λ x. numbers x ≡ numbers_at s at ws)

@@ -4,17 +4,17 @@
 ghost use Rattle.std.specs.Prelude.{◌≡◌, length, leb};
 ghost use Rattle.lines.specs.Line.{line_at};
 
-// A line by its place in the text, without its line feed. `Missing`: no line feed closes one.
+// A line by its place in the text, without its line feed.
 #[derive(Clone, Copy)]
-pub enum Line {
-    Here { start: usize, len: usize },
-    Missing,
+pub struct Line {
+    pub start: usize,
+    pub len: usize,
 }
 
-// A line, and the offset behind its line feed, or the text's end where the line is missing.
+// The line that a line feed closes, if one does, and the offset behind that line feed, or else the text's end.
 #[derive(Clone, Copy)]
 pub struct Found {
-    pub line: Line,
+    pub line: Option<Line>,
     pub next: usize,
 }
 
@@ -24,16 +24,16 @@ pub fn find_line(text: &[u8], at: usize) -> Found
     for i in at..text.len() {
         if text[i] == b'\n' {
             return Found {
-                line: Line::Here {
+                line: Some(Line {
                     start: at,
                     len: i - at,
-                },
+                }),
                 next: i + 1,
             };
         }
     }
     Found {
-        line: Line::Missing,
+        line: None,
         next: text.len(),
     }
 }

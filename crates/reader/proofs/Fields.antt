@@ -11,7 +11,9 @@ use Rattle.range.proofs.Bools.{and_left, and_right}
 use Rattle.hex_digits.specs.Digits.{number_at}
 use Rattle.hex_digits.proofs.Laws.{number_parts}
 use Rattle.lines.specs.Digits.{line_fault}
-use Rattle.lines.specs.Fields.{need_fields, triple_fields, ReadsLine}
+use Rattle.lines.specs.Fields.{triple_fields, numbers_at}
+use Rattle.reader.specs.Triple.{numbers_of}
+use Rattle.reader.specs.declared.numbers.Triple.{Triple}
 use Rattle.lines.proofs.Lines.{line_good, field_fits}
 
 module _ (s : List ℕ) (at width : ℕ) (r : Bool) (e : r ≡ (ltb (at + width) (length s) && eqb (get_or s (at + width) 0) 10)) where
@@ -28,33 +30,21 @@ pub last_four : (s : List ℕ) (at u width : ℕ) → line_fault s at width ≡ 
 last_four s at u width e l =
     number_parts s at u (field_fits s at width u (line_good s at width e) l)
 
-module _ (s : List ℕ) (at fault number : ℕ) where
-  pub need_reads : (fault ≡ line_fault s at 4) × (fault ≡ 0 → number ≡ number_at s at 4) → ReadsLine need_fields s at fault (number ∷ [])
-  need_reads r = (r.0, λ z. ap (λ (n : ℕ). n ∷ []) (r.1 z))
+-- the numbers of a line of twelve digits without a fault
+pub triple_reads : (s : List ℕ) (at number : ℕ) → 0 ≡ line_fault s at 12 → number ≡ number_at s at 12
+    → number / 65536 / 65536 ∷ number / 65536 % 65536 ∷ number % 65536 ∷ [] ≡ numbers_at s at triple_fields
+triple_reads s at number good n =
+    let c = last_four s at 8 12 (sym good) (omega arith) in
+    let b = last_four s at 4 12 (sym good) (omega arith) in
+    let e : at + 4 + 4 ≡ at + 8 = omega arith in
+    rw (n, c.0, c.1, b.0, b.1, e)
 
-  pub triple_reads : (fault ≡ line_fault s at 12) × (fault ≡ 0 → number ≡ number_at s at 12)
-      → ReadsLine triple_fields s at fault (number / 65536 / 65536 ∷ number / 65536 % 65536 ∷ number % 65536 ∷ [])
-  triple_reads r = (r.0, numbers)
-    where
-      numbers : fault ≡ 0 → number / 65536 / 65536 ∷ number / 65536 % 65536 ∷ number % 65536 ∷ [] ≡ number_at s at 4 ∷ number_at s (at + 4) 4 ∷ number_at s (at + 4 + 4) 4 ∷ []
-      numbers z =
-          let good = sym r.0 ∙ z in
-          let c = last_four s at 8 12 good (omega arith) in
-          let b = last_four s at 4 12 good (omega arith) in
-          let e : at + 4 + 4 ≡ at + 8 = omega arith in
-          rw (r.1 z, c.0, c.1, b.0, b.1, e)
-
--- The numbers of a line that was read and has no fault.
-
-pub need_number : (s : List ℕ) (at fault a : ℕ) → ReadsLine need_fields s at fault (a ∷ []) → fault ≡ 0 → a ≡ number_at s at 4
-need_number s at fault a r z = let e = r.1 z in cc
-
-pub triple_numbers : (s : List ℕ) (at fault a b d : ℕ) → ReadsLine triple_fields s at fault (a ∷ b ∷ d ∷ []) → fault ≡ 0
-    → (a ≡ number_at s at 4) × (b ≡ number_at s (at + 4) 4) × (d ≡ number_at s (at + 8) 4)
-triple_numbers s at fault a b d r z =
-    let e = r.1 z in
+-- the numbers of a line that was read
+pub triple_numbers : (s : List ℕ) (at : ℕ) (t : Triple) → numbers_of t ≡ numbers_at s at triple_fields
+    → (t.first ≡ number_at s at 4) × (t.second ≡ number_at s (at + 4) 4) × (t.third ≡ number_at s (at + 8) 4)
+triple_numbers s at t e =
     let k : at + 4 + 4 ≡ at + 8 = omega arith in
-    let first : a ≡ number_at s at 4 = cc in
-    let second : b ≡ number_at s (at + 4) 4 = cc in
-    let third : d ≡ number_at s (at + 4 + 4) 4 = cc in
+    let first : t.first ≡ number_at s at 4 = cc in
+    let second : t.second ≡ number_at s (at + 4) 4 = cc in
+    let third : t.third ≡ number_at s (at + 4 + 4) 4 = cc in
     (first, second, third ∙ ap (λ (p : ℕ). number_at s p 4) k)

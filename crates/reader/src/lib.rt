@@ -17,7 +17,7 @@ pub struct Reader<'a> {
 // A line, and the reader that goes on behind it.
 #[derive(Clone, Copy)]
 pub struct Taken<'a> {
-    pub line: Line,
+    pub line: Option<Line>,
     pub rest: Reader<'a>,
 }
 

@@ -1,22 +1,16 @@
 // Lines of digits, read where they stand: a line's fault or its numbers, in one pass over it.
-ghost use Rattle.std.specs.Prelude.{◌≡◌, false, ◌&&◌, [], ◌∷◌, ◌+◌, ◌≤◌, eqb, ltb, length, get_or};
+ghost use Rattle.std.specs.Prelude.{◌≡◌, false, ◌&&◌, [], ◌∷◌, ◌+◌, ◌≤◌, eqb, ltb, length, get_or, IfOk};
 ghost use Rattle.hex_digits.specs.Digits.{number_at, are_digits};
+ghost use Rattle.refusals.specs.Refusals.{fault_of, number_of};
 ghost use Rattle.lines.specs.Digits.{line_fault};
 ghost use Rattle.lines.specs.Fields.{need_fields, triple_fields, ReadsLine};
+ghost use Rattle.reader.specs.Triple.{numbers_of};
 
-use lines::Line;
+use refusals::Refusal;
 
-// A line that was read: its fault, 0 for none, and where there is none the number that its digits write.
-#[derive(Clone, Copy)]
-pub struct Number {
-    pub fault: u8,
-    pub number: usize,
-}
-
-// A line of three numbers, of four digits each: its fault, 0 for none, and where there is none the numbers.
+// The numbers of a line of three, four digits each.
 #[derive(Clone, Copy)]
 pub struct Triple {
-    pub fault: u8,
     pub first: usize,
     pub second: usize,
     pub third: usize,
@@ -36,64 +30,46 @@ fn feed_behind(text: &[u8], at: usize, width: usize) -> bool
 }
 
 // 1 or 2 of a line of which a byte is no digit: it may be the line feed of a shorter line.
-fn bad_digit(text: &[u8], at: usize, width: usize) -> u8
+fn bad_digit(text: &[u8], at: usize, width: usize) -> Refusal
     requires { are_digits text.now at width ≡ false }
-    ensures { result ≡ line_fault text.now at width }
+    ensures { number_of result ≡ line_fault text.now at width }
 {
-    let found = super::line_at(text, at);
-    let line = found.line;
-    match line {
-        Line::Here { start: _, len } => {
-            if len != width {
-                return 1;
-            }
-            2
-        }
-        Line::Missing => 1,
+    match super::line_at(text, at).line {
+        Some(line) if line.len == width => Refusal::Digit,
+        _ => Refusal::Line,
     }
 }
 
 // The line of so many digits at an offset.
-pub fn number_line(text: &[u8], at: usize, width: usize) -> Number
+pub fn number_line(text: &[u8], at: usize, width: usize) -> Result<usize, Refusal>
     requires { width ≤ 14 }
-    ensures { (result.fault ≡ line_fault text.now at width) × (result.fault ≡ 0 → result.number ≡ number_at text.now at width) }
+    ensures { (fault_of result ≡ line_fault text.now at width) × IfOk result (λ number. number ≡ number_at text.now at width) }
 {
     if !feed_behind(text, at, width) {
-        return Number {
-            fault: 1,
-            number: 0,
-        };
+        return Err(Refusal::Line);
     }
-    let read = hex_digits::fields::read_digits(text, at, width);
-    if read.good {
-        return Number {
-            fault: 0,
-            number: read.number,
-        };
-    }
-    Number {
-        fault: bad_digit(text, at, width),
-        number: read.number,
+    match hex_digits::fields::read_digits(text, at, width) {
+        Some(number) => Ok(number),
+        None => Err(bad_digit(text, at, width)),
     }
 }
 
 // The need line at an offset.
-pub fn need_line(text: &[u8], at: usize) -> Number
-    ensures { ReadsLine need_fields text.now at result.fault (result.number ∷ []) }
+pub fn need_line(text: &[u8], at: usize) -> Result<usize, Refusal>
+    ensures { ReadsLine (λ n. n ∷ []) need_fields text.now at result }
 {
     number_line(text, at, 4)
 }
 
 // The header or link line at an offset.
-pub fn triple_line(text: &[u8], at: usize) -> Triple
-    ensures { ReadsLine triple_fields text.now at result.fault (result.first ∷ result.second ∷ result.third ∷ []) }
+pub fn triple_line(text: &[u8], at: usize) -> Result<Triple, Refusal>
+    ensures { ReadsLine numbers_of triple_fields text.now at result }
 {
-    let line = number_line(text, at, 12);
-    let two = line.number / 65536;
-    Triple {
-        fault: line.fault,
+    let number = number_line(text, at, 12)?;
+    let two = number / 65536;
+    Ok(Triple {
         first: two / 65536,
         second: two % 65536,
-        third: line.number % 65536,
-    }
+        third: number % 65536,
+    })
 }

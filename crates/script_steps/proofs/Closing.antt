@@ -12,9 +12,9 @@ use lib.ListN.{length, take, drop, length-append, length-drop}
 use lib.Seq.{take-nil, take-add, length-take-le}
 use borrow.Author.Tests.{lt-ltb, le-ltb, ltb-false}
 use Rattle.range.proofs.Sets.{sets_then}
-use Rattle.lines.specs.Line.{until_feed, line_at}
+use Rattle.lines.specs.Line.{here, until_feed, line_at}
 use Rattle.lines.specs.Fields.{line_bytes}
-use Rattle.lines.specs.declared.Line.TheVariants.{Here, Missing}
+use Rattle.std.specs.Prelude.{None}
 use Rattle.lines.specs.declared.Found.{Found}
 use Rattle.lines.proofs.Feeds.{until_le}
 use Rattle.lines.proofs.Lines.{There, there}
@@ -65,12 +65,12 @@ next_is s at start len t =
     let k = t.closes in
     rw (lt-ltb (at + u) (length s) (omega arith), lt-ltb u (length (drop at s)) (omega arith)) (omega arith)
 
-missing_is : (s : List ℕ) (at : ℕ) → (line_at s at).line ≡ Missing → at ≡ at + closed_length (drop at s)
+missing_is : (s : List ℕ) (at : ℕ) → (line_at s at).line ≡ None → at ≡ at + closed_length (drop at s)
 unfolding line_at
 missing_is s at h = go (ltb (at + until_feed (drop at s)) (length s)) refl h
   where
     go : (b : Bool) → ltb (at + until_feed (drop at s)) (length s) ≡ b
-        → (cond {A = Found} b (record { line = Here at (until_feed (drop at s)); next = at + until_feed (drop at s) + 1 }) (record { line = Missing; next = length s })).line ≡ Missing
+        → (cond {A = Found} b (record { line = here at (until_feed (drop at s)); next = at + until_feed (drop at s) + 1 }) (record { line = None; next = length s })).line ≡ None
         → at ≡ at + closed_length (drop at s)
     go true t k = let z : ◌≡◌ {A = ℕ} 0 1 = cc in absurd (omega arith)
     go false t k =
@@ -83,13 +83,13 @@ missing_is s at h = go (ltb (at + until_feed (drop at s)) (length s)) refl h
 pub end_within : (s : List ℕ) (at : ℕ) → at ≤ length s → at + closed_length (drop at s) ≤ length s
 end_within s at l = let k = closed_within (drop at s) in let n = length-drop at s in omega arith
 
-pub end_here : (s : List ℕ) (at : ℕ) (f : Found) (start len : ℕ) → f ≡ line_at s at → f.line ≡ Here start len → f.next ≡ at + closed_length (drop at s)
+pub end_here : (s : List ℕ) (at : ℕ) (f : Found) (start len : ℕ) → f ≡ line_at s at → f.line ≡ here start len → f.next ≡ at + closed_length (drop at s)
 end_here s at f start len e h = ap (λ (g : Found). g.next) e ∙ ends (ap (λ (g : Found). g.line) (sym e) ∙ h)
   where
-    ends : (line_at s at).line ≡ Here start len → (line_at s at).next ≡ at + closed_length (drop at s)
+    ends : (line_at s at).line ≡ here start len → (line_at s at).next ≡ at + closed_length (drop at s)
     ends k = next_is s at start len (there s at start len k)
 
-pub end_missing : (s : List ℕ) (at : ℕ) (f : Found) → f ≡ line_at s at → f.line ≡ Missing → at ≡ at + closed_length (drop at s)
+pub end_missing : (s : List ℕ) (at : ℕ) (f : Found) → f ≡ line_at s at → f.line ≡ None → at ≡ at + closed_length (drop at s)
 end_missing s at f e h = missing_is s at (ap (λ (g : Found). g.line) (sym e) ∙ h)
 
 module _ (x : Slices) (room : ℕ) where

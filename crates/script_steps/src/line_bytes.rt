@@ -8,11 +8,7 @@ pub fn line_end(text: &[u8], at: usize) -> usize
     ensures { result ≡ at + closed_length (drop at text.now) }
 {
     let found = lines::find_line(text, at);
-    let line = found.line;
-    match line {
-        lines::Line::Here { start: _, len: _ } => found.next,
-        lines::Line::Missing => at,
-    }
+    if found.line.is_some() { found.next } else { at }
 }
 
 // The first n bytes, copied to an offset.

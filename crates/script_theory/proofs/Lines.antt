@@ -13,7 +13,7 @@ use borrow.Author.Tests.{ne_eqb, eq-eqb, le-ltb}
 use Rattle.range.proofs.Bools.{decided}
 use Rattle.hex_digits.specs.Digits.{digits}
 use Rattle.lines.specs.Line.{until_feed, line_at}
-use Rattle.lines.specs.declared.Line.TheVariants.{Missing}
+use Rattle.std.specs.Prelude.{None}
 use Rattle.lines.proofs.Feeds.{until_at}
 use Rattle.lines.proofs.Lines.{fault_of_missing}
 use Rattle.probe_frame.specs.Frame.{frame_fault}
@@ -68,7 +68,7 @@ pub unclosed_refused : (h : List ℕ) → Unclosed h → frame_fault h ≡ 1
 unfolding line_at frame_fault
 unclosed_refused h u = go (ℕ_discrete (length h) 15)
   where
-    missing : (line_at h 0).line ≡ Missing
+    missing : (line_at h 0).line ≡ None
     missing = let e : 0 + until_feed h ≡ length h = omega arith in rw (le-ltb (0 + until_feed h) (length h) (omega arith))
 
     go : Dec (length h ≡ 15) → frame_fault h ≡ 1

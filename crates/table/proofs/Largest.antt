@@ -10,7 +10,7 @@ use Rattle.hex_digits.specs.Digits.{value_of}
 use Rattle.lines.specs.Line.{line_at}
 use Rattle.lines.specs.Digits.{length_fault, digit_fault, line_fault}
 use Rattle.lines.specs.declared.Line.{Line}
-use Rattle.lines.specs.declared.Line.TheVariants.{Here, Missing}
+use Rattle.std.specs.Prelude.{Option, Some, None}
 use Rattle.table.specs.Legal.{size_fault, ends_fault, order_fault, link_fault, table_fault}
 use Rattle.table.specs.Table.{Table}
 use Rattle.table.specs.Text.{of_text, link_start, begins, closing_line, closing_fault, need_line_fault, link_line_fault, head_fault, body_fault, text_fault}
@@ -31,9 +31,9 @@ cond_most : (b : Bool) (x y : ℕ) → Most x → Most y → Most (cond b x y)
 cond_most true x y n m = n
 cond_most false x y n m = m
 
-length_most : (width : ℕ) (l : Line) → Most (length_fault width l)
-length_most width (Here start len) = cond_most (eqb len width) 0 1 (omega arith) (omega arith)
-length_most width Missing = omega arith
+length_most : (width : ℕ) (l : Option Line) → Most (length_fault width l)
+length_most width (Some line) = cond_most (eqb line.len width) 0 1 (omega arith) (omega arith)
+length_most width None = omega arith
 
 line_most : (s : List ℕ) (at width : ℕ) → Most (line_fault s at width)
 unfolding line_fault

@@ -16,7 +16,7 @@ use Rattle.hex_digits.specs.Digits.{number_at}
 use Rattle.lines.specs.Line.{until_feed, line_at}
 use Rattle.lines.specs.Digits.{length_fault, digit_fault, line_fault}
 use Rattle.lines.specs.declared.Line.{Line}
-use Rattle.lines.specs.declared.Line.TheVariants.{Here, Missing}
+use Rattle.std.specs.Prelude.{Option, Some, None}
 use Rattle.lines.proofs.Feeds.{until_at, until_before, until_is}
 use Rattle.lines.proofs.Lines.{there}
 use Rattle.table.specs.Legal.{link_fault}
@@ -42,10 +42,10 @@ record Closes (s : List ℕ) (at width : ℕ) : Type 0 where
 closes : (s : List ℕ) (at width : ℕ) → length_fault width (line_at s at).line ≡ 0 → Closes s at width
 closes s at width e = go (line_at s at).line refl e
   where
-    go : (l : Line) → (line_at s at).line ≡ l → length_fault width l ≡ 0 → Closes s at width
-    go (Here start len) h z =
-        let t = there s at start len h in
-        let n : len ≡ width = eqb-true len width (unless_none (eqb len width) 0 z) in
+    go : (l : Option Line) → (line_at s at).line ≡ l → length_fault width l ≡ 0 → Closes s at width
+    go (Some line) h z =
+        let t = there s at line.start line.len h in
+        let n : line.len ≡ width = eqb-true line.len width (unless_none (eqb line.len width) 0 z) in
         let w = t.within in
         let k : until_feed (drop at s) ≡ width = sym t.closes ∙ n in
         let inside : until_feed (drop at s) < length (drop at s) = simp length-drop (omega arith) in
@@ -54,7 +54,7 @@ closes s at width e = go (line_at s at).line refl e
           feed = sym (get_or-drop at s width 0) ∙ ap (λ (m : ℕ). get_or (drop at s) m 0) (sym k) ∙ until_at (drop at s) inside;
           none = λ j l f. until_before (drop at s) j (omega arith) (get_or-drop at s j 0 ∙ f);
         }
-    go Missing h z = absurd (omega arith)
+    go None h z = absurd (omega arith)
 
 closed : (s : List ℕ) (at width : ℕ) → Closes s at width → length_fault width (line_at s at).line ≡ 0
 unfolding line_at
@@ -63,13 +63,13 @@ closed s at width g =
     let k = until_is (drop at s) width (simp length-drop (omega arith)) (get_or-drop at s width 0 ∙ g.feed) (λ j l f. g.none j l (sym (get_or-drop at s j 0) ∙ f)) in
     rw (k, lt-ltb (at + width) (length s) w, eq-eqb width width refl)
 
-length_one : (width : ℕ) (l : Line) → (length_fault width l ≡ 0 → ⊥) → length_fault width l ≡ 1
-length_one width (Here start len) n = go (eqb len width) n
+length_one : (width : ℕ) (l : Option Line) → (length_fault width l ≡ 0 → ⊥) → length_fault width l ≡ 1
+length_one width (Some line) n = go (eqb line.len width) n
   where
     go : (b : Bool) → (◌≡◌ {A = ℕ} (cond b 0 1) 0 → ⊥) → ◌≡◌ {A = ℕ} (cond b 0 1) 1
     go true n = absurd (n refl)
     go false n = refl
-length_one width Missing n = refl
+length_one width None n = refl
 
 closes_same : (s u : List ℕ) (n : ℕ) → Agree s u n → (at width : ℕ) → at + width < n → Closes s at width → Closes u at width
 closes_same s u n g at width l c =

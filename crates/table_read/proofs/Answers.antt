@@ -1,50 +1,47 @@
 -- How the code comes to its answer, and what the answer then is.
 use Prim.Native.Nat.{ℕ}
-use mathlib.Core.Path.{◌≡◌, ◌∙◌}
-use mathlib.Core.Bool.{Bool, true, false, cond}
+use mathlib.Core.Path.{◌≡◌, ◌∙◌, ap}
+use mathlib.Core.Bool.{Bool, cond}
 use mathlib.Core.List.{List}
-use native.Mathlib.Omega.{arith}
 use lib.Dec.{eqb}
 use borrow.Author.Tests.{ne_eqb}
-use Rattle.range.specs.Reply.{refusal, values}
-use Rattle.range.proofs.Faults.{or_left, or_right, or_here, or_next}
+use Rattle.std.specs.Prelude.{Result, Ok, Err, IsErrAnd}
+use Rattle.std.proofs.lemmas.Result.{err_from_is_err_and}
+use Rattle.range.specs.Reply.{values}
+use Rattle.range.proofs.Faults.{or_left, or_right}
+use Rattle.refusals.specs.Refusals.{number_of}
+use Rattle.refusals.specs.declared.Refusal.{Refusal}
+use Rattle.refusals.proofs.Laws.{number_some, refusal_of, answer_is}
 use Rattle.table.specs.Table.{Table}
 use Rattle.table.specs.Legal.{room_fault}
 use Rattle.table.specs.Text.{of_text, text_end, text_fault, read_fault}
-use Rattle.table_read.specs.Reading.{Lent, reading_reply, read_values, Filled, Reads}
-use Rattle.table_read.specs.declared.Reading.{Reading}
-use Rattle.table_read.specs.declared.Reading.TheVariants.{Table as Read, Refused}
+use Rattle.table_read.specs.Reading.{Lent, head_values, answered, read_values, Filled, Reads}
+use Rattle.table_read.specs.declared.TableHead.{TableHead}
 
-pub reads_refused : (fault r : ℕ) (t : Table) (a : Lent) → r ≡ fault → (r ≡ 0 → ⊥) → Reads fault t (Refused r) a a
-reads_refused fault r t a e n =
-    let k = ne_eqb fault 0 (λ z. n (e ∙ z)) in
-    record { answer = rw (e, k); lent = record { need = rw k; low = rw k; high = rw k; cost = rw k } }
+pub reads_refused : (fault : ℕ) (t : Table) (r : Result TableHead Refusal) (e : Refusal) (a : Lent) → IsErrAnd r (λ y. y ≡ e) → number_of e ≡ fault → Reads fault t r a a
+reads_refused fault t r e a x n =
+    let p = err_from_is_err_and r x in
+    let k = ne_eqb fault 0 (λ z. number_some e (n ∙ z)) in
+    record { answer = rw (p.1, p.2, k, n); lent = record { need = rw k; low = rw k; high = rw k; cost = rw k } }
 
-pub reads_table : (fault : ℕ) (t : Table) (r : Reading) (before after : Lent) → fault ≡ 0 → reading_reply r ≡ values (read_values t) → Filled 0 t before after → Reads fault t r before after
-reads_table fault t r before after e a f = record { answer = rw e a; lent = rw e f }
+pub reads_table : (fault : ℕ) (t : Table) (h : TableHead) (before after : Lent) → fault ≡ 0 → head_values h ≡ read_values t → Filled 0 t before after → Reads fault t (Ok h) before after
+reads_table fault t h before after e a f = record { answer = rw e (ap values a); lent = rw e f }
 
 -- the answer, by the fault found
-pub reads_answer : {fault : ℕ} {t : Table} {r : Reading} {before after : Lent} → Reads fault t r before after
-    → r ≡ cond (eqb fault 0) (Read t.number t.probes t.links (text_end t)) (Refused fault)
-reads_answer {fault} {t} {r} w = go r (eqb fault 0) w.answer
+pub reads_answer : {fault : ℕ} {t : Table} {r : Result TableHead Refusal} {before after : Lent} → Reads fault t r before after
+    → r ≡ cond (eqb fault 0) (answered t.number t.probes t.links (text_end t)) (Err (refusal_of fault))
+reads_answer {fault} {t} {r} w = answer_is head_values head r fault same w.answer
   where
-    go : (r : Reading) (none : Bool) → reading_reply r ≡ cond none (values (read_values t)) (refusal fault)
-        → r ≡ cond none (Read t.number t.probes t.links (text_end t)) (Refused fault)
-    go (Read a b c d) true e = cc
-    go (Read a b c d) false e = let z : ◌≡◌ {A = ℕ} 0 1 = cc in absurd (omega arith)
-    go (Refused n) true e = let z : ◌≡◌ {A = ℕ} 0 1 = cc in absurd (omega arith)
-    go (Refused n) false e = cc
+    head : TableHead
+    head = record { number = t.number; probes = t.probes; links = t.links; rest = text_end t }
 
--- The fault of a reading: the text's, then 8.
-module _ (pmax lmax : ℕ) (more : Bool) (s : List ℕ) (needs lows highs costs text : ℕ) (e : text ≡ text_fault pmax lmax more s) where
-  pub fault_text : (text ≡ 0 → ⊥) → text ≡ read_fault pmax lmax more s needs lows highs costs
-  unfolding read_fault
-  fault_text n = or_here _ _ _ e n
-
-  pub fault_room : (room probes links : ℕ) → text ≡ 0 → probes ≡ (of_text s).probes → links ≡ (of_text s).links → room ≡ room_fault probes links needs lows highs costs
-      → room ≡ read_fault pmax lmax more s needs lows highs costs
-  unfolding read_fault
-  fault_room room probes links z p l r = or_next _ _ _ _ e z (r ∙ rw (p, l))
+    same : (h : TableHead) → head_values h ≡ read_values t → h ≡ head
+    same h e =
+        let number : h.number ≡ t.number = cc in
+        let probes : h.probes ≡ t.probes = cc in
+        let links : h.links ≡ t.links = cc in
+        let rest : h.rest ≡ text_end t = cc in
+        rw (← rest, ← number, ← probes, ← links)
 
 -- a reading without a fault
 module _ (pmax lmax : ℕ) (more : Bool) (s : List ℕ) (needs lows highs costs : ℕ) (e : read_fault pmax lmax more s needs lows highs costs ≡ 0) where

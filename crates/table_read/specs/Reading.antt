@@ -1,11 +1,12 @@
 -- What reading a text promises: the answer, and the lent slices at exit.
-use Rattle.std.specs.Prelude.{ℕ, ◌≡◌, Bool, cond, List, [], ◌∷◌, eqb, length}
+use Rattle.std.specs.Prelude.{ℕ, ◌≡◌, Bool, cond, List, [], ◌∷◌, eqb, length, Result, Ok}
 use Rattle.range.specs.Lists.{stored}
-use Rattle.range.specs.Reply.{Reply, refusal, values, reply_of}
+use Rattle.range.specs.Reply.{Reply, reply_of}
+use Rattle.refusals.specs.Refusals.{reply_in}
+use Rattle.refusals.specs.declared.Refusal.{Refusal}
 use Rattle.table.specs.Table.{Table}
 use Rattle.table.specs.Text.{of_text, text_end, read_fault}
-use Rattle.table_read.specs.declared.Reading.{Reading}
-use Rattle.table_read.specs.declared.Reading.TheVariants.{Table as Read, Refused}
+use Rattle.table_read.specs.declared.TableHead.{TableHead}
 
 -- "lent slices of needs, lows, highs and costs"
 pub record Lent : Type 0 where
@@ -23,9 +24,15 @@ abbrev pub reading_fault : ℕ → ℕ → Bool → List ℕ → Lent → ℕ
 reading_fault pmax lmax more s a = read_fault pmax lmax more s (length a.needs) (length a.lows) (length a.highs) (length a.costs)
 
 -- the answer's values: the table's three numbers, and where the rest of the text starts
-abbrev pub reading_reply : Reading → Reply
-reading_reply (Read number probes links rest) = values (number ∷ probes ∷ links ∷ rest ∷ [])
-reading_reply (Refused n) = refusal n
+abbrev pub head_values : TableHead → List ℕ
+head_values h = h.number ∷ h.probes ∷ h.links ∷ h.rest ∷ []
+
+-- the answer of these values
+abbrev pub answered : ℕ → ℕ → ℕ → ℕ → Result TableHead Refusal
+answered number probes links rest = Ok (record { number = number; probes = probes; links = links; rest = rest })
+
+abbrev pub reading_reply : Result TableHead Refusal → Reply
+reading_reply = reply_in head_values
 
 -- for a text of the table t
 abbrev pub read_values : Table → List ℕ
@@ -41,10 +48,10 @@ pub record Filled (fault : ℕ) (t : Table) (before after : Lent) : Type 0 where
   pub high : after.highs ≡ filled_of fault t.high t.links before.highs
   pub cost : after.costs ≡ filled_of fault t.cost t.links before.costs
 
-pub record Reads (fault : ℕ) (t : Table) (r : Reading) (before after : Lent) : Type 0 where
+pub record Reads (fault : ℕ) (t : Table) (r : Result TableHead Refusal) (before after : Lent) : Type 0 where
   pub answer : reading_reply r ≡ reply_of fault (read_values t)
   pub lent : Filled fault t before after
 
 -- `read_table` on the text s, or with `more` `read_table_prefix`, within limits: it answers r and leaves the lent slices `before` as `after`
-abbrev pub ReadsTable : ℕ → ℕ → Bool → List ℕ → Reading → Lent → Lent → Type 0
+abbrev pub ReadsTable : ℕ → ℕ → Bool → List ℕ → Result TableHead Refusal → Lent → Lent → Type 0
 ReadsTable pmax lmax more s r before after = Reads (reading_fault pmax lmax more s before) (of_text s) r before after

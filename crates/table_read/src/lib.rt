@@ -4,18 +4,17 @@
 ghost use Rattle.std.specs.Prelude.{true, false};
 ghost use Rattle.table_read.specs.Reading.{lent_of, ReadsTable};
 
+use refusals::Refusal;
+
 pub mod limited;
 
-// The answer: the table's number, probe count and link count and where the rest of the text starts, or the number of the refusal.
+// What reading a table answers: its number, probe count and link count, and where the rest of the text starts.
 #[derive(Clone, Copy)]
-pub enum Reading {
-    Table {
-        number: u16,
-        probes: u16,
-        links: u16,
-        rest: usize,
-    },
-    Refused(u8),
+pub struct TableHead {
+    pub number: u16,
+    pub probes: u16,
+    pub links: u16,
+    pub rest: usize,
 }
 
 // Reads a text that ends with its closing line.
@@ -25,7 +24,7 @@ pub fn read_table(
     lows: &mut [u16],
     highs: &mut [u16],
     costs: &mut [u16],
-) -> Reading
+) -> Result<TableHead, Refusal>
     ensures { let before = lent_of needs.old lows.old highs.old costs.old in
         let after = lent_of needs.new lows.new highs.new costs.new in
         ReadsTable 256 2048 false text.now result before after }
@@ -40,7 +39,7 @@ pub fn read_table_prefix(
     lows: &mut [u16],
     highs: &mut [u16],
     costs: &mut [u16],
-) -> Reading
+) -> Result<TableHead, Refusal>
     ensures { let before = lent_of needs.old lows.old highs.old costs.old in
         let after = lent_of needs.new lows.new highs.new costs.new in
         ReadsTable 256 2048 true text.now result before after }

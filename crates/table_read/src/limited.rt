@@ -1,25 +1,27 @@
 // A text read within limits: its answer, and its fields stored. The public readers call these, and so do readers with other limits.
 ghost use Rattle.std.specs.Prelude.{◌≡◌, true, ℕ, ◌<◌, ◌≤◌, length};
 ghost use Rattle.range.specs.Lists.{stored};
-ghost use Rattle.range.specs.Reply.{values};
 ghost use Rattle.lines.specs.Digits.{line_fault};
 ghost use Rattle.table.specs.Legal.{room_fault};
 ghost use Rattle.table.specs.Text.{of_text, need_start, link_start, text_fault};
 ghost use Rattle.table_text.specs.Header.{HeaderOf};
-ghost use Rattle.table_read.specs.Reading.{lent_of, reading_reply, read_values, Filled, ReadsTable};
+ghost use Rattle.table_read.specs.Reading.{lent_of, head_values, read_values, Filled, ReadsTable};
 
-use super::Reading;
+use super::TableHead;
 use reader::numbers::{need_line, triple_line};
+use refusals::Refusal;
+use table::checks::check_room;
 use table::starts::{link_start, need_start, text_end};
 use table::{LINK_BYTES, NEED_BYTES};
 use table_text::Header;
+use table_text::text_checks::check_text;
 
 // The answer for a text that has no fault.
-fn answer(text: &[u8], head: Header) -> Reading
+fn answer(text: &[u8], head: Header) -> TableHead
     requires { (text_fault 256 2048 true text.now ≡ 0) × HeaderOf text.now head }
-    ensures { reading_reply result ≡ values (read_values (of_text text.now)) }
+    ensures { head_values result ≡ read_values (of_text text.now) }
 {
-    Reading::Table {
+    TableHead {
         number: head.number as u16,
         probes: head.probes as u16,
         links: head.links as u16,
@@ -34,8 +36,7 @@ fn store_needs(text: &[u8], probes: usize, needs: &mut [u16])
 {
     let start = need_start(0);
     for v in 0..probes {
-        let line = need_line(text, start + NEED_BYTES * v);
-        needs[v] = line.number as u16;
+        needs[v] = need_line(text, start + NEED_BYTES * v).unwrap() as u16;
     }
 }
 
@@ -56,7 +57,7 @@ fn store_links(
 {
     let start = link_start(probes, 0);
     for i in 0..links {
-        let line = triple_line(text, start + LINK_BYTES * i);
+        let line = triple_line(text, start + LINK_BYTES * i).unwrap();
         lows[i] = line.first as u16;
         highs[i] = line.second as u16;
         costs[i] = line.third as u16;
@@ -94,27 +95,21 @@ pub fn read_limited(
     pmax: usize,
     lmax: usize,
     more: bool,
-) -> Reading
+) -> Result<TableHead, Refusal>
     requires { (pmax ≤ 256) × (lmax ≤ 2048) }
     ensures { let before = lent_of needs.old lows.old highs.old costs.old in
         let after = lent_of needs.new lows.new highs.new costs.new in
         ReadsTable pmax lmax more text.now result before after }
 {
-    let head = table_text::text_checks::check_text(text, pmax, lmax, more);
-    if head.fault != 0 {
-        return Reading::Refused(head.fault);
-    }
-    let room = table::checks::room_fault(
+    let head = check_text(text, pmax, lmax, more)?;
+    check_room(
         head.probes,
         head.links,
         needs.len(),
         lows.len(),
         highs.len(),
         costs.len(),
-    );
-    if room != 0 {
-        return Reading::Refused(room);
-    }
+    )?;
     fill_table(text, head.probes, head.links, needs, lows, highs, costs);
-    answer(text, head)
+    Ok(answer(text, head))
 }

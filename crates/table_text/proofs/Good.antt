@@ -1,17 +1,19 @@
 -- What the checks of a text give to the code behind them.
 use Prim.Native.Nat.{ℕ, ◌+◌, ◌-◌, ◌≤◌, ◌<◌}
-use mathlib.Core.Path.{◌≡◌, ◌∙◌, ap}
-use mathlib.Core.Bool.{Bool}
+use mathlib.Core.Path.{◌≡◌, sym, ◌∙◌, ap}
+use mathlib.Core.Bool.{Bool, cond}
 use mathlib.Core.List.{List}
 use native.Mathlib.Omega.{arith}
-use native.Mathlib.Decide.{dec_lt}
+use native.Mathlib.Decide.{ℕ_discrete, dec_lt}
+use lib.Dec.{eqb}
+use borrow.Author.Tests.{eq-eqb}
 use lib.ListN.{length}
-use Rattle.range.specs.First.{first}
-use Rattle.range.proofs.Faults.{or_here, or_next, or_left, or_right, first_all}
+use Rattle.range.specs.First.{or_else, first}
+use Rattle.range.proofs.Faults.{or_none, or_left, or_right, first_all}
 use Rattle.hex_digits.specs.Digits.{number_at}
 use Rattle.lines.specs.Digits.{line_fault}
 use Rattle.lines.proofs.Lines.{GoodLine, line_good}
-use Rattle.table.specs.Legal.{size_fault, link_fault, Size}
+use Rattle.table.specs.Legal.{size_fault, ends_fault, order_fault, link_fault, Size}
 use Rattle.table.proofs.Faults.{size_good}
 use Rattle.table.specs.Text.{of_text, need_start, link_start, need_line_fault, link_line_fault, head_fault, body_fault, text_fault}
 
@@ -23,7 +25,7 @@ link_lines_lem s m e i l =
     line_good s (link_start (of_text s).probes i) 12
     (or_left (line_fault s (link_start (of_text s).probes i) 12) (link_fault (of_text s).probes (of_text s).low (of_text s).high i) (first_all (link_line_fault s) m i e l))
 
--- A link line that starts at an offset: its ends, and how the code comes to its fault.
+-- A link line that starts at an offset: its ends and its fault.
 module _ (s : List ℕ) (probes i at : ℕ) (ep : probes ≡ (of_text s).probes) (ea : at ≡ link_start probes i) where
   start : at ≡ link_start (of_text s).probes i
   start = ea ∙ ap (λ (n : ℕ). link_start n i) ep
@@ -34,18 +36,22 @@ module _ (s : List ℕ) (probes i at : ℕ) (ep : probes ≡ (of_text s).probes)
   pub high_at : (v : ℕ) → v ≡ number_at s (at + 4) 4 → v ≡ (of_text s).high i
   high_at v f = f ∙ ap (λ (k : ℕ). number_at s (k + 4) 4) start
 
-  module _ (r : ℕ) (e : r ≡ line_fault s at 12) where
-    abbrev fault : ℕ → ℕ
-    fault n = link_fault n (of_text s).low (of_text s).high i
-
-    line : r ≡ line_fault s (link_start (of_text s).probes i) 12
-    line = e ∙ ap (λ (k : ℕ). line_fault s k 12) start
-
-    pub link_line_refused : (r ≡ 0 → ⊥) → r ≡ link_line_fault s i
-    link_line_refused n = or_here r (line_fault s (link_start (of_text s).probes i) 12) (fault (of_text s).probes) line n
-
-    pub link_line_then : r ≡ 0 → (q : ℕ) → q ≡ fault probes → q ≡ link_line_fault s i
-    link_line_then z q f = or_next r (line_fault s (link_start (of_text s).probes i) 12) (fault (of_text s).probes) q line z (f ∙ ap fault ep)
+  -- what is left of its fault where its digits are good, by its ends and those of the link before it
+  pub link_line_is : (low high low₀ high₀ : ℕ) → 0 ≡ line_fault s at 12 → low ≡ (of_text s).low i → high ≡ (of_text s).high i
+      → (0 < i → (low₀ ≡ (of_text s).low (i - 1)) × (high₀ ≡ (of_text s).high (i - 1)))
+      → link_line_fault s i ≡ or_else (ends_fault probes low high) (cond (eqb i 0) 0 (order_fault low₀ high₀ low high))
+  unfolding link_fault
+  link_line_is low high low₀ high₀ good el eh before =
+      or_none (line_fault s (link_start (of_text s).probes i) 12) (link_fault (of_text s).probes (of_text s).low (of_text s).high i)
+      (ap (λ (k : ℕ). line_fault s k 12) (sym start) ∙ sym good)
+      ∙ rw (ep, el, eh) (go (ℕ_discrete i 0))
+    where
+      go : Dec (i ≡ 0) → or_else (ends_fault (of_text s).probes ((of_text s).low i) ((of_text s).high i))
+          (cond (eqb i 0) 0 (order_fault ((of_text s).low (i - 1)) ((of_text s).high (i - 1)) ((of_text s).low i) ((of_text s).high i)))
+          ≡ or_else (ends_fault (of_text s).probes ((of_text s).low i) ((of_text s).high i))
+          (cond (eqb i 0) 0 (order_fault low₀ high₀ ((of_text s).low i) ((of_text s).high i)))
+      go (yes z) = rw (eq-eqb i 0 z)
+      go (no n) = let b = before (omega arith) in rw (b.0, b.1)
 
 -- a header without a fault
 pub record GoodHead (pmax lmax : ℕ) (s : List ℕ) : Type 0 where

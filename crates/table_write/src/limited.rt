@@ -3,7 +3,9 @@ ghost use Rattle.std.specs.Prelude.{◌≤◌};
 ghost use Rattle.table.specs.Slices.{as_slices};
 ghost use Rattle.table_write.specs.Writing.{WritesTable};
 
+use refusals::Refusal;
 use table::TableSlices;
+use table::checks::check_slices;
 use table::starts::text_end;
 
 // The limits are parameters. `write_table` calls this with 256 and 2,048.
@@ -12,7 +14,7 @@ pub fn write_limited(
     lmax: usize,
     table: TableSlices<'_>,
     out: &mut [u8],
-) -> super::Writing
+) -> Result<usize, Refusal>
     requires { (pmax ≤ 256) × (lmax ≤ 65535) }
     ensures { WritesTable pmax lmax (as_slices table.entry) result out.old out.new }
 {
@@ -20,12 +22,9 @@ pub fn write_limited(
     let m = table.links as usize;
     let end = text_end(n, m);
     if out.len() < end {
-        return super::Writing::Refused(8);
+        return Err(Refusal::Slice);
     }
-    let fault = table::checks::slice_fault(pmax, lmax, table);
-    if fault != 0 {
-        return super::Writing::Refused(fault);
-    }
+    check_slices(pmax, lmax, table)?;
     super::text::put_table(out, table);
-    super::Writing::Length(end)
+    Ok(end)
 }

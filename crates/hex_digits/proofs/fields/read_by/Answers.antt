@@ -1,10 +1,11 @@
-use mathlib.Core.Path.{◌≡◌, refl}
+use mathlib.Core.Path.{◌≡◌, refl, sym, ◌∙◌}
 use mathlib.Core.List.{List}
 use Prim.Native.Nat.{ℕ, ◌≤◌, ◌<◌}
 use native.Mathlib.Omega.{arith}
 use lib.ListN.{get_or}
+use borrow.Author.Tests.{lt-ltb, le-ltb}
 use Rattle.hex_digits.specs.Digits.{value_of, number_at}
-use Rattle.hex_digits.proofs.Laws.{number_next, number_bound, sum_next, sum_bound, good_by_sum, value_le}
+use Rattle.hex_digits.proofs.Laws.{number_next, number_bound, sum_next, sum_bound, good_by_sum, value_le, value_sum}
 use Rattle.hex_digits.proofs.fields.read_by.Goals as goal
 
 -- what the table says of a byte
@@ -33,7 +34,19 @@ loop-i-preserved c =
     let v = looked_up _ c.requires.0 (c.type_inv.text _).fits c.wide.ensures c.wide-value.ensures in
     (omega (arith, number_next), omega (arith, sum_next))
 
-pub returns : goal.returns
-returns c =
-    let e : c.loop-i.i ≡ c.args.width = omega arith in
-    (rw (← e) c.loop-i.invariant.0, rw (← e, c.loop-i.invariant.1) (good_by_sum _ _ _ (omega arith)))
+pub returns-then-sum-lt255 : goal.returns-then-sum-lt255
+returns-then-sum-lt255 c =
+    let a = c.args in
+    let l = c.loop-i in
+    let e : l.i ≡ a.width = omega arith in
+    let v : l.sum ≡ value_sum a.text.now a.at a.width = rw (← e) l.invariant.1 in
+    let good = sym (good_by_sum a.text.now a.at a.width (omega arith)) ∙ lt-ltb _ 255 (omega arith) in
+    rw (good, ← e, l.invariant.0)
+
+pub returns-else-sum-lt255 : goal.returns-else-sum-lt255
+returns-else-sum-lt255 c =
+    let a = c.args in
+    let l = c.loop-i in
+    let e : l.i ≡ a.width = omega arith in
+    let v : l.sum ≡ value_sum a.text.now a.at a.width = rw (← e) l.invariant.1 in
+    rw (sym (good_by_sum a.text.now a.at a.width (omega arith)) ∙ le-ltb _ 255 (omega arith))

@@ -3,5 +3,5 @@ use Rattle.reader.proofs.numbers.triple_line.Goals as goal
 
 pub returns : goal.returns
 returns c =
-    let a = c.args in
-    triple_reads a.text.now a.at _ _ c.number_line-line.ensures
+    let n = c.in_ok-number.ensures in
+    (n.0, triple_reads c.args.text.now c.args.at _ n.0 n.1)

@@ -13,25 +13,25 @@ loop-i-init c = (refl, refl, refl)
 pub overflow_cast-lows : goal.overflow_cast-lows
 overflow_cast-lows c =
     let a = c.args in
-    let r = link_read a.text.now a.probes c.loop-i.i _ _ _ _ _ c.requires.5 (omega arith) (c.requires.6 c.loop-i.i c.loop-i-test.true) c.triple_line-line.ensures in
+    let r = link_read a.text.now a.probes c.loop-i.i _ _ _ c.unwrap-line.ensures c.requires.5 (omega arith) (c.requires.6 c.loop-i.i c.loop-i-test.true) c.triple_line.ensures in
     omega (arith, r.fits.0)
 
 pub overflow_cast-highs : goal.overflow_cast-highs
 overflow_cast-highs c =
     let a = c.args in
-    let r = link_read a.text.now a.probes c.loop-i.i _ _ _ _ _ c.requires.5 (omega arith) (c.requires.6 c.loop-i.i c.loop-i-test.true) c.triple_line-line.ensures in
+    let r = link_read a.text.now a.probes c.loop-i.i _ _ _ c.unwrap-line.ensures c.requires.5 (omega arith) (c.requires.6 c.loop-i.i c.loop-i-test.true) c.triple_line.ensures in
     omega (arith, r.fits.1)
 
 pub overflow_cast-costs : goal.overflow_cast-costs
 overflow_cast-costs c =
     let a = c.args in
-    let r = link_read a.text.now a.probes c.loop-i.i _ _ _ _ _ c.requires.5 (omega arith) (c.requires.6 c.loop-i.i c.loop-i-test.true) c.triple_line-line.ensures in
+    let r = link_read a.text.now a.probes c.loop-i.i _ _ _ c.unwrap-line.ensures c.requires.5 (omega arith) (c.requires.6 c.loop-i.i c.loop-i-test.true) c.triple_line.ensures in
     omega (arith, r.fits.2)
 
 pub loop-i-preserved : goal.loop-i-preserved
 loop-i-preserved c =
     let a = c.args in
-    let r = link_read a.text.now a.probes c.loop-i.i _ _ _ _ _ c.requires.5 (omega arith) (c.requires.6 c.loop-i.i c.loop-i-test.true) c.triple_line-line.ensures in
+    let r = link_read a.text.now a.probes c.loop-i.i _ _ _ c.unwrap-line.ensures c.requires.5 (omega arith) (c.requires.6 c.loop-i.i c.loop-i-test.true) c.triple_line.ensures in
     let t = of_text a.text.now in (
       rw (c.loop-i.invariant.0, r.low) (sym (stored_next t.low c.loop-i.i a.lows.now)),
       rw (c.loop-i.invariant.1, r.high) (sym (stored_next t.high c.loop-i.i a.highs.now)),
