@@ -3,7 +3,11 @@ use Prim.Native.Nat.{ℕ, ◌<◌}
 use mathlib.Core.Path.{◌≡◌, sym, ◌∙◌, ap}
 use mathlib.Core.List.{List}
 use native.Mathlib.Omega.{arith}
-use Rattle.range.proofs.Faults.{or_here, or_none}
+use Rattle.std.specs.Prelude.{Ok, Err}
+use Rattle.range.proofs.Faults.{or_none}
+use Rattle.refusals.specs.Refusals.{number_of}
+use Rattle.refusals.specs.declared.Refusal.{Refusal}
+use Rattle.refusals.proofs.Laws.{or_refused}
 use Rattle.table.specs.Table.{Table}
 use Rattle.table.specs.Legal.{Legal}
 use Rattle.table.proofs.LegalLaws.{legal_table}
@@ -16,18 +20,16 @@ pub use Rattle.fleet_theory.proofs.Lines.{line_frame}
 use Rattle.fleet_theory.proofs.Lines.{frame_checks}
 use Rattle.fleet_theory.proofs.Events.{Says, an_opening, a_restart, an_offer, a_refusal, says}
 
--- a line by the frame that was read of it
-module _ (t : Table) (l : List ℕ) (r : FrameLine) (reads : ReadsFrame l r) where
+-- a line by what was read of it
+module _ (t : Table) (l : List ℕ) where
   -- 1 or 2
-  pub line_turned : (r.fault ≡ 0 → ⊥) → r.fault ≡ event_line_fault t l
-  line_turned n = or_here r.fault (frame_fault l) (frame_checks t (frame_of l)) reads.0 n
+  pub line_turned : (e : Refusal) → ReadsFrame l (Err e) → number_of e ≡ event_line_fault t l
+  line_turned e reads = or_refused e (frame_fault l) (frame_checks t (frame_of l)) reads.0
 
-  -- 9, 23, 24, or none
-  pub line_checked : r.fault ≡ 0 → (n : ℕ) → n ≡ frame_checks t (frame_read r) → n ≡ event_line_fault t l
-  line_checked z n e = e ∙ ap (frame_checks t) (reads.1 z) ∙ sym (or_none (frame_fault l) (frame_checks t (frame_of l)) (sym reads.0 ∙ z))
-
-  pub line_read : event_line_fault t l ≡ 0 → frame_read r ≡ frame_of l
-  line_read e = reads.1 (reads.0 ∙ line_frame t l e)
+  module _ (r : FrameLine) (reads : ReadsFrame l (Ok r)) where
+    -- 9, 23, 24, or none
+    pub line_checked : (n : ℕ) → n ≡ frame_checks t (frame_read r) → n ≡ event_line_fault t l
+    line_checked n e = e ∙ ap (frame_checks t) reads.1 ∙ sym (or_none (frame_fault l) (frame_checks t (frame_of l)) (sym reads.0))
 
 -- a line past the checks before 27
 module _ (t : Table) (l : List ℕ) (e : event_line_fault t l ≡ 0) where

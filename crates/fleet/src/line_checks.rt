@@ -1,5 +1,5 @@
 // A line to a fleet: its checks, and what it says.
-ghost use Rattle.std.specs.Prelude.{◌≡◌, false, cond, List, [], ℕ, ◌/◌, eqb, length};
+ghost use Rattle.std.specs.Prelude.{◌≡◌, false, cond, List, [], ℕ, ◌/◌, eqb, length, Ok};
 ghost use Rattle.table.specs.Table.{of_slices, between};
 ghost use Rattle.probe_frame.specs.Frame.{ReadsFrame};
 ghost use Rattle.probe_rules.specs.declared.Event.TheVariants.{Opening, Offer, Refusal};
@@ -57,7 +57,7 @@ fn find_ends(
     LineEnds { fault: 0, link }
 }
 
-// 1, 2, 9, 23, 24 of a line, by the frame that was read of it.
+// 9, 23, 24 of a line, by the frame that was read of it.
 pub fn check_line(
     number: u16,
     probes: usize,
@@ -68,12 +68,9 @@ pub fn check_line(
 ) -> LineEnds
     requires { RisingSlices links lows.now highs.now }
     ensures { let t = of_slices number probes links [] lows.now highs.now [] in
-        ((l : List ℕ) → ReadsFrame l frame → result.fault ≡ event_line_fault t l)
+        ((l : List ℕ) → ReadsFrame l (Ok frame) → result.fault ≡ event_line_fault t l)
         × (result.fault ≡ 0 → of_one_probe frame.kind ≡ false → result.link ≡ between t frame.from frame.to) }
 {
-    if frame.fault != 0 {
-        return refused(frame.fault);
-    }
     if 3 < frame.kind {
         return refused(9);
     }

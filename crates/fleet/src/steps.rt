@@ -54,7 +54,10 @@ pub fn handle_line(
 {
     let probes = counted.table.probes as usize;
     let links = counted.table.links as usize;
-    let frame = probe_frame::frame_line::read_frame(line);
+    let frame = match probe_frame::frame_line::read_frame(line) {
+        Ok(frame) => frame,
+        Err(refusal) => return wake_log::Answer::Refused(refusal.number()),
+    };
     let ends = super::line_checks::check_line(
         counted.table.number,
         probes,

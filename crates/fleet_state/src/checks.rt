@@ -9,6 +9,7 @@ ghost use Rattle.fleet_state.specs.Faults.{over_fault, wrong_link};
 ghost use Rattle.fleet_state.specs.Within.{LegalWithoutCosts};
 
 use table::TableSlices;
+use table::checks::check_slices;
 
 // 21, of a byte and its mark: a byte over 2, a mark over 1, or none while the byte permits its frame.
 fn is_wrong(byte: u8, mark: u8, permit: u8) -> bool
@@ -110,9 +111,8 @@ pub fn state_fault(table: TableSlices<'_>, rec: &[u8], degrees: &mut [u16]) -> u
     ensures { let x = as_slices table.entry in
         (result ≡ or_else (slices_fault x) (fleet_fault (table_of x) rec.now)) × (result ≡ 0 → Degrees (table_of x) degrees.new) }
 {
-    let fault = table::checks::slice_fault(256, 2048, table);
-    if fault != 0 {
-        return fault;
+    if let Err(refusal) = check_slices(256, 2048, table) {
+        return refusal.number();
     }
     fleet_fault(table, rec, degrees)
 }

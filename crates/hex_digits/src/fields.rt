@@ -21,7 +21,8 @@ fn read_by(values: &[u8], text: &[u8], at: usize, width: usize) -> Option<usize>
         number = number * 16 + value;
         sum += value;
     }
-    if sum < 255 { Some(number) } else { None }
+    let good = sum < 255;
+    if good { Some(number) } else { None }
 }
 
 // The number that bytes from an offset on write, where each is a digit.

@@ -7,6 +7,7 @@ use mathlib.Core.List.{List}
 use lib.Dec.{ltb, eqb}
 use lib.ListN.{length}
 use borrow.Author.Tests.{le-ltb, lt-ltb}
+use Rattle.std.specs.Prelude.{Ok}
 use Rattle.range.specs.First.{or_else}
 use Rattle.range.specs.Lists.{stored}
 use Rattle.range.proofs.Lists.{length_stored, stored_at, stored_beyond}
@@ -18,7 +19,6 @@ use Rattle.table.specs.Legal.{Legal}
 use Rattle.table.proofs.LegalLaws.{legal_table}
 use Rattle.table.proofs.Slices.{legal_slices}
 use Rattle.table_write.specs.Writing.{write_fault}
-use Rattle.table_write.specs.declared.Writing.TheVariants.{Length}
 use Rattle.table_laws.proofs.Functions.{read_then_write, write_then_read}
 use Rattle.plan_theory.specs.Plan.{kept, kept_count, cost_of, plan_byte, is_kept}
 use Rattle.plan_theory.proofs.Plan.{stored_kept, at_same, plan_rule, only_by_rule, plan_criterion, plan_unique, plan_meets}
@@ -106,7 +106,7 @@ demand_2 x fine fits =
       read_written = read_then_write;
       written_read = λ w out out' r b b' write enough holds read.
           let none : write_fault 256 2048 x (length out) ≡ 0 = rw (le-ltb (length out) (text_end t) enough) fine in
-          let whole : w ≡ Length (text_end t) = writes_answer write ∙ rw none in
+          let whole : w ≡ Ok (text_end t) = writes_answer write ∙ rw none in
           let back = write_then_read x (text_end t) b b' out out' r fits (rw whole at write) holds read in
           (whole, back.0, back.1);
     }

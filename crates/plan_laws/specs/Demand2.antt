@@ -1,14 +1,12 @@
 -- Demand 2 of a table in slices, sentence by sentence; the theorem is `demand_2`. A call is known by its promise, for whatever it was lent.
-use Rattle.std.specs.Prelude.{ℕ, ◌*◌, ◌≤◌, ◌<◌, ◌≡◌, ◌⊎◌, Bool, List, length, take, replicate}
+use Rattle.std.specs.Prelude.{ℕ, ◌*◌, ◌≤◌, ◌<◌, ◌≡◌, ◌⊎◌, Bool, List, length, take, replicate, Result, Ok}
 use Rattle.table.specs.Table.{Table, item}
 use Rattle.table.specs.Slices.{Slices, table_of}
 use Rattle.table.specs.Text.{text_end}
 use Rattle.table.specs.Same.{Same}
-use Rattle.table_read.specs.Reading.{Lent}
-use Rattle.table_read.specs.declared.Reading.{Reading}
-use Rattle.table_read.specs.declared.Reading.TheVariants.{Table as Read}
-use Rattle.table_write.specs.declared.Writing.{Writing}
-use Rattle.table_write.specs.declared.Writing.TheVariants.{Length}
+use Rattle.refusals.specs.declared.Refusal.{Refusal}
+use Rattle.table_read.specs.Reading.{Lent, answered}
+use Rattle.table_read.specs.declared.TableHead.{TableHead}
 use Rattle.table_laws.specs.Functions.{lent_slices, HoldsTable, ReadTable, WriteTable, ReadThenWrite}
 use Rattle.plan_theory.specs.Plan.{rested, kept, kept_count, cost_of, plan_byte, is_kept, slse, Meets}
 use Rattle.plan_theory.specs.Criterion.{PlanRule, Criterion, Settled}
@@ -62,10 +60,10 @@ module _ (x : Slices) where
     -- "Every table text read is written back the same": every text, from any slices it was read into, into any text that is long enough
     pub read_written : ReadThenWrite
     -- "every legal table written reads back": written into any text that is long enough, read into any slices that hold it
-    pub written_read : (w : Writing) (out out' : List ℕ) (r : Reading) (b b' : Lent)
+    pub written_read : (w : Result ℕ Refusal) (out out' : List ℕ) (r : Result TableHead Refusal) (b b' : Lent)
         → WriteTable x w out out'
         → text_end t ≤ length out
         → HoldsTable x.probes x.links b
         → ReadTable (take (text_end t) out') r b b'
-        → (w ≡ Length (text_end t)) × (r ≡ Read x.number x.probes x.links (text_end t))
+        → (w ≡ Ok (text_end t)) × (r ≡ answered x.number x.probes x.links (text_end t))
         × Same (table_of (lent_slices x.number x.probes x.links b')) t

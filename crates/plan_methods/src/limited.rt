@@ -12,6 +12,7 @@ ghost use Rattle.plan_methods.specs.declared.Planning.TheVariants.{Plan};
 
 use super::Planning;
 use table::TableSlices;
+use table::checks::check_slices;
 
 // The fault of a call with a plan of this length, within the limits pmax and lmax.
 fn plan_fault(pmax: usize, lmax: usize, table: TableSlices<'_>, plan: usize) -> u8
@@ -21,7 +22,10 @@ fn plan_fault(pmax: usize, lmax: usize, table: TableSlices<'_>, plan: usize) -> 
     if plan < links {
         return 8;
     }
-    table::checks::slice_fault(pmax, lmax, table)
+    match check_slices(pmax, lmax, table) {
+        Ok(()) => 0,
+        Err(refusal) => refusal.number(),
+    }
 }
 
 // And with working bytes of this length.

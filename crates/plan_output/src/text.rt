@@ -55,12 +55,7 @@ pub fn plan_text<const PMAX: usize, const LMAX: usize>(text: &[u8], out: &mut [u
         text, &mut needs, &mut lows, &mut highs, &mut costs, PMAX, LMAX, false,
     );
     match read {
-        table_read::Reading::Table {
-            number,
-            probes,
-            links,
-            rest: _,
-        } => {
+        Ok(head) => {
             let mut plan = [0u8; LMAX];
             let mut order = [0u16; LMAX];
             let mut half = [0u16; LMAX];
@@ -74,9 +69,9 @@ pub fn plan_text<const PMAX: usize, const LMAX: usize>(text: &[u8], out: &mut [u
                 &mut digits,
                 &mut degrees,
                 TableSlices {
-                    number,
-                    probes,
-                    links,
+                    number: head.number,
+                    probes: head.probes,
+                    links: head.links,
                     needs: &needs,
                     lows: &lows,
                     highs: &highs,
@@ -84,6 +79,6 @@ pub fn plan_text<const PMAX: usize, const LMAX: usize>(text: &[u8], out: &mut [u
                 },
             )
         }
-        table_read::Reading::Refused(fault) => output::refusals::print_refusal(out, fault),
+        Err(refusal) => output::refusals::print_refusal(out, refusal.number()),
     }
 }

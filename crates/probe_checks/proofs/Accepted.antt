@@ -13,6 +13,10 @@ use Rattle.range.proofs.Bools.{and_left, and_right, unless_none, decided}
 use Rattle.range.proofs.Faults.{or_here, or_none, or_same, or_left, or_right}
 use Rattle.table.specs.Table.{Table, touches, between}
 use Rattle.table.specs.Slices.{Slices, table_of, slices_fault}
+use Rattle.std.specs.Prelude.{Ok, Err}
+use Rattle.refusals.specs.Refusals.{number_of}
+use Rattle.refusals.specs.declared.Refusal.{Refusal}
+use Rattle.refusals.proofs.Laws.{number_some, or_refused}
 use Rattle.probe_frame.specs.Frame.{Frame, frame_of, frame_fault, frame_read, ReadsFrame}
 use Rattle.probe_frame.specs.declared.FrameLine.{FrameLine}
 use Rattle.probe_rules.specs.declared.Event.{Event}
@@ -107,23 +111,23 @@ module _ (state : ℕ) (t : Table) (p : ℕ) where
 
 -- A frame as the code reads it.
 
-module _ (t : Table) (p : ℕ) (l : List ℕ) (r : FrameLine) (reads : ReadsFrame l r) where
+module _ (t : Table) (p : ℕ) (l : List ℕ) where
   -- 1 or 2
-  pub heard_turned : (r.fault ≡ 0 → ⊥) → HearsFrame t p l (record { fault = r.fault; event = Opening })
+  pub heard_turned : (e : Refusal) → ReadsFrame l (Err e) → HearsFrame t p l (record { fault = number_of e; event = Opening })
   unfolding heard_fault
-  heard_turned n = (or_here r.fault (frame_fault l) (heard_checks t p (frame_of l)) reads.0 n, λ z. absurd (n z))
+  heard_turned e reads = (or_refused e (frame_fault l) (heard_checks t p (frame_of l)) reads.0, λ z. absurd (number_some e z))
 
-  module _ (z : r.fault ≡ 0) where
+  module _ (r : FrameLine) (reads : ReadsFrame l (Ok r)) where
     of_frame : (n : ℕ) → n ≡ heard_checks t p (frame_read r) → n ≡ heard_fault t p l
     unfolding heard_fault
-    of_frame n e = e ∙ ap (heard_checks t p) (reads.1 z) ∙ sym (or_none (frame_fault l) (heard_checks t p (frame_of l)) (sym reads.0 ∙ z))
+    of_frame n e = e ∙ ap (heard_checks t p) reads.1 ∙ sym (or_none (frame_fault l) (heard_checks t p (frame_of l)) (sym reads.0))
 
     -- 9, 23 or 24
     pub frame_turned : (n : ℕ) → n ≡ heard_checks t p (frame_read r) → (n ≡ 0 → ⊥) → HearsFrame t p l (record { fault = n; event = Opening })
     frame_turned n e some = (of_frame n e, λ none. absurd (some none))
 
     pub frame_heard : (v : Event) → heard_checks t p (frame_read r) ≡ 0 → v ≡ heard_of t (frame_read r) → HearsFrame t p l (record { fault = 0; event = v })
-    frame_heard v e is = (of_frame 0 (sym e), λ none. is ∙ ap (heard_of t) (reads.1 z))
+    frame_heard v e is = (of_frame 0 (sym e), λ none. is ∙ ap (heard_of t) reads.1)
 
 -- the code's tests of the kind
 pub no_kind : (k : ℕ) → k ≡ 0 → (eqb k 1 || eqb k 2) ≡ false

@@ -40,10 +40,10 @@ pub fn check_frame(
     requires { RisingSlices links lows.now highs.now }
     ensures { HearsFrame (of_slices number 0 links [] lows.now highs.now []) probe frame.now result }
 {
-    let read = probe_frame::frame_line::read_frame(frame);
-    if read.fault != 0 {
-        return refused(read.fault);
-    }
+    let read = match probe_frame::frame_line::read_frame(frame) {
+        Ok(read) => read,
+        Err(refusal) => return refused(refusal.number()),
+    };
     if read.kind == 0 {
         return refused(9);
     }

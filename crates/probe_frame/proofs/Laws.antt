@@ -10,7 +10,11 @@ use lib.ListN.{length, get_or, length-append}
 use lib.Seq.{take_all}
 use borrow.Author.Tests.{eqb-true, eq-eqb, ne_eqb}
 use Rattle.range.specs.First.{or_else}
-use Rattle.range.specs.Reply.{reply_of}
+use Rattle.range.specs.Reply.{values, reply_of}
+use Rattle.std.specs.Prelude.{Result, Ok, Err}
+use Rattle.refusals.specs.Refusals.{number_of, reply_in}
+use Rattle.refusals.specs.declared.Refusal.{Refusal}
+use Rattle.refusals.proofs.Laws.{number_some}
 use Rattle.range.proofs.Bools.{unless_none}
 use Rattle.range.proofs.Faults.{or_left, or_right}
 use Rattle.hex_digits.specs.Digits.{number_at, digits}
@@ -23,7 +27,7 @@ use Rattle.reader.proofs.Fields.{last_four}
 use Rattle.lines.proofs.Lines.{GoodLine, line_good, good_line, fault_of_feed}
 use Rattle.lines.proofs.Parts.{part, part_at, part_split}
 use Rattle.lines.proofs.Numbers.{line_of, length_line, line_reads, good_cons}
-use Rattle.probe_frame.specs.Frame.{Frame, frame_line, frame_of, frame_fault, ReadsFrame, frame_reply, FrameAsAlone}
+use Rattle.probe_frame.specs.Frame.{Frame, frame_line, frame_of, frame_fault, frame_numbers, ReadsFrame, frame_reply, FrameAsAlone}
 use Rattle.probe_frame.specs.declared.FrameLine.{FrameLine}
 
 -- a line that neither 1 nor 2 turns down
@@ -88,26 +92,24 @@ module _ (f : Frame) (w : Writable f) where
 
 -- Frame lines as the code reads them.
 
-pub frame_short : (l : List ℕ) → (length l ≡ 15 → ⊥) → ReadsFrame l (record { fault = 1; kind = 0; number = 0; from = 0; to = 0 })
+pub frame_short : (l : List ℕ) → (length l ≡ 15 → ⊥) → 1 ≡ frame_fault l
 unfolding frame_fault
-frame_short l n = (rw (ne_eqb (length l) 15 n), λ z. absurd (omega arith))
+frame_short l n = rw (ne_eqb (length l) 15 n)
 
-pub frame_reads : (l : List ℕ) (fault number : ℕ) → length l ≡ 15 → (fault ≡ line_fault l 0 14) × (fault ≡ 0 → number ≡ number_at l 0 14)
-    → ReadsFrame l
-    (record { fault = fault; kind = number / 65536 / 65536 / 65536; number = number / 65536 / 65536 % 65536; from = number / 65536 % 65536; to = number % 65536 })
+pub frame_long : (l : List ℕ) → length l ≡ 15 → line_fault l 0 14 ≡ frame_fault l
 unfolding frame_fault
-frame_reads l fault number n r = (r.0 ∙ rw (eq-eqb (length l) 15 n), numbers)
-  where
-    numbers : fault ≡ 0
-        → ◌≡◌ {A = Frame}
-        (record { kind = number / 65536 / 65536 / 65536; number = number / 65536 / 65536 % 65536; from = number / 65536 % 65536; to = number % 65536 })
-        (frame_of l)
-    numbers z =
-        let good = sym r.0 ∙ z in
-        let c = last_four l 0 10 14 good (omega arith) in
-        let b = last_four l 0 6 14 good (omega arith) in
-        let a = last_four l 0 2 14 good (omega arith) in
-        rw (r.1 z, c.0, c.1, b.0, b.1, a.0, a.1)
+frame_long l n = rw (eq-eqb (length l) 15 n)
+
+-- the frame of a line's 14 digits
+pub frame_reads : (l : List ℕ) (number : ℕ) → 0 ≡ line_fault l 0 14 → number ≡ number_at l 0 14
+    → ◌≡◌ {A = Frame}
+    (record { kind = number / 65536 / 65536 / 65536; number = number / 65536 / 65536 % 65536; from = number / 65536 % 65536; to = number % 65536 })
+    (frame_of l)
+frame_reads l number good n =
+    let c = last_four l 0 10 14 (sym good) (omega arith) in
+    let b = last_four l 0 6 14 (sym good) (omega arith) in
+    let a = last_four l 0 2 14 (sym good) (omega arith) in
+    rw (n, c.0, c.1, b.0, b.1, a.0, a.1)
 
 -- the bytes of a line in a text: 14 digits and their line feed, or refused as the line is
 alone_fault : (s : List ℕ) (at : ℕ) → frame_fault (line_bytes s at) ≡ line_fault s at 14
@@ -128,9 +130,6 @@ pub frame_as_alone : FrameAsAlone
 frame_as_alone s at = same_as_alone frame_fields s at ∙ rw (alone_fault s at, ← fault_alone s at 14)
 
 -- what was read of a frame's line is what it gives
-pub frame_reads_reply : (l : List ℕ) (r : FrameLine) → ReadsFrame l r → reply_of r.fault (r.kind ∷ r.number ∷ r.from ∷ r.to ∷ []) ≡ frame_reply l
-frame_reads_reply l r e = go (ℕ_discrete r.fault 0)
-  where
-    go : Dec (r.fault ≡ 0) → reply_of r.fault (r.kind ∷ r.number ∷ r.from ∷ r.to ∷ []) ≡ frame_reply l
-    go (yes z) = ap (λ (f : Frame). reply_of r.fault (f.kind ∷ f.number ∷ f.from ∷ f.to ∷ [])) (e.1 z) ∙ rw e.0
-    go (no n) = rw (← e.0, ne_eqb r.fault 0 n)
+pub frame_reads_reply : (l : List ℕ) (r : Result FrameLine Refusal) → ReadsFrame l r → reply_in frame_numbers r ≡ frame_reply l
+frame_reads_reply l (Ok f) e = ap (λ (f : Frame). values (f.kind ∷ f.number ∷ f.from ∷ f.to ∷ [])) e.1 ∙ rw (← e.0)
+frame_reads_reply l (Err d) e = rw (← e.0, ne_eqb (number_of d) 0 (number_some d))

@@ -1,7 +1,9 @@
 -- Frames: document 01, "The ends and their frames", and refusals 1 and 2 of a frame line.
-use Rattle.std.specs.Prelude.{ℕ, ◌≡◌, cond, List, [], ◌∷◌, ◌++◌, eqb, length}
+use Rattle.std.specs.Prelude.{ℕ, ◌≡◌, cond, List, [], ◌∷◌, ◌++◌, eqb, length, Result, IfOk}
 use Rattle.range.specs.First.{or_else}
 use Rattle.range.specs.Reply.{Reply, reply_of}
+use Rattle.refusals.specs.Refusals.{fault_of}
+use Rattle.refusals.specs.declared.Refusal.{Refusal}
 use Rattle.hex_digits.specs.Digits.{number_at, digits}
 use Rattle.lines.specs.Digits.{line_fault}
 use Rattle.lines.specs.Fields.{frame_fields, line_reply, line_bytes}
@@ -32,8 +34,12 @@ abbrev pub frame_read : FrameLine → Frame
 frame_read r = record { kind = r.kind; number = r.number; from = r.from; to = r.to }
 
 -- a frame's line was read: its fault, and the frame where it has none
-abbrev pub ReadsFrame : List ℕ → FrameLine → Type 0
-ReadsFrame l r = (r.fault ≡ frame_fault l) × (r.fault ≡ 0 → frame_read r ≡ frame_of l)
+abbrev pub ReadsFrame : List ℕ → Result FrameLine Refusal → Type 0
+ReadsFrame l r = (fault_of r ≡ frame_fault l) × IfOk r (λ f. frame_read f ≡ frame_of l)
+
+-- the numbers of the frame that was read, in the line's order
+abbrev pub frame_numbers : FrameLine → List ℕ
+frame_numbers r = r.kind ∷ r.number ∷ r.from ∷ r.to ∷ []
 
 -- what a frame's line gives: its refusal, 1 or 2, or its numbers
 abbrev pub frame_reply : List ℕ → Reply

@@ -4,30 +4,25 @@ ghost use Rattle.std.proofs.lemmas.List.Edits.{sets};
 ghost use Rattle.probe_frame.specs.Frame.{frame_line, ReadsFrame};
 
 use super::FrameLine;
+use reader::numbers::number_line;
+use refusals::Refusal;
 
 // A frame's line, read in one pass: 1, then 2, or the frame's numbers.
-pub fn read_frame(line: &[u8]) -> FrameLine
+pub fn read_frame(line: &[u8]) -> Result<FrameLine, Refusal>
     ensures { ReadsFrame line.now result }
 {
     if line.len() != 15 {
-        return FrameLine {
-            fault: 1,
-            kind: 0,
-            number: 0,
-            from: 0,
-            to: 0,
-        };
+        return Err(Refusal::Line);
     }
-    let read = reader::numbers::number_line(line, 0, 14);
-    let three = read.number / 65536;
+    let four = number_line(line, 0, 14)?;
+    let three = four / 65536;
     let two = three / 65536;
-    FrameLine {
-        fault: read.fault,
+    Ok(FrameLine {
         kind: two / 65536,
         number: two % 65536,
         from: three % 65536,
-        to: read.number % 65536,
-    }
+        to: four % 65536,
+    })
 }
 
 // Writes a frame's line at the start.

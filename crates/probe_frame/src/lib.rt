@@ -3,10 +3,9 @@
 
 pub mod frame_line;
 
-// A frame's line that was read: its fault, 0 for none, and where there is none the frame's numbers.
+// A frame's numbers, as its line gives them.
 #[derive(Clone, Copy)]
 pub struct FrameLine {
-    pub fault: u8,
     pub kind: usize,
     pub number: usize,
     pub from: usize,

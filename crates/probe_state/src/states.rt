@@ -6,6 +6,7 @@ ghost use Rattle.probe_maps.specs.Maps.{rows, is_own, state_fault};
 
 use super::{own, words};
 use table::TableSlices;
+use table::checks::check_slices;
 
 // The table's checks, then 20, 21, 22. Where none is found, `own` has the probe's own links, with room for 2,048.
 pub fn check_state(
@@ -23,9 +24,8 @@ pub fn check_state(
         (result ≡ state_fault x probe m) × (result ≡ 0 → own.new ≡ map_of (is_own (table_of x) probe) 32) }
 {
     let links = table.links as usize;
-    let fault = table::checks::slice_fault(256, 2048, table);
-    if fault != 0 {
-        return fault;
+    if let Err(refusal) = check_slices(256, 2048, table) {
+        return refusal.number();
     }
     let lengths = words::length_fault(
         links,

@@ -6,6 +6,7 @@ ghost use Rattle.probe_maps.specs.Maps.{rows};
 ghost use Rattle.probe_turning.specs.Turned.{TurnsToMaps, TurnsToBytes};
 
 use table::TableSlices;
+use table::checks::check_slices;
 
 mod lengths;
 mod records;
@@ -43,9 +44,8 @@ pub fn maps_of(
     if room != 0 {
         return Turning::Refused(room);
     }
-    let fault = table::checks::slice_fault(256, 2048, table);
-    if fault != 0 {
-        return Turning::Refused(fault);
+    if let Err(refusal) = check_slices(256, 2048, table) {
+        return Turning::Refused(refusal.number());
     }
     let bad = probe_record::checks::record_fault(rec, table, probe as usize);
     if bad != 0 {

@@ -7,8 +7,11 @@ use lib.ListN.{take, drop}
 use lib.Seq.{drop_at}
 use Rattle.table.specs.Text.{of_text, text_fault}
 use Rattle.table.specs.Slices.{Slices}
-use Rattle.table_read.specs.Reading.{Lent, ReadsTable}
-use Rattle.table_read.specs.declared.Reading.TheVariants.{Table as Read, Refused as Unread}
+use Rattle.std.specs.Prelude.{Result, Err}
+use Rattle.refusals.specs.Refusals.{number_of}
+use Rattle.refusals.specs.declared.Refusal.{Refusal}
+use Rattle.table_read.specs.Reading.{Lent, answered, ReadsTable}
+use Rattle.table_read.specs.declared.TableHead.{TableHead}
 use Rattle.table_laws.proofs.Reading.{blank_found, accepted, refusal_is, read_none}
 use Rattle.output.specs.Output.{refusal_line}
 use Rattle.output.specs.declared.Output.TheVariants.{Length}
@@ -50,11 +53,11 @@ module _ (input : List ℕ) where
         ∙ sym (own_script input n (part_of input).headed (part_of input).own passes)
 
   -- the table read stands in these slices
-  refused : (m : ℕ) (b : Lent) → ReadsTable 256 2048 true (table_text input) (Unread m) zero_slices b → refusal_line m ≡ script_output input
+  refused : (m : Refusal) (b : Lent) → ReadsTable 256 2048 true (table_text input) (Err m) zero_slices b → refusal_line (number_of m) ≡ script_output input
   refused m b read =
-      let u = refusal_is 256 2048 true (table_text input) (Unread m) zero_slices b read m refl in
+      let u = refusal_is 256 2048 true (table_text input) (Err m) zero_slices b read m refl in
       let e = u.0 ∙ blank_found 256 2048 true (table_text input) ∙ ap (text_fault 256 2048 true) same in
-      own_refusal input n (part_of input).headed (part_of input).own m e (λ w. u.1 (sym u.0 ∙ w))
+      own_refusal input n (part_of input).headed (part_of input).own (number_of m) e (λ w. u.1 (sym u.0 ∙ w))
 
 pub script_writes : (input : List ℕ) → ScriptWrites input
 script_writes input =
@@ -62,7 +65,7 @@ script_writes input =
     record {
       refused = refused input;
       writes = λ number probes links rest b read n out' a e.
-          let r = Read number probes links rest in
+          let r = answered number probes links rest in
           let z = accepted 256 2048 true text r zero_slices b read (read_none 256 2048 true text r zero_slices b read number probes links rest refl) in
           let x = lent_slices number probes links b in
           let fine = read_fine 256 2048 true text r _ b read number probes links rest refl in
@@ -70,6 +73,6 @@ script_writes input =
           let printed = end_text x left.bytes left.progress.held left.progress.changed in
           let all = script_of_calls x fine a.line a.long a.calls a.kept in
           all.prints x (same_self x fine) (Length n) a.out out' a.end (end_holds x left.bytes printed n a.out out' a.end)
-          ∙ ap (λ (y : Slices). script_text y 1024 (text_of_pieces a.calls)) (slices_are text r b.needs b.lows b.highs b.costs read number probes links rest refl)
+          ∙ ap (λ (y : Slices). script_text y 1024 (text_of_pieces a.calls)) (slices_are text r b.needs b.lows b.highs b.costs read (record { number = number; probes = probes; links = links; rest = rest }) refl)
           ∙ rest_prints input z (text_of_pieces a.calls) e;
     }

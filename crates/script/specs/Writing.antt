@@ -1,9 +1,10 @@
 -- What the script program writes, over any list of reads that together give the input. Of known bytes the program's run is promised; what the system's read gave and its write took, no promise tells.
-use Rattle.std.specs.Prelude.{ℕ, ◌≤◌, ◌<◌, ◌≡◌, true, List, ◌++◌, length, take, replicate, Option, IfSome}
+use Rattle.std.specs.Prelude.{ℕ, ◌≤◌, ◌<◌, ◌≡◌, true, List, ◌++◌, length, take, replicate, Option, IfSome, Err}
 use Rattle.std.specs.Io.KnownBytes.{Consumes, Appends, IsAtEnd}
 use Rattle.table.specs.Slices.{Slices}
-use Rattle.table_read.specs.Reading.{Lent, lent_of, ReadsTable}
-use Rattle.table_read.specs.declared.Reading.TheVariants.{Table, Refused}
+use Rattle.refusals.specs.Refusals.{number_of}
+use Rattle.refusals.specs.declared.Refusal.{Refusal}
+use Rattle.table_read.specs.Reading.{Lent, lent_of, answered, ReadsTable}
 use Rattle.table_laws.specs.Functions.{lent_slices}
 use Rattle.output.specs.Output.{refusal_line, Prints}
 use Rattle.output.specs.declared.Output.TheVariants.{Length}
@@ -52,8 +53,8 @@ zero_slices = lent_of (replicate 256 0) (replicate 2048 0) (replicate 2048 0) (r
 -- "The script program reads a table and, after its closing line, script lines .. For each it prints the entry"; "a refused table prints only that"
 -- The table is read from its own bytes into slices b, by `read_table_prefix`; then the calls, whose pieces are the rest of the input, and the end print all that the input prints.
 pub record ScriptWrites (input : List ℕ) : Type 0 where
-  pub refused : (n : ℕ) (b : Lent) → ReadsTable 256 2048 true (table_text input) (Refused n) zero_slices b → refusal_line n ≡ script_output input
-  pub writes : (number probes links rest : ℕ) (b : Lent) → ReadsTable 256 2048 true (table_text input) (Table number probes links rest) zero_slices b
+  pub refused : (n : Refusal) (b : Lent) → ReadsTable 256 2048 true (table_text input) (Err n) zero_slices b → refusal_line (number_of n) ≡ script_output input
+  pub writes : (number probes links rest : ℕ) (b : Lent) → ReadsTable 256 2048 true (table_text input) (answered number probes links rest) zero_slices b
       → (n : ℕ) (out' : List ℕ) (a : Answered (lent_slices number probes links b) n out') → table_text input ++ text_of_pieces a.calls ≡ input
       → printed_by_pieces a.calls ++ take n out' ≡ script_output input
 

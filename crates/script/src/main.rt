@@ -104,20 +104,15 @@ fn answer_text<R: Read, W: Write, E: Write>(
         &mut costs,
     );
     match read {
-        table_read::Reading::Table {
-            number,
-            probes,
-            links,
-            rest: _,
-        } => {
+        Ok(head) => {
             let ending = answer_script(
                 input,
                 output,
                 errors,
                 TableSlices {
-                    number,
-                    probes,
-                    links,
+                    number: head.number,
+                    probes: head.probes,
+                    links: head.links,
                     needs: &needs,
                     lows: &lows,
                     highs: &highs,
@@ -128,8 +123,8 @@ fn answer_text<R: Read, W: Write, E: Write>(
             );
             write_ending(output, errors, ending, &out)
         }
-        table_read::Reading::Refused(fault) => {
-            let length = refuse(fault, &mut out);
+        Err(refusal) => {
+            let length = refuse(refusal.number(), &mut out);
             write(output, errors, &out[..length])
         }
     }

@@ -126,24 +126,19 @@ pub fn script_text(text: &[u8], out: &mut [u8]) -> Output
     let mut costs = [0u16; 2048];
     let read = table_read::read_table_prefix(text, &mut needs, &mut lows, &mut highs, &mut costs);
     match read {
-        table_read::Reading::Table {
-            number,
-            probes,
-            links,
-            rest,
-        } => script_pieces::whole::print_script(
+        Ok(head) => script_pieces::whole::print_script(
             TableSlices {
-                number,
-                probes,
-                links,
+                number: head.number,
+                probes: head.probes,
+                links: head.links,
                 needs: &needs,
                 lows: &lows,
                 highs: &highs,
                 costs: &costs,
             },
-            &text[rest..],
+            &text[head.rest..],
             out,
         ),
-        table_read::Reading::Refused(fault) => output::refusals::print_refusal(out, fault),
+        Err(refusal) => output::refusals::print_refusal(out, refusal.number()),
     }
 }

@@ -6,16 +6,16 @@ use standard_io::Filling;
 use std::io::Read;
 use table::HEADER_BYTES;
 use table::starts::text_end;
+use table_text::line_checks::read_header;
 
 // Where the table's text ends, by the header's line.
 fn table_end(head: &[u8]) -> usize
     ensures { result ≡ table_end head.now }
 {
-    let header = table_text::line_checks::read_header(head, 256, 2048);
-    if header.fault != 0 {
-        return head.len();
+    match read_header(head, 256, 2048) {
+        Ok(header) => text_end(header.probes, header.links),
+        Err(_) => head.len(),
     }
-    text_end(header.probes, header.links)
 }
 
 // Reads the table's bytes and no more: the header's line, then the rest that it tells of.

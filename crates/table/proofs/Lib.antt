@@ -6,5 +6,6 @@ pub mod Accepted
 pub mod Lengths
 pub mod LegalLaws
 pub mod Slices
+pub mod Answers
 pub mod Largest
 pub mod Withdrawn

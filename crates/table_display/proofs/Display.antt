@@ -13,6 +13,10 @@ use Rattle.range.specs.First.{or_else, first}
 use Rattle.range.specs.Reply.{reply_of}
 use Rattle.range.proofs.Bools.{or_intro_right, or_false_left, or_false_right}
 use Rattle.range.proofs.Faults.{or_none, or_same}
+use Rattle.std.specs.Prelude.{Result, Err, ⊤}
+use Rattle.refusals.specs.declared.Refusal.{Refusal}
+use Rattle.refusals.specs.declared.Refusal.TheVariants.{Size, Slice}
+use Rattle.refusals.proofs.Laws.{of_its_number}
 use Rattle.lines.specs.Digits.{line_fault}
 use Rattle.lines.proofs.Lines.{good_line}
 use Rattle.lines.proofs.Numbers.{line_of, length_line, line_reads}
@@ -21,20 +25,15 @@ use Rattle.table.specs.Checking.{checking_reply, ChecksTable}
 use Rattle.table.specs.Legal.{size_fault, link_fault, table_fault, room_fault, lent_fault}
 use Rattle.table.specs.Slices.{Slices, table_of, slices_room_fault, slice_fault}
 use Rattle.table.specs.Text.{triple_line, of_text, text_end, head_fault, body_fault, text_fault, read_fault}
-use Rattle.table.specs.declared.Checking.{Checking}
-use Rattle.table.specs.declared.Checking.TheVariants.{Fine, Refused}
 use Rattle.table.proofs.Answers.{checking_is}
 use Rattle.table.proofs.Largest.{table_most, text_most}
 use Rattle.table_read.specs.Reading.{Lent, lent_of, reading_fault, Reads, ReadsTable}
-use Rattle.table_read.specs.declared.Reading.{Reading}
-use Rattle.table_read.specs.declared.Reading.TheVariants.{Refused as Unread}
+use Rattle.table_read.specs.declared.TableHead.{TableHead}
 use Rattle.table_read.proofs.Answers.{reads_answer}
-use Rattle.table_write.specs.Writing.{write_fault, Writes, WritesTable}
-use Rattle.table_write.specs.declared.Writing.{Writing}
-use Rattle.table_write.specs.declared.Writing.TheVariants.{Length, Refused as Unwritten}
+use Rattle.table_write.specs.Writing.{write_fault, writing_reply, Writes, WritesTable}
 use Rattle.table_write.proofs.Answers.{writes_answer, room_enough}
 use Rattle.table_laws.specs.Functions.{lent_slices, HoldsTable}
-use Rattle.table_laws.proofs.Reading.{room_none, none_short, refusal_is}
+use Rattle.table_laws.proofs.Reading.{room_none, none_short, answer_refused, refusal_is}
 use Rattle.table_display.specs.Display.{over, HeldToPair, SameTable, SameText, NeverTooShort, DisplayTables}
 
 -- The size of a table that is within the pair, and of one that is over it.
@@ -62,14 +61,14 @@ lent_same {a} {b} n l h c = go n l h c
     go : {n n' l l' h h' c c' : List ℕ} → n ≡ n' → l ≡ l' → h ≡ h' → c ≡ c' → lent_of n l h c ≡ lent_of n' l' h' c'
     go n l h c = rw (n, l, h, c)
 
-checks_same : (r r' : Checking) (fault fault' : ℕ) → fault ≡ fault' → checking_reply r ≡ reply_of fault [] → checking_reply r' ≡ reply_of fault' [] → r ≡ r'
+checks_same : (r r' : Result ⊤ Refusal) (fault fault' : ℕ) → fault ≡ fault' → checking_reply r ≡ reply_of fault [] → checking_reply r' ≡ reply_of fault' [] → r ≡ r'
 checks_same r r' fault fault' e w w' = checking_is r fault' (rw e at w) ∙ sym (checking_is r' fault' w')
 
-writes_same : {fault fault' : ℕ} {t : Table} {r r' : Writing} {out after after' : List ℕ} → fault ≡ fault'
+writes_same : {fault fault' : ℕ} {t : Table} {r r' : Result ℕ Refusal} {out after after' : List ℕ} → fault ≡ fault'
     → Writes fault t r out after → Writes fault' t r' out after' → (r ≡ r') × (after ≡ after')
 writes_same e w w' = let v = rw e at w in (writes_answer v ∙ sym (writes_answer w'), v.out ∙ sym w'.out)
 
-reads_same : {fault fault' : ℕ} {t : Table} {r r' : Reading} {lent after after' : Lent} → fault ≡ fault'
+reads_same : {fault fault' : ℕ} {t : Table} {r r' : Result TableHead Refusal} {lent after after' : Lent} → fault ≡ fault'
     → Reads fault t r lent after → Reads fault' t r' lent after' → (r ≡ r') × (after ≡ after')
 reads_same e w w' =
     let v = rw e at w in
@@ -77,13 +76,13 @@ reads_same e w w' =
     let f' = w'.lent in
     (reads_answer v ∙ sym (reads_answer w'), lent_same (f.need ∙ sym f'.need) (f.low ∙ sym f'.low) (f.high ∙ sym f'.high) (f.cost ∙ sym f'.cost))
 
-writes_three : {fault : ℕ} {t : Table} {r : Writing} {out after : List ℕ} → fault ≡ 3 → Writes fault t r out after → (r ≡ Unwritten 3) × (after ≡ out)
-writes_three e w = let v = rw e at w in (writes_answer v, v.out)
+writes_three : {fault : ℕ} {t : Table} {r : Result ℕ Refusal} {out after : List ℕ} → fault ≡ 3 → Writes fault t r out after → (r ≡ Err Size) × (after ≡ out)
+writes_three e w = let v = rw e at w in (writes_answer v ∙ ap Err (of_its_number Size), v.out)
 
-reads_three : {fault : ℕ} {t : Table} {r : Reading} {lent after : Lent} → fault ≡ 3 → Reads fault t r lent after → (r ≡ Unread 3) × (after ≡ lent)
+reads_three : {fault : ℕ} {t : Table} {r : Result TableHead Refusal} {lent after : Lent} → fault ≡ 3 → Reads fault t r lent after → (r ≡ Err Size) × (after ≡ lent)
 reads_three e w =
     let v = rw e at w in
-    (reads_answer v, lent_same v.lent.need v.lent.low v.lent.high v.lent.cost)
+    (reads_answer v ∙ ap Err (of_its_number Size), lent_same v.lent.need v.lent.low v.lent.high v.lent.cost)
 
 -- Over the pair.
 module _ (pmax lmax : ℕ) where
@@ -118,7 +117,7 @@ module _ (pmax lmax : ℕ) where
   held_to_pair =
       record {
         slices = over_slices;
-        check = λ x r o room w. checking_is r (slice_fault pmax lmax x) w ∙ rw (over_slices x o room);
+        check = λ x r o room w. checking_is r (slice_fault pmax lmax x) w ∙ rw (over_slices x o room) (ap Err (of_its_number Size));
         write = λ x r out after o room l. writes_three (room_enough (length out) (text_end (table_of x)) _ l ∙ over_slices x o room);
         text = over_text;
         header = over_header;
@@ -156,14 +155,6 @@ same_text s o =
 
 -- Slices for the pair.
 
-refused_is : (fault n : ℕ) (none : Bool) → Refused n ≡ cond none Fine (Refused fault) → n ≡ fault
-refused_is fault n true e = let z : ◌≡◌ {A = ℕ} 0 1 = cc in absurd (omega arith)
-refused_is fault n false e = cc
-
-unwritten_is : (fault n m : ℕ) (none : Bool) → Unwritten n ≡ cond none (Length m) (Unwritten fault) → n ≡ fault
-unwritten_is fault n m true e = let z : ◌≡◌ {A = ℕ} 0 1 = cc in absurd (omega arith)
-unwritten_is fault n m false e = cc
-
 module _ (a : Lent) (holds : HoldsTable 16 40 a) where
   enough : (probes links : ℕ) → probes ≤ 16 → links ≤ 40 → room_fault probes links (length a.needs) (length a.lows) (length a.highs) (length a.costs) ≡ 0
   enough probes links p l =
@@ -180,25 +171,25 @@ module _ (a : Lent) (holds : HoldsTable 16 40 a) where
     pub fault_most : slice_fault 16 40 x ≤ 6
     fault_most = rw (or_none (slices_room_fault x) (table_fault 16 40 (table_of x)) room) (table_most 16 40 (table_of x))
 
-    check_not : (r : Checking) → ChecksTable 16 40 x r → r ≡ Refused 8 → ⊥
+    check_not : (r : Result ⊤ Refusal) → ChecksTable 16 40 x r → r ≡ Err Slice → ⊥
     check_not r w e =
         let fault = slice_fault 16 40 x in
-        let q = refused_is fault 8 (eqb fault 0) (sym e ∙ checking_is r fault w) in
+        let q = (answer_refused (eqb fault 0) fault 8 [] (ap checking_reply (sym e) ∙ w)).1 in
         let l = fault_most in
         omega arith
 
-    write_not : (r : Writing) (out after : List ℕ) → 618 ≤ length out → WritesTable 16 40 x r out after → r ≡ Unwritten 8 → ⊥
+    write_not : (r : Result ℕ Refusal) (out after : List ℕ) → 618 ≤ length out → WritesTable 16 40 x r out after → r ≡ Err Slice → ⊥
     write_not r out after long w e =
         let fault = write_fault 16 40 x (length out) in
-        let q = unwritten_is fault 8 (text_end (table_of x)) (eqb fault 0) (sym e ∙ writes_answer w) in
+        let q = (answer_refused (eqb fault 0) fault 8 (text_end (table_of x) ∷ []) (ap writing_reply (sym e) ∙ w.answer)).1 in
         let k = within 16 40 (table_of x) o in
         let p = room_enough (length out) (text_end (table_of x)) (slice_fault 16 40 x) (omega (arith, k.0, k.1)) in
         let l = fault_most in
         omega arith
 
-  read_not : (more : Bool) (s : List ℕ) (r : Reading) (after : Lent) → ReadsTable 16 40 more s r a after → r ≡ Unread 8 → ⊥
+  read_not : (more : Bool) (s : List ℕ) (r : Result TableHead Refusal) (after : Lent) → ReadsTable 16 40 more s r a after → r ≡ Err Slice → ⊥
   read_not more s r after w e =
-      let q = refusal_is 16 40 more s r a after w 8 e in
+      let q = refusal_is 16 40 more s r a after w Slice e in
       let p = none_short 16 40 more s a holds in
       let l = text_most 16 40 more s in
       omega (arith, q.0)

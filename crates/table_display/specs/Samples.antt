@@ -1,10 +1,10 @@
 -- Sample tables at the display's pair and just over it, and calls with M2 of document 01.
-use Rattle.std.specs.Prelude.{◌≡◌, false, List, [], ◌∷◌, ◌++◌, ℕ, replicate}
+use Rattle.std.specs.Prelude.{◌≡◌, false, List, [], ◌∷◌, ◌++◌, ℕ, replicate, Err}
 use Rattle.range.specs.Lists.{joined}
 use Rattle.table.specs.Slices.{Slices, slices_of, slice_fault}
 use Rattle.table.specs.Text.{closing_line, of_text, text_fault}
-use Rattle.table_read.specs.Reading.{Lent, lent_of, ReadsTable}
-use Rattle.table_read.specs.declared.Reading.TheVariants.{Table as Read, Refused}
+use Rattle.table_read.specs.Reading.{Lent, lent_of, answered, ReadsTable}
+use Rattle.refusals.specs.declared.Refusal.TheVariants.{Size}
 use Rattle.table_laws.specs.Functions.{HoldsTable}
 use Rattle.table_laws.specs.Samples.{bytes, m2_text}
 use Rattle.table_display.specs.Display.{over}
@@ -49,7 +49,7 @@ pub record PairSamples : Type 0 where
   pub display17 : text_fault 16 40 false probes17 ≡ 3
   pub full17 : text_fault 256 2048 false probes17 ≡ 0
   -- by 3, not by 8, where nothing is lent
-  pub read17 : ReadsTable 16 40 false probes17 (Refused 3) (lent_of [] [] [] []) (lent_of [] [] [] [])
+  pub read17 : ReadsTable 16 40 false probes17 (Err Size) (lent_of [] [] [] []) (lent_of [] [] [] [])
   -- the same of links
   pub display40 : slice_fault 16 40 (linked 40) ≡ 0
   pub display41 : slice_fault 16 40 (linked 41) ≡ 3
@@ -57,5 +57,5 @@ pub record PairSamples : Type 0 where
   -- a text within the pair, read by both into slices for the pair
   pub m2_within : over 16 40 (of_text m2_text) ≡ false
   pub holds : HoldsTable 16 40 blank
-  pub display_m2 : ReadsTable 16 40 false m2_text (Read 1 4 3 77) blank m2_read
-  pub full_m2 : ReadsTable 256 2048 false m2_text (Read 1 4 3 77) blank m2_read
+  pub display_m2 : ReadsTable 16 40 false m2_text (answered 1 4 3 77) blank m2_read
+  pub full_m2 : ReadsTable 256 2048 false m2_text (answered 1 4 3 77) blank m2_read

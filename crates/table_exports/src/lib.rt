@@ -8,43 +8,42 @@ ghost use Rattle.table_read.specs.Reading.{lent_of, reading_reply};
 ghost use Rattle.table_write.specs.Writing.{writing_reply};
 ghost use Rattle.packed_answers.specs.Packed.{answer_base, packed_value};
 ghost use Rattle.table_exports.specs.Packed.{ReadsPacked, WritesPacked, packed_checking, packed_reading};
-ghost use Rattle.table_write.specs.declared.Writing.TheVariants.{Length};
 
 use packed_answers::ANSWER_BASE;
-use table::{Checking, TableSlices};
-use table_read::Reading;
-use table_write::Writing;
+use refusals::Refusal;
+use table::TableSlices;
+use table_read::TableHead;
 
-fn packed_checking(r: Checking) -> u8
+fn packed_checking(r: Result<(), Refusal>) -> u8
     ensures { result ≡ packed_checking (checking_reply r) }
 {
     match r {
-        Checking::Fine => 0,
-        Checking::Refused(refusal) => refusal,
+        Ok(()) => 0,
+        Err(refusal) => refusal.number(),
     }
 }
 
-fn packed_reading(r: Reading) -> u64
+fn packed_reading(r: Result<TableHead, Refusal>) -> u64
     ensures { result ≡ packed_reading (reading_reply r) }
 {
     match r {
-        Reading::Table {
-            number,
-            probes,
-            links,
-            rest: _,
-        } => ANSWER_BASE + (number as u64) * 4294967296 + (probes as u64) * 65536 + (links as u64),
-        Reading::Refused(refusal) => refusal as u64,
+        Ok(head) => {
+            ANSWER_BASE
+                + (head.number as u64) * 4294967296
+                + (head.probes as u64) * 65536
+                + (head.links as u64)
+        }
+        Err(refusal) => refusal.number() as u64,
     }
 }
 
-fn packed_writing(r: Writing) -> u64
-    requires { (length : ℕ) → r ≡ Length length → length < answer_base }
+fn packed_writing(r: Result<usize, Refusal>) -> u64
+    requires { (length : ℕ) → r ≡ Ok length → length < answer_base }
     ensures { result ≡ packed_value (writing_reply r) }
 {
     match r {
-        Writing::Length(length) => length as u64 + ANSWER_BASE,
-        Writing::Refused(refusal) => refusal as u64,
+        Ok(length) => length as u64 + ANSWER_BASE,
+        Err(refusal) => refusal.number() as u64,
     }
 }
 

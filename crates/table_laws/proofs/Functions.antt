@@ -14,12 +14,13 @@ use Rattle.table.specs.Legal.{lent_fault, room_fault, table_fault}
 use Rattle.table.specs.Text.{of_text, text_of, text_end, text_fault, read_fault}
 use Rattle.table.proofs.Accepted.{text_legal}
 use Rattle.table.proofs.Lengths.{length_text}
-use Rattle.table_read.specs.declared.Reading.{Reading}
-use Rattle.table_read.specs.declared.Reading.TheVariants.{Table as Read}
-use Rattle.table_write.specs.declared.Writing.TheVariants.{Length, Refused as Unwritten}
+use Rattle.std.specs.Prelude.{Result, Ok, Err}
+use Rattle.refusals.specs.declared.Refusal.{Refusal}
+use Rattle.refusals.proofs.Laws.{refusal_of}
+use Rattle.table_read.specs.declared.TableHead.{TableHead}
 use Rattle.table.specs.Same.{Same}
 use Rattle.table.specs.Slices.{Slices, table_of}
-use Rattle.table_read.specs.Reading.{Lent, reading_fault}
+use Rattle.table_read.specs.Reading.{Lent, answered, reading_fault}
 use Rattle.table_write.specs.Writing.{write_fault}
 use Rattle.table_read.proofs.Answers.{reads_answer}
 use Rattle.table_write.proofs.Answers.{writes_answer}
@@ -30,7 +31,7 @@ use Rattle.table_laws.proofs.Reading.{room_none, accepted, entries, holds, read_
 use Rattle.table_laws.proofs.Round.{text_whole, table_whole}
 
 -- what an answer that is no refusal says
-answer_written : (none : Bool) (fault n : ℕ) (t : Table) → Length n ≡ cond none (Length (text_end t)) (Unwritten fault) → (none ≡ true) × (n ≡ text_end t)
+answer_written : (none : Bool) (fault n : ℕ) (t : Table) → ◌≡◌ {A = Result ℕ Refusal} (Ok n) (cond none (Ok (text_end t)) (Err (refusal_of fault))) → (none ≡ true) × (n ≡ text_end t)
 answer_written true fault n t e = (refl, (cc))
 answer_written false fault n t e = let z : ◌≡◌ {A = ℕ} 0 1 = cc in absurd (omega arith)
 
@@ -60,13 +61,13 @@ read_then_write s out out' a b number probes links rest w read enough write =
     (writes_answer written ∙ rw (fault, end), written.out ∙ rw (fault, text))
 
 -- A text without a fault that has the entries of the table t, read into slices that hold them.
-module _ (s : List ℕ) (t : Table) (r : Reading) (b b' : Lent) (none : text_fault 256 2048 false s ≡ 0) (same : Same (of_text s) t)
+module _ (s : List ℕ) (t : Table) (r : Result TableHead Refusal) (b b' : Lent) (none : text_fault 256 2048 false s ≡ 0) (same : Same (of_text s) t)
     (enough : HoldsTable t.probes t.links b) (read : ReadTable s r b b') where
   fault_none : reading_fault 256 2048 false s b ≡ 0
   unfolding read_fault
   fault_none = or_none (text_fault 256 2048 false s) _ none ∙ rw (same.probes, same.links) (room_none t.probes t.links b enough)
 
-  back_answer : r ≡ Read t.number t.probes t.links (text_end t)
+  back_answer : r ≡ answered t.number t.probes t.links (text_end t)
   back_answer = reads_answer read ∙ rw (fault_none, same.number, same.probes, same.links)
 
   back_entries : Same (table_of (lent_slices t.number t.probes t.links b')) t

@@ -1,14 +1,18 @@
 -- What reading a text gives: its answer, and the table in the lent slices.
 use Prim.Native.Nat.{ℕ, ◌≤◌, ◌<◌}
-use mathlib.Core.Path.{◌≡◌, refl, sym, ◌∙◌}
+use mathlib.Core.Path.{◌≡◌, refl, sym, ◌∙◌, ap}
 use mathlib.Core.Bool.{Bool, true, false, cond}
-use mathlib.Core.List.{List}
+use mathlib.Core.List.{List, [], ◌∷◌}
 use native.Mathlib.Nat.{le_trans}
 use native.Mathlib.Omega.{arith}
 use native.Mathlib.Decide.{ℕ_discrete}
 use lib.Dec.{eqb}
 use lib.ListN.{length, replicate, length-replicate}
 use borrow.Author.Tests.{eqb-true, eqb-false, eq-eqb, le-ltb}
+use Rattle.std.specs.Prelude.{Result, Err}
+use Rattle.range.specs.Reply.{refusal, values}
+use Rattle.refusals.specs.Refusals.{number_of}
+use Rattle.refusals.specs.declared.Refusal.{Refusal}
 use Rattle.range.proofs.Faults.{or_none, or_some}
 use Rattle.range.proofs.Lists.{stored_at, same_length}
 use Rattle.table.specs.Table.{Table, item}
@@ -17,10 +21,9 @@ use Rattle.table.specs.Text.{of_text, text_end, text_fault, read_fault}
 use Rattle.table.proofs.Faults.{room_good}
 use Rattle.table.proofs.Accepted.{text_legal}
 use Rattle.table_text.proofs.Good.{text_head}
-use Rattle.table_read.specs.Reading.{Lent, reading_fault, filled_of, ReadsTable}
-use Rattle.table_read.specs.declared.Reading.{Reading}
-use Rattle.table_read.specs.declared.Reading.TheVariants.{Table as Read, Refused as Unread}
-use Rattle.table_read.proofs.Answers.{reads_answer, read_text, read_room}
+use Rattle.table_read.specs.Reading.{Lent, reading_fault, reading_reply, answered, read_values, filled_of, ReadsTable}
+use Rattle.table_read.specs.declared.TableHead.{TableHead}
+use Rattle.table_read.proofs.Answers.{read_text, read_room}
 use Rattle.table.specs.Same.{Same}
 use Rattle.table.specs.Slices.{table_of, slices_room_fault, slice_fault}
 use Rattle.table_laws.specs.Functions.{lent_slices, HoldsTable}
@@ -29,22 +32,21 @@ use Rattle.table.proofs.Same.{same_fault}
 -- what the answer says
 
 answer_read : (none : Bool) (fault number probes links rest : ℕ) (t : Table)
-    → Read number probes links rest ≡ cond none (Read t.number t.probes t.links (text_end t)) (Unread fault)
+    → values (number ∷ probes ∷ links ∷ rest ∷ []) ≡ cond none (values (read_values t)) (refusal fault)
     → (none ≡ true) × (number ≡ t.number) × (probes ≡ t.probes) × (links ≡ t.links) × (rest ≡ text_end t)
 answer_read true fault number probes links rest t e = (refl, (cc), (cc), (cc), (cc))
 answer_read false fault number probes links rest t e = let z : ◌≡◌ {A = ℕ} 0 1 = cc in absurd (omega arith)
 
-answer_unread : (none : Bool) (fault refusal : ℕ) (t : Table) → Unread refusal ≡ cond none (Read t.number t.probes t.links (text_end t)) (Unread fault)
-    → (none ≡ false) × (refusal ≡ fault)
-answer_unread true fault refusal t e = let z : ◌≡◌ {A = ℕ} 0 1 = cc in absurd (omega arith)
-answer_unread false fault refusal t e = (refl, (cc))
+pub answer_refused : (none : Bool) (fault number : ℕ) (vs : List ℕ) → refusal number ≡ cond none (values vs) (refusal fault) → (none ≡ false) × (number ≡ fault)
+answer_refused true fault number vs e = let z : ◌≡◌ {A = ℕ} 0 1 = cc in absurd (omega arith)
+answer_refused false fault number vs e = (refl, (cc))
 
 -- slices that hold the table are not refused
 pub room_none : (probes links : ℕ) (a : Lent) → HoldsTable probes links a → room_fault probes links (length a.needs) (length a.lows) (length a.highs) (length a.costs) ≡ 0
 room_none probes links a g = rw (le-ltb _ _ g.needed, eq-eqb _ _ g.equal, eq-eqb _ _ g.equal₂, le-ltb _ _ g.linked)
 
 -- A call that answers r and leaves the slices as b.
-module _ (pmax lmax : ℕ) (more : Bool) (s : List ℕ) (r : Reading) (a b : Lent) (read : ReadsTable pmax lmax more s r a b) where
+module _ (pmax lmax : ℕ) (more : Bool) (s : List ℕ) (r : Result TableHead Refusal) (a b : Lent) (read : ReadsTable pmax lmax more s r a b) where
   abbrev t : Table
   t = of_text s
 
@@ -85,14 +87,14 @@ module _ (pmax lmax : ℕ) (more : Bool) (s : List ℕ) (r : Reading) (a b : Len
         let costs = same_length t.cost t.links a.costs b.costs (rw none at read.lent.cost) in
         record { needed = omega arith; linked = omega arith; equal = omega arith; equal₂ = omega arith }
 
-  pub refusal_is : (refusal : ℕ) → r ≡ Unread refusal → (refusal ≡ fault) × (fault ≡ 0 → ⊥)
-  refusal_is refusal e =
-      let n = answer_unread (eqb fault 0) fault refusal t (sym e ∙ reads_answer read) in
+  pub refusal_is : (e : Refusal) → r ≡ Err e → (number_of e ≡ fault) × (fault ≡ 0 → ⊥)
+  refusal_is e is =
+      let n = answer_refused (eqb fault 0) fault (number_of e) (read_values t) (ap reading_reply (sym is) ∙ read.answer) in
       (n.1, eqb-false fault 0 n.0)
 
-  module _ (number probes links rest : ℕ) (e : r ≡ Read number probes links rest) where
+  module _ (number probes links rest : ℕ) (e : r ≡ answered number probes links rest) where
     said : (eqb fault 0 ≡ true) × (number ≡ t.number) × (probes ≡ t.probes) × (links ≡ t.links) × (rest ≡ text_end t)
-    said = answer_read (eqb fault 0) fault number probes links rest t (sym e ∙ reads_answer read)
+    said = answer_read (eqb fault 0) fault number probes links rest t (ap reading_reply (sym e) ∙ read.answer)
 
     pub read_none : fault ≡ 0
     read_none = eqb-true fault 0 said.0

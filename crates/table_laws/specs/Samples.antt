@@ -1,15 +1,13 @@
 -- Sample texts and what is claimed of them: M2 of document 01, texts of M5 with one fault each, and texts with a short probe.
-use Rattle.std.specs.Prelude.{ℕ, ◌≤◌, ◌≡◌, Bool, true, false, List, [], ◌∷◌, ◌++◌, length, take, drop, replicate}
+use Rattle.std.specs.Prelude.{ℕ, ◌≤◌, ◌≡◌, Bool, true, false, List, [], ◌∷◌, ◌++◌, length, take, drop, replicate, Ok}
 use Prim.Native.Char.{code}
 use Prim.Native.String.{String, [] as done, ◌∷◌ as ◌before◌}
 use Rattle.table.specs.Table.{Table}
 use Rattle.table.specs.Legal.{Legal}
 use Rattle.table.specs.Text.{text_of, of_text, text_fault}
-use Rattle.table_read.specs.declared.Reading.TheVariants.{Table as Read}
-use Rattle.table_write.specs.declared.Writing.TheVariants.{Length}
 use Rattle.table.specs.Same.{FourDigits}
 use Rattle.table.specs.Slices.{Slices, table_of}
-use Rattle.table_read.specs.Reading.{Lent}
+use Rattle.table_read.specs.Reading.{Lent, answered}
 use Rattle.table_laws.specs.Functions.{lent_slices, HoldsTable, ReadTable, WriteTable}
 
 -- the bytes of a text of ASCII characters
@@ -48,11 +46,11 @@ lent = replicate 80 0
 
 -- calls with M2 that meet what each round trip of the functions asks
 pub record Calls : Type 0 where
-  pub read : ReadTable m2_text (Read 1 4 3 77) blank m2_lent
+  pub read : ReadTable m2_text (answered 1 4 3 77) blank m2_lent
   pub enough : length m2_text ≤ length lent
-  pub write : WriteTable m2_slices (Length 77) lent (m2_text ++ drop 77 lent)
+  pub write : WriteTable m2_slices (Ok 77) lent (m2_text ++ drop 77 lent)
   pub holds : HoldsTable 4 3 blank
-  pub again : ReadTable (take 77 (m2_text ++ drop 77 lent)) (Read 1 4 3 77) blank m2_lent
+  pub again : ReadTable (take 77 (m2_text ++ drop 77 lent)) (answered 1 4 3 77) blank m2_lent
 
 abbrev refusal : Bool → String → ℕ
 refusal more s = text_fault 256 2048 more (bytes s)

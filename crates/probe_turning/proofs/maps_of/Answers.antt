@@ -1,7 +1,9 @@
 use borrow.Author.Rules.{rules}
-use mathlib.Core.Path.{sym, ◌∙◌}
+use mathlib.Core.Path.{sym, ◌∙◌, ap}
 use native.Mathlib.Omega.{arith}
+use Rattle.refusals.specs.Refusals.{fault_of}
 use Rattle.range.proofs.Faults.{or_here, or_next}
+use Rattle.refusals.proofs.Laws.{number_some, or_refused}
 use Rattle.table.specs.Slices.{Slices, as_slices}
 use Rattle.table.proofs.Slices.{legal_slices}
 use Rattle.probe_maps.specs.Maps.{Maps, rows}
@@ -13,24 +15,25 @@ use Rattle.probe_turning.proofs.maps_of.Goals as goal
 pub returns-then-room-ne0 : goal.returns-then-room-ne0
 returns-then-room-ne0 c = maps_refused _ _ _ _ _ (or_here _ _ _ c.rows_fault-room.ensures c.if-room-ne0.true) c.if-room-ne0.true
 
-pub returns-then-fault-ne0 : goal.returns-then-fault-ne0
-returns-then-fault-ne0 c =
+pub returns-in-Err : goal.returns-in-Err
+returns-in-Err c =
+    let e = c.number.ensures in
     maps_refused _ _ _ _ _
-    (or_next _ _ _ _ c.rows_fault-room.ensures c.if-room-ne0.false (or_here _ _ _ c.slice_fault-fault.ensures c.if-fault-ne0.true))
-    c.if-fault-ne0.true
+    (or_next _ _ _ _ c.rows_fault-room.ensures c.if-room-ne0.false (e ∙ or_refused _ _ _ c.in-Err.ensures))
+    (λ z. number_some c.in-Err.refusal (sym e ∙ z))
 
 pub record_fault-bad-requires : goal.record_fault-bad-requires
 record_fault-bad-requires c =
     let a = c.args in
     let x : Slices = as_slices a.table in
-    let g = legal_slices 256 2048 x (sym c.slice_fault-fault.ensures ∙ c.if-fault-ne0.false) in
+    let g = legal_slices 256 2048 x (sym c.check_slices.ensures ∙ ap fault_of c.in_default.is) in
     (omega (arith, g.within), g.in_lows, g.in_highs)
 
 pub returns-then-bad-ne0 : goal.returns-then-bad-ne0
 returns-then-bad-ne0 c =
     maps_refused _ _ _ _ _
     (or_next _ _ _ _ c.rows_fault-room.ensures c.if-room-ne0.false
-    (or_next _ _ _ _ c.slice_fault-fault.ensures c.if-fault-ne0.false c.record_fault-bad.ensures))
+    (or_next _ _ _ _ c.check_slices.ensures (ap fault_of c.in_default.is) c.record_fault-bad.ensures))
     c.if-bad-ne0.true
 
 pub fill-requires : goal.fill-requires
@@ -65,7 +68,7 @@ returns c =
     let out : Maps = rows a.standing.now a.refused_out.now a.held.now a.refused_in.now in
     let bad =
     or_next _ _ _ _ c.rows_fault-room.ensures c.if-room-ne0.false
-    (or_next _ _ _ _ c.slice_fault-fault.ensures c.if-fault-ne0.false c.record_fault-bad.ensures)
+    (or_next _ _ _ _ c.check_slices.ensures (ap fault_of c.in_default.is) c.record_fault-bad.ensures)
     in
     maps_turned x a.probe e out _ (sym bad ∙ c.if-bad-ne0.false)
     (rows_same (out_filled e 1 a.table.links a.standing.now _ c.fill.ensures)

@@ -34,8 +34,8 @@ loop-i-preserved c =
     let v = looked_up _ c.requires.0 (c.type_inv.text _).fits c.wide.ensures c.wide-value.ensures in
     (omega (arith, number_next), omega (arith, sum_next))
 
-pub returns-then-sum-lt255 : goal.returns-then-sum-lt255
-returns-then-sum-lt255 c =
+pub returns-then-good : goal.returns-then-good
+returns-then-good c =
     let a = c.args in
     let l = c.loop-i in
     let e : l.i ≡ a.width = omega arith in
@@ -43,8 +43,8 @@ returns-then-sum-lt255 c =
     let good = sym (good_by_sum a.text.now a.at a.width (omega arith)) ∙ lt-ltb _ 255 (omega arith) in
     rw (good, ← e, l.invariant.0)
 
-pub returns-else-sum-lt255 : goal.returns-else-sum-lt255
-returns-else-sum-lt255 c =
+pub returns-else-good : goal.returns-else-good
+returns-else-good c =
     let a = c.args in
     let l = c.loop-i in
     let e : l.i ≡ a.width = omega arith in
