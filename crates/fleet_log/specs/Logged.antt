@@ -3,10 +3,7 @@ use Rattle.std.specs.Prelude.{ℕ, ◌≡◌, cond, List, eqb, length, set}
 use Rattle.probe_frame.specs.Frame.{frame_of}
 use Rattle.wake_log.specs.declared.Entry.{Entry}
 use Rattle.wake_log.specs.declared.Answer.{Answer}
-use Rattle.wake_log.specs.Entry.{answer_of}
-use Rattle.wake_log.specs.declared.storing.Told.{Told}
-use Rattle.wake_log.specs.Log.{told_of}
-use Rattle.fleet_theory.specs.Fleet.{event_fault, entry_by, altered_by}
+use Rattle.fleet_theory.specs.Fleet.{event_fault, entry_by}
 use Rattle.table.specs.Slices.{Slices, table_of}
 use Rattle.fleet.specs.Answers.{Handled}
 
@@ -14,8 +11,3 @@ use Rattle.fleet.specs.Answers.{Handled}
 pub record LogsInFleet (x : Slices) (used : ℕ) (line : List ℕ) (r : Answer) (before after : List ℕ) (log log' : List Entry) : Type 0 where
   pub handled : Handled x used (length log) line r before after
   pub log_after : log' ≡ cond (eqb (event_fault x before used (length log) line) 0) (set log used (entry_by (table_of x) before (frame_of line))) log
-
--- the same with the log's place and entry, before they are stored
-pub record ToldLine (x : Slices) (used room : ℕ) (line : List ℕ) (r : Told) (before after : List ℕ) : Type 0 where
-  pub told : r ≡ told_of used room (answer_of (event_fault x before used room line) (entry_by (table_of x) before (frame_of line)))
-  pub record_after_lem : after ≡ cond (eqb (event_fault x before used room line) 0) (altered_by (table_of x) before (frame_of line)) before

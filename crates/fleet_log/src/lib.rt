@@ -2,17 +2,9 @@
 #![tactic(auto)]
 
 ghost use Rattle.table.specs.Slices.{as_slices};
-ghost use Rattle.fleet_log.specs.Logged.{ToldLine, LogsInFleet};
+ghost use Rattle.fleet_log.specs.Logged.{LogsInFleet};
 
 use table::TableSlices;
-use wake_log::storing::Told;
-
-fn event_told(table: TableSlices<'_>, rec: &mut [u8], line: &[u8], used: usize, room: usize) -> Told
-    ensures { ToldLine (as_slices table.entry) used room line.now result rec.old rec.new }
-{
-    let answer = fleet::event(table, rec, line, used, room);
-    wake_log::storing::tell(answer, used, room)
-}
 
 // A line of any bytes; the entry goes behind the used ones.
 pub fn event_logged(
@@ -24,7 +16,7 @@ pub fn event_logged(
 ) -> wake_log::Answer
     ensures { LogsInFleet (as_slices table.entry) used line.now result rec.old rec.new log.old log.new }
 {
-    let t = event_told(table, rec, line, used, log.len());
-    wake_log::append(log, t.at, t.entry);
-    t.answer
+    let answer = fleet::event(table, rec, line, used, log.len());
+    wake_log::storing::append_answer(log, used, answer);
+    answer
 }

@@ -4,7 +4,7 @@ use mathlib.Core.Path.{◌≡◌, refl, ap, ◌∙◌}
 use mathlib.Core.Bool.{Bool, true, false, cond}
 use mathlib.Core.List.{List, []}
 use lib.Dec.{eqb}
-use lib.ListN.{length, set, take}
+use lib.ListN.{length, take}
 use lib.Seq.{sets}
 use Rattle.table.specs.Table.{Table}
 use Rattle.wake_log.specs.declared.Entry.{Entry}
@@ -12,14 +12,22 @@ use Rattle.probe_rules.specs.declared.Event.{Event}
 use Rattle.probe_rules.specs.Rules.{entry_of}
 use Rattle.probe_maps.specs.Maps.{Maps}
 use Rattle.probe_maps.specs.MapRules.{befalls_maps}
-use Rattle.wake_log.specs.declared.storing.Told.{Told}
-use Rattle.wake_log.proofs.Stored as wake
-use Rattle.wake_log.proofs.Answers.{answer_reply_lem}
+use Rattle.wake_log.specs.declared.Answer.{Answer}
+use Rattle.wake_log.specs.Log.{log_with}
+use Rattle.wake_log.proofs.Stored.{entry_stored}
+use Rattle.probe.specs.Answers.{Befallen}
+use Rattle.probe.proofs.Answers.{befallen_answer}
 use Rattle.probe_bags.specs.Bag.{events_of, entries_after, bag_fault, HeardBag}
 use Rattle.probe_hearing.specs.declared.ToldBag.{ToldBag}
 use Rattle.probe_hearing.specs.Told.{ToldBagCall}
 use Rattle.probe_hearing.proofs.Stored.{bag_entries, bag_reply}
-use Rattle.probe_log.specs.Logged.{ToldCall, LogsAtEnd}
+use Rattle.probe_log.specs.Logged.{LogsAtEnd}
+
+pub call_stored : (fault : ℕ) (t : Table) (p : ℕ) (event : Event) (used : ℕ) (r : Answer) (before after : Maps) (log log' : List Entry)
+    → Befallen fault t p event r before after → log' ≡ log_with used r log
+    → LogsAtEnd fault t p event r before after used log log'
+call_stored fault t p event used r before after log log' b s =
+    record { befallen = b; log_after = entry_stored fault used (entry_of t p (befalls_maps t p event before)) r log log' (befallen_answer b) s }
 
 pub bag_stored : (state : ℕ) (t : Table) (p : ℕ) (ls : List (List ℕ)) (used : ℕ) (r : ToldBag) (before after : Maps) (log log' : List Entry)
     → ToldBagCall (bag_fault state t p ls (length log - used)) t p ls r before after → log' ≡ sets log used (take r.entries.count r.entries.entries)

@@ -4,64 +4,10 @@
 ghost use Rattle.table.specs.Slices.{as_slices};
 ghost use Rattle.probe_maps.specs.Maps.{rows};
 ghost use Rattle.probe_bags.specs.Bag.{HearsBag};
-ghost use Rattle.probe_log.specs.Logged.{OpensTold, HearsTold, OpensLogged, HearsLogged};
+ghost use Rattle.probe_log.specs.Logged.{OpensLogged, HearsLogged};
 
 use table::TableSlices;
-use wake_log::storing::Told;
-
-fn open_told(
-    table: TableSlices<'_>,
-    probe: u16,
-    standing: &mut [u64],
-    refused_out: &mut [u64],
-    held: &mut [u64],
-    refused_in: &mut [u64],
-    used: usize,
-    room: usize,
-) -> Told
-    ensures { let before = rows standing.old refused_out.old held.old refused_in.old in
-        let after = rows standing.new refused_out.new held.new refused_in.new in
-        OpensTold (as_slices table.entry) probe used room result before after }
-{
-    let answer = probe::open(
-        table,
-        probe,
-        standing,
-        refused_out,
-        held,
-        refused_in,
-        wake_log::storing::free(used, room),
-    );
-    wake_log::storing::tell(answer, used, room)
-}
-
-fn hear_told(
-    table: TableSlices<'_>,
-    probe: u16,
-    standing: &mut [u64],
-    refused_out: &mut [u64],
-    held: &mut [u64],
-    refused_in: &mut [u64],
-    frame: &[u8],
-    used: usize,
-    room: usize,
-) -> Told
-    ensures { let before = rows standing.old refused_out.old held.old refused_in.old in
-        let after = rows standing.new refused_out.new held.new refused_in.new in
-        HearsTold (as_slices table.entry) probe frame.now used room result before after }
-{
-    let answer = probe::hear(
-        table,
-        probe,
-        standing,
-        refused_out,
-        held,
-        refused_in,
-        frame,
-        wake_log::storing::free(used, room),
-    );
-    wake_log::storing::tell(answer, used, room)
-}
+use wake_log::storing::{append_answer, free};
 
 // The probe opens; the entry goes behind the used ones.
 pub fn open_logged(
@@ -78,18 +24,17 @@ pub fn open_logged(
         let after = rows standing.new refused_out.new held.new refused_in.new in
         OpensLogged (as_slices table.entry) probe result before after used log.old log.new }
 {
-    let t = open_told(
+    let answer = probe::open(
         table,
         probe,
         standing,
         refused_out,
         held,
         refused_in,
-        used,
-        log.len(),
+        free(used, log.len()),
     );
-    wake_log::append(log, t.at, t.entry);
-    t.answer
+    append_answer(log, used, answer);
+    answer
 }
 
 // The probe hears a frame; the entry goes behind the used ones.
@@ -108,7 +53,7 @@ pub fn hear_logged(
         let after = rows standing.new refused_out.new held.new refused_in.new in
         HearsLogged (as_slices table.entry) probe frame.now result before after used log.old log.new }
 {
-    let t = hear_told(
+    let answer = probe::hear(
         table,
         probe,
         standing,
@@ -116,11 +61,10 @@ pub fn hear_logged(
         held,
         refused_in,
         frame,
-        used,
-        log.len(),
+        free(used, log.len()),
     );
-    wake_log::append(log, t.at, t.entry);
-    t.answer
+    append_answer(log, used, answer);
+    answer
 }
 
 // The probe hears a bag, of any bytes; the entries of its frames go behind the used ones.

@@ -1,5 +1,5 @@
 -- The wake log: document 01, "The wake log is a lent list of entries, one for each accepted event."
-use Rattle.std.specs.Prelude.{ℕ, Bool, cond, ◌&&◌, List, [], ltb, length, get_or}
+use Rattle.std.specs.Prelude.{ℕ, Bool, cond, ◌&&◌, List, [], ltb, length, get_or, set}
 use Rattle.range.specs.Reply.{Reply, values}
 use Rattle.wake_log.specs.declared.Entry.{Entry}
 use Rattle.wake_log.specs.Entry.{entry_values}
@@ -8,16 +8,15 @@ use Rattle.wake_log.specs.declared.Answer.{Answer}
 use Rattle.wake_log.specs.declared.Answer.TheVariants.{Logged, Refused}
 use Rattle.wake_log.specs.declared.Slot.{Slot}
 use Rattle.wake_log.specs.declared.Slot.TheVariants.{Used, Unused}
-use Rattle.wake_log.specs.declared.storing.Told.{Told}
 
--- stands where there is no entry, in a refused `Told` and as the default of a place of a list; no answer gives it in place of an entry
+-- stands where there is no entry, as the default of a place of a list; no answer gives it in place of an entry
 abbrev pub no_entry : Entry
 no_entry = record { probe = 0; what = Enough }
 
--- where the entry goes: behind the used ones, or past the log's end where there is none
-abbrev pub told_of : ℕ → ℕ → Answer → Told
-told_of used room (Logged e) = record { at = used; entry = e; answer = Logged e }
-told_of used room (Refused n) = record { at = room; entry = no_entry; answer = Refused n }
+-- "one for each accepted event": the entry stands behind the used ones, or past the log's end nowhere; "The earlier entries never change."
+abbrev pub log_with : ℕ → Answer → List Entry → List Entry
+log_with used (Logged e) log = set log used e
+log_with used (Refused n) log = log
 
 -- a used place of a log of so many places; past the used ones, or past the log's end, there is none
 abbrev pub is_used : ℕ → ℕ → ℕ → Bool

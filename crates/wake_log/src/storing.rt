@@ -1,14 +1,6 @@
-// What the calls over a lent log share: the free entries, and where an answer's entry goes.
+// What the calls over a lent log share: the free entries, and an answer's entry stored.
 ghost use Rattle.std.specs.Prelude.{◌≡◌, ◌-◌};
-ghost use Rattle.wake_log.specs.Log.{told_of};
-
-// An answer, with its entry and the entry's place in the log.
-#[derive(Clone, Copy)]
-pub struct Told {
-    pub at: usize,
-    pub entry: super::Entry,
-    pub answer: super::Answer,
-}
+ghost use Rattle.wake_log.specs.Log.{log_with};
 
 // How many of the log's entries are free.
 pub fn free(used: usize, room: usize) -> usize
@@ -20,23 +12,11 @@ pub fn free(used: usize, room: usize) -> usize
     room - used
 }
 
-// The answer with its entry's place.
-pub fn tell(answer: super::Answer, used: usize, room: usize) -> Told
-    ensures { result ≡ told_of used room answer }
+// Stores the entry of an accepted event behind the used ones; a refusal leaves the log as it is.
+pub fn append_answer(log: &mut [super::Entry], used: usize, answer: super::Answer)
+    ensures { log.new ≡ log_with used answer log.old }
 {
-    match answer {
-        super::Answer::Logged(e) => Told {
-            at: used,
-            entry: e,
-            answer: super::Answer::Logged(e),
-        },
-        super::Answer::Refused(n) => Told {
-            at: room,
-            entry: super::Entry {
-                probe: 0,
-                what: super::What::Enough,
-            },
-            answer: super::Answer::Refused(n),
-        },
+    if let super::Answer::Logged(e) = answer {
+        super::append(log, used, e);
     }
 }
