@@ -1,71 +1,34 @@
-use Prim.Native.Nat.{◌*◌}
 use mathlib.Core.Path.{sym, ◌∙◌, ap}
 use native.Mathlib.Omega.{arith}
-use Rattle.plan_turns_search.specs.Record.{at_source, at_target, links_of, of_direction, source_of, turned_key}
-use Rattle.plan_turns_search.specs.Chain.{opposite}
-use Rattle.plan_turns_search.proofs.Record.{opposite_below}
+use Rattle.plan_turns_search.specs.Record.{at_target}
+use Rattle.plan_turns_search.proofs.Record.{opposite_half}
 use Rattle.plan_turns_search.proofs.Chain.{falls, held_at, held_cheapest, held_step}
 use Rattle.plan_turns_search.proofs.search.cheapest.Goals as goal
 
-pub of_probe-f-requires : goal.of_probe-f-requires
-of_probe-f-requires c =
-    let p = c.requires in
-    let k = p.1.room in
-    let l = p.2 in
-    omega arith
-
 pub loop-f-init : goal.loop-f-init
 loop-f-init c =
-    let a = c.args in
     let p = c.requires in
-    held_at a.site.now p.0.fits (at_source a.rec.now) p.0.inv a.v p.3 c.of_probe-f.result (rw c.of_probe-f.ensures (p.1.lasts a.v p.2))
-
-pub opposite-requires : goal.opposite-requires
-opposite-requires c =
-    let f = c.loop-f.invariant.below in
-    let k = c.requires.0.fits.few in
-    omega arith
+    held_at _ p.0.fits _ p.0.inv _ p.3 _ (rw c.of_probe-f.ensures (p.1.lasts _ p.2))
 
 pub overflow_mul-opposite : goal.overflow_mul-opposite
-overflow_mul-opposite c =
-    let b = opposite_below (links_of c.args.site.now) c.loop-f.f c.loop-f.invariant.below in
-    let e = c.opposite.ensures in
-    let k = c.requires.0.fits.few in
-    omega arith
+overflow_mul-opposite c = omega (arith, opposite_half c.loop-f.f)
 
 pub overflow_add-opposite : goal.overflow_add-opposite
-overflow_add-opposite c =
-    let b = opposite_below (links_of c.args.site.now) c.loop-f.f c.loop-f.invariant.below in
-    let e = c.opposite.ensures in
-    let k = c.requires.0.fits.few in
-    omega arith
+overflow_add-opposite c = omega (arith, opposite_half c.loop-f.f)
 
 pub bounds-rec-opposite : goal.bounds-rec-opposite
-bounds-rec-opposite c =
-    let b = opposite_below (links_of c.args.site.now) c.loop-f.f c.loop-f.invariant.below in
-    let e = c.opposite.ensures in
-    let k = c.requires.0.paired.room in
-    omega arith
-
-pub of_direction-f-requires : goal.of_direction-f-requires
-of_direction-f-requires c =
-    let f = c.loop-f.invariant.below in
-    let k = c.requires.0.fits.room in
-    omega arith
+bounds-rec-opposite c = omega (arith, opposite_half c.loop-f.f)
 
 pub loop-f-smaller : goal.loop-f-smaller
 loop-f-smaller c =
-    let site = c.args.site.now in
-    falls (2 * links_of site) (source_of site) (turned_key site) (λ d. of_direction site d 3) c.requires.0.fits.up c.loop-f.f c.of_direction-f.result c.loop-f.invariant.below c.of_direction-f.ensures
+    falls _ _ _ _ c.requires.0.fits.up c.loop-f.f _ c.loop-f.invariant.below c.of_direction-f.ensures
 
 pub loop-f-preserved : goal.loop-f-preserved
 loop-f-preserved c =
-    let a = c.args in
     let p = c.requires in
-    held_step a.site.now p.0.fits (at_source a.rec.now) p.0.inv a.v c.loop-f.f c.loop-f.invariant p.4 (λ z. c.loop-f-test.true (ap (at_target a.rec.now) c.opposite.ensures ∙ p.0.paired.twin (opposite c.loop-f.f) ∙ z)) p.3 c.of_direction-f.result c.of_direction-f.ensures
+    held_step _ p.0.fits _ p.0.inv _ c.loop-f.f c.loop-f.invariant p.4 (λ z. c.loop-f-test.true (ap (at_target c.args.rec.now) c.opposite.ensures ∙ p.0.paired.twin _ ∙ z)) p.3 _ c.of_direction-f.ensures
 
 pub returns : goal.returns
 returns c =
-    let a = c.args in
-    let p = c.requires in
-    (held_cheapest a.site.now p.0.fits (at_source a.rec.now) p.0.inv a.v c.loop-f.f c.loop-f.invariant (sym (ap (at_target a.rec.now) c.opposite.ensures ∙ p.0.paired.twin (opposite c.loop-f.f)) ∙ c.loop-f-test.false), c.loop-f.invariant)
+    let p = c.requires.0 in
+    (held_cheapest _ p.fits _ p.inv _ c.loop-f.f c.loop-f.invariant (sym (ap (at_target c.args.rec.now) c.opposite.ensures ∙ p.paired.twin _) ∙ c.loop-f-test.false), c.loop-f.invariant)
