@@ -16,8 +16,7 @@ use Rattle.range.proofs.Bools.{same_bool, or_cases, and_left}
 use Rattle.range.proofs.Sums.{sum_same, weigh_same, none_count}
 use Rattle.range.proofs.Lists.{stored_same, stored_at, stored_beyond}
 use Rattle.table.specs.Table.{Table, item, of_slices, touches, degree, spare, dearer}
-use Rattle.table.specs.Legal.{Legal, link_fault, LegalTable, Ends}
-use Rattle.range.specs.First.{first}
+use Rattle.table.specs.Legal.{Legal, LegalTable, Ends}
 use Rattle.plan_theory.specs.Plan.{links_at, rested, kept}
 use Rattle.plan_theory.proofs.Order.{dear, on_dear, Dear}
 use Rattle.table.proofs.LegalLaws.{legal_table}
