@@ -10,7 +10,7 @@ use lib.ListN.{length, get_or, length-append}
 use lib.Seq.{take_all}
 use borrow.Author.Tests.{eqb-true, eq-eqb, ne_eqb}
 use Rattle.range.specs.First.{or_else}
-use Rattle.range.specs.Reply.{values, reply_of}
+use Rattle.range.specs.Reply.{values}
 use Rattle.std.specs.Prelude.{Result, Ok, Err}
 use Rattle.refusals.specs.Refusals.{number_of, reply_in}
 use Rattle.refusals.specs.declared.Refusal.{Refusal}

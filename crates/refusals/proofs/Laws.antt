@@ -10,7 +10,7 @@ use Rattle.std.specs.Prelude.{Result, Ok, Err, IsErrAnd, IfOk}
 use Rattle.std.proofs.lemmas.Result.{err_from_is_err_and}
 use Rattle.range.specs.First.{or_else, first}
 use Rattle.range.proofs.Faults.{first_some}
-use Rattle.range.specs.Reply.{Reply, refusal, values, reply_of}
+use Rattle.range.specs.Reply.{refusal, values, reply_of}
 use Rattle.refusals.specs.Refusals.{number_of, fault_of, reply_in}
 use Rattle.refusals.specs.declared.Refusal.{Refusal}
 use Rattle.refusals.specs.declared.Refusal.TheVariants.{Line, Digit, Size, Ends, Order, Closing, Slice, Kind, RecordLength, RecordByte, OverSpare, OtherTable, NotThere, LogFull, NeverSent, BagSize}

@@ -7,11 +7,10 @@ use lib.ListN.{take, drop}
 use lib.Seq.{drop_at}
 use Rattle.table.specs.Text.{of_text, text_fault}
 use Rattle.table.specs.Slices.{Slices}
-use Rattle.std.specs.Prelude.{Result, Err}
+use Rattle.std.specs.Prelude.{Err}
 use Rattle.refusals.specs.Refusals.{number_of}
 use Rattle.refusals.specs.declared.Refusal.{Refusal}
 use Rattle.table_read.specs.Reading.{Lent, answered, ReadsTable}
-use Rattle.table_read.specs.declared.TableHead.{TableHead}
 use Rattle.table_laws.proofs.Reading.{blank_found, accepted, refusal_is, read_none}
 use Rattle.output.specs.Output.{refusal_line}
 use Rattle.output.specs.declared.Output.TheVariants.{Length}

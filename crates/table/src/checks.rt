@@ -1,8 +1,8 @@
 // The checks of a table. The table's text, the plan, the ends and the fleet call these.
-ghost use Rattle.std.specs.Prelude.{◌≡◌, true, [], ◌-◌, ◌<◌, ◌≤◌, length};
+ghost use Rattle.std.specs.Prelude.{◌≡◌, true, ◌-◌, ◌<◌, ◌≤◌, length};
 ghost use Rattle.range.specs.First.{first};
 ghost use Rattle.refusals.specs.Refusals.{fault_of};
-ghost use Rattle.table.specs.Table.{item, of_slices};
+ghost use Rattle.table.specs.Table.{item};
 ghost use Rattle.table.specs.Legal.{size_fault, ends_fault, order_fault, link_fault, room_fault};
 ghost use Rattle.table.specs.Slices.{slice_fault, as_slices};
 

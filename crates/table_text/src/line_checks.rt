@@ -1,5 +1,5 @@
 // 1 to 6 of a table's text, line by line. Each line of digits is read where it stands.
-ghost use Rattle.std.specs.Prelude.{◌≡◌, true, ◌-◌, ◌≤◌, ◌<◌, length, drop, IfOk};
+ghost use Rattle.std.specs.Prelude.{◌≡◌, ◌-◌, ◌≤◌, ◌<◌, length, drop, IfOk};
 ghost use Rattle.range.specs.First.{first};
 ghost use Rattle.refusals.specs.Refusals.{fault_of};
 ghost use Rattle.table.specs.Text.{of_text, begins, need_start, link_start, closing_fault, need_line_fault, link_line_fault, head_fault};

@@ -1,6 +1,6 @@
 use mathlib.Core.Path.{sym, ◌∙◌, ap}
 use Rattle.refusals.specs.Refusals.{fault_of}
-use Rattle.range.proofs.Faults.{or_here, or_next}
+use Rattle.range.proofs.Faults.{or_next}
 use Rattle.table.proofs.Slices.{legal_slices}
 use Rattle.fleet_state.proofs.Legal.{fits}
 use Rattle.table.specs.Slices.{as_slices}
