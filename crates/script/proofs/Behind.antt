@@ -37,15 +37,16 @@ behind_table text (Some behind) (Some left) written mid written' number probes l
     subst (Appends written written') prints (Appends-trans written mid written' (printed_by_pieces a.calls) (take n out') h.moved.1 w)
 
 -- a table that is refused
-pub behind_refused : (text : List ℕ) (unread written written' : Option (List ℕ)) (fault : Refusal) (b : Lent) (out out' : List ℕ) (n : ℕ)
-    → ReadsTable 256 2048 true text (Err fault) zero_slices b → Prints 0 (refusal_line (number_of fault)) (Length n) out out' → Appends written written' (take n out')
+pub behind_refused : (text : List ℕ) (unread written written' : Option (List ℕ)) (fault : Refusal) (m : ℕ) (b : Lent) (out out' : List ℕ) (n : ℕ)
+    → ReadsTable 256 2048 true text (Err fault) zero_slices b → m ≡ number_of fault → Prints 0 (refusal_line m) (Length n) out out' → Appends written written' (take n out')
     → WritesBehind text unread written written'
-behind_refused text None written written' fault b out out' n read p w = tt
-behind_refused text (Some behind) written written' fault b out out' n read p w = λ own.
+behind_refused text None written written' fault m b out out' n read e p w = tt
+behind_refused text (Some behind) written written' fault m b out out' n read e told w = λ own.
+    let p = rw e at told in
     let input = text ++ behind in
     let read' = subst (λ t. ReadsTable 256 2048 true t (Err fault) zero_slices b) (sym own) read in
     let prints : refusal_line (number_of fault) ≡ script_output input = (script_writes input).refused fault b read' in
-    let e : Length n ≡ Length (length (refusal_line (number_of fault))) = prints_answer p in
+    let length_is : Length n ≡ Length (length (refusal_line (number_of fault))) = prints_answer p in
     let same : n ≡ length (refusal_line (number_of fault)) = cc in
     let line : take n out' ≡ refusal_line (number_of fault) =
     ap (take n) p.out ∙ ap (λ k. take k (refusal_line (number_of fault) ++ drop (length (refusal_line (number_of fault))) out)) same ∙ take-append_seam (refusal_line (number_of fault)) (drop (length (refusal_line (number_of fault))) out) in

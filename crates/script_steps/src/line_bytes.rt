@@ -8,7 +8,10 @@ pub fn line_end(text: &[u8], at: usize) -> usize
     ensures { result ≡ at + closed_length (drop at text.now) }
 {
     let found = lines::find_line(text, at);
-    if found.line.is_some() { found.next } else { at }
+    match found.line {
+        Some(_) => found.next,
+        None => at,
+    }
 }
 
 // The first n bytes, copied to an offset.

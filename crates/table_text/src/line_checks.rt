@@ -94,7 +94,8 @@ pub fn check_closing(text: &[u8], at: usize, more: bool) -> Result<(), Refusal>
     if more {
         return Ok(());
     }
-    if !reader::ends_at(text, reader::line_at(text, at).next) {
+    let closing = reader::line_at(text, at);
+    if !reader::ends_at(text, closing.next) {
         return Err(Refusal::Closing);
     }
     Ok(())

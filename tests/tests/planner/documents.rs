@@ -33,7 +33,9 @@ fn crate_words(path: &Path) -> BTreeSet<String> {
             .map(|rest| words(rest).swap_remove(0)),
     );
     if path.extension().is_some_and(|suffix| suffix == "rt") {
-        found.extend(text.split("::").filter_map(|part| words(part).pop()));
+        // A part that is one word stands inside a path, as the module does in `output::refusals::put`.
+        let starts = text.split("::").filter(|&part| words(part).len() > 1);
+        found.extend(starts.filter_map(|part| words(part).pop()));
     }
     found
 }

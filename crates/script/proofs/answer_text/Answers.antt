@@ -26,4 +26,4 @@ returns-in-Ok g c = λ done.
 pub returns-in-Err : goal.returns-in-Err
 returns-in-Err g c = λ done.
     let b = c.read_table_prefix-read.new in
-    behind_refused (take c.args.n c.args.text.now) _ _ _ c.in-Err.refusal (lent_of b.needs b.lows b.highs b.costs) _ c.refuse-length.new.out c.refuse-length.result c.in-Err.ensures (rw (← c.number.ensures) c.refuse-length.ensures) (c.write.ensures done)
+    behind_refused (take c.args.n c.args.text.now) _ _ _ c.in-Err.refusal _ (lent_of b.needs b.lows b.highs b.costs) _ c.refuse-length.new.out c.refuse-length.result c.in-Err.ensures c.number.ensures c.refuse-length.ensures (c.write.ensures done)

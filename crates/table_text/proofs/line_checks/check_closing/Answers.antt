@@ -20,10 +20,10 @@ pub returns-then-not-ends_at : goal.returns-then-not-ends_at
 returns-then-not-ends_at c =
     let a = c.args in
     closing_followed a.more a.text.now a.at (sym c.stands_at.ensures ∙ not-false _ c.if-not-stands_at.false-raw) c.if-more.false
-    (ap (λ (x : Found). leb (length a.text.now) x.next) (sym c.line_at.ensures) ∙ sym c.ends_at.ensures ∙ not-true _ c.if-not-ends_at.true-raw)
+    (ap (λ (x : Found). leb (length a.text.now) x.next) (sym c.line_at-closing.ensures) ∙ sym c.ends_at.ensures ∙ not-true _ c.if-not-ends_at.true-raw)
 
 pub returns : goal.returns
 returns c =
     let a = c.args in
     closing_last a.more a.text.now a.at (sym c.stands_at.ensures ∙ not-false _ c.if-not-stands_at.false-raw) c.if-more.false
-    (ap (λ (x : Found). leb (length a.text.now) x.next) (sym c.line_at.ensures) ∙ sym c.ends_at.ensures ∙ not-false _ c.if-not-ends_at.false-raw)
+    (ap (λ (x : Found). leb (length a.text.now) x.next) (sym c.line_at-closing.ensures) ∙ sym c.ends_at.ensures ∙ not-false _ c.if-not-ends_at.false-raw)
