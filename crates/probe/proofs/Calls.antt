@@ -1,28 +1,32 @@
 -- A call of an end that is refused, and one that is accepted; the event of a frame asked for.
-use Prim.Native.Nat.{ℕ}
+use Prim.Native.Nat.{ℕ, ◌<◌}
 use mathlib.Core.Path.{◌≡◌, sym, ◌∙◌, ap}
 use mathlib.Core.Bool.{◌&&◌}
-use mathlib.Core.List.{List}
+use mathlib.Core.List.{List, []}
+use mir.Syntax.{w64}
+use mir.Val.{Fits}
+use lib.ListN.{get_or}
 use borrow.Author.Tests.{ne_eqb}
-use Rattle.table.specs.Table.{Table, other}
+use Rattle.table.specs.Table.{Table, of_slices, other}
 use Rattle.table.specs.Legal.{Legal}
 use Rattle.table.specs.Slices.{Slices, table_of, slices_fault}
 use Rattle.bit_maps.specs.BitMap.{bit}
+use Rattle.range.specs.First.{or_else}
 use Rattle.range.specs.Reply.{values}
 use Rattle.wake_log.specs.declared.Entry.{Entry}
 use Rattle.wake_log.specs.Entry.{entry_values}
 use Rattle.wake_log.specs.declared.Answer.TheVariants.{Logged, Refused}
 use Rattle.probe_rules.specs.declared.Event.{Event}
-use Rattle.probe_rules.specs.Rules.{befalls, entry_of, sendable, rests}
+use Rattle.probe_rules.specs.Rules.{entry_of, sendable, rests}
 use Rattle.probe_rules.specs.Frames.{heard_of}
 use Rattle.probe_rules.specs.Within.{OwnLink}
 use Rattle.probe_rules.proofs.Frames.{other_across, between_is}
-use Rattle.probe_maps.specs.Maps.{Maps, AllWords, bytes_of, state_fault}
+use Rattle.probe_maps.specs.Maps.{Maps, AllWords, rows, bytes_of, state_fault}
 use Rattle.probe_maps.specs.GoodMaps.{GoodMaps}
 use Rattle.probe_maps.proofs.Rounds.{is_standing, is_refused_in, is_held}
 use Rattle.probe_maps.proofs.Faults.{good_maps}
-use Rattle.probe_checks.specs.Checks.{link_call_fault}
-use Rattle.probe_checks.proofs.Accepted.{state_parts}
+use Rattle.probe_checks.specs.Checks.{own_link_fault, link_call_fault}
+use Rattle.probe_checks.proofs.Accepted.{state_parts, link_parts}
 use Rattle.probe_maps.specs.MapRules.{befalls_maps, alter_maps}
 use Rattle.probe.specs.declared.Kind.{Kind}
 use Rattle.probe.specs.declared.Kind.TheVariants as kind
@@ -43,11 +47,28 @@ pub asked_event_lem : (t : Table) → Legal t → (p i : ℕ) → OwnLink t p i 
 asked_event_lem t legal p i a kind.Offer = rw (between_is t legal i p (other t p i) a.0 (other_across t p i a.1))
 asked_event_lem t legal p i a kind.Refusal = rw (between_is t legal i p (other t p i) a.0 (other_across t p i a.1))
 
+-- the four rows of words
+pub all_words : {one two three four : List ℕ} → ((k : ℕ) → Fits w64 (get_or one k 0)) → ((k : ℕ) → Fits w64 (get_or two k 0)) → ((k : ℕ) → Fits w64 (get_or three k 0)) → ((k : ℕ) → Fits w64 (get_or four k 0)) → AllWords (rows one two three four)
+all_words a b c d =
+    record { standing = λ k. (a k).fits; refused_out_lem = λ k. (b k).fits; held = λ k. (c k).fits; refused_in_lem = λ k. (d k).fits }
+
 -- a state without a fault
 pub good_state : (x : Slices) (p : ℕ) (m : Maps) → AllWords m → state_fault x p m ≡ 0 → (slices_fault x ≡ 0) × GoodMaps (table_of x) p m
 good_state x p m words f =
     let parts = state_parts x p m f in
     (parts.0, good_maps (table_of x) p m words parts.1)
+
+-- a call about one link, whose state was checked before
+module _ (x : Slices) (p i : ℕ) (m : Maps) (state fault : ℕ) (is_state : state ≡ state_fault x p m) (is : fault ≡ link_call_fault state (of_slices 0 0 x.links [] x.lows x.highs []) p i) where
+  pub call_fault : fault ≡ link_call_fault (state_fault x p m) (table_of x) p i
+  unfolding link_call_fault
+  call_fault = is ∙ ap (λ (n : ℕ). or_else n (own_link_fault (table_of x) p i)) is_state
+
+  pub call_passed : AllWords m → fault ≡ 0 → (i < x.links) × (slices_fault x ≡ 0) × GoodMaps (table_of x) p m
+  call_passed words none =
+      let parts = link_parts (state_fault x p m) (table_of x) p i (sym call_fault ∙ none) in
+      let good = good_state x p m words parts.0 in
+      (parts.1, good.0, good.1)
 
 module _ (t : Table) (p : ℕ) (m : Maps) (good : GoodMaps t p m) where
   -- what an end is asked for may be sent by the bit that lets it

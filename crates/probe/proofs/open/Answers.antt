@@ -1,62 +1,45 @@
-use borrow.Author.Rules.{rules}
 use Prim.Native.Nat.{ℕ}
 use mathlib.Core.Path.{◌≡◌, sym, ◌∙◌, ap}
+use mathlib.Core.List.{[]}
 use Rattle.range.specs.First.{or_else}
-use Rattle.table.specs.Table.{Table}
-use Rattle.table.specs.Slices.{Slices, table_of, slices_fault, as_slices}
+use Rattle.table.specs.Table.{of_slices}
+use Rattle.table.specs.Slices.{Slices, table_of, as_slices}
 use Rattle.table.proofs.Slices.{legal_slices}
 use Rattle.table_links.proofs.OrderedLinks.{ordered_links}
 use Rattle.probe_rules.specs.declared.Event.TheVariants.{Opening}
-use Rattle.probe_maps.specs.Maps.{Maps, AllWords, rows, maps_fault, state_fault}
-use Rattle.probe_maps.specs.GoodMaps.{GoodMaps}
-use Rattle.probe_maps.proofs.Faults.{good_maps}
+use Rattle.probe_maps.specs.Maps.{Maps, rows, state_fault}
 use Rattle.probe_checks.specs.Checks.{probe_fault, full_fault, open_fault}
-use Rattle.probe_checks.proofs.Accepted.{state_parts, open_parts}
-use Rattle.probe.proofs.Calls.{refused_call, accepted_call}
+use Rattle.probe_checks.proofs.Accepted.{open_parts}
+use Rattle.probe.proofs.Calls.{refused_call, accepted_call, all_words, good_state}
 use Rattle.probe.proofs.open.Goals as goal
 
-pub returns-then-fault-ne0 : goal.returns-then-fault-ne0
+-- the fault of the opening, of the whole table
+opening_fault : (x : Slices) (p free : ℕ) (m : Maps) (state fault : ℕ) → state ≡ state_fault x p m → fault ≡ open_fault state (of_slices 0 x.probes 0 [] [] [] []) p free → fault ≡ open_fault (state_fault x p m) (table_of x) p free
 unfolding open_fault
+opening_fault x p free m state fault s f = f ∙ ap (λ (n : ℕ). or_else n (or_else (probe_fault (table_of x) p) (full_fault free))) s
+
+pub returns-then-fault-ne0 : goal.returns-then-fault-ne0
 returns-then-fault-ne0 c =
-    let x : Slices = as_slices c.args.table in
-    let m : Maps = let a = c.args in rows a.standing.now a.refused_out.now a.held.now a.refused_in.now in
-    let is-fault : c.open_fault-fault.result ≡ open_fault (state_fault x c.args.probe m) (table_of x) c.args.probe c.args.free = (
-    let t = table_of x in
     let a = c.args in
-    c.open_fault-fault.ensures ∙ ap (λ (n : ℕ). or_else n (or_else (probe_fault t a.probe) (full_fault a.free))) c.check_state-state.ensures.0) in
-    refused_call _ _ _ _ _ _ is-fault c.if-fault-ne0.true
+    let x = as_slices a.table in
+    let m = rows a.standing.now a.refused_out.now a.held.now a.refused_in.now in
+    refused_call _ _ _ _ _ _ (opening_fault x _ _ m _ _ c.check_state-state.ensures.0 c.open_fault-fault.ensures) c.if-fault-ne0.true
 
 pub apply-e-requires : goal.apply-e-requires
-unfolding open_fault
 apply-e-requires c =
-    let x : Slices = as_slices c.args.table in
-    let m : Maps = let a = c.args in rows a.standing.now a.refused_out.now a.held.now a.refused_in.now in
-    let plain : Table = table_of x in
-    let words : AllWords m = (
-    record {
-      standing = λ k. (c.slice_known-1.given k).fits;
-      refused_out_lem = λ k. (c.slice_known-2-1.given k).fits;
-      held = λ k. (c.slice_known-3-1.given k).fits;
-      refused_in_lem = λ k. (c.slice_known-4-1.given k).fits;
-    }) in
-    let parts : (none : c.check_state-state.result ≡ 0) → (slices_fault x ≡ 0) × (maps_fault (table_of x) c.args.probe m ≡ 0) = λ none. state_parts x c.args.probe m (sym c.check_state-state.ensures.0 ∙ none) in
-    let good : (none : c.check_state-state.result ≡ 0) → GoodMaps plain c.args.probe m = λ none. good_maps plain c.args.probe m words (parts none).1 in
-    let is-fault : c.open_fault-fault.result ≡ open_fault (state_fault x c.args.probe m) (table_of x) c.args.probe c.args.free = (
-    let t = table_of x in
     let a = c.args in
-    c.open_fault-fault.ensures ∙ ap (λ (n : ℕ). or_else n (or_else (probe_fault t a.probe) (full_fault a.free))) c.check_state-state.ensures.0) in
-    let state_passes : c.open_fault-fault.result ≡ 0 → c.check_state-state.result ≡ 0 = λ z. c.check_state-state.ensures.0 ∙ (open_parts (state_fault x c.args.probe m) (table_of x) c.args.probe c.args.free (sym is-fault ∙ z)).0 in
-    let none = state_passes c.if-fault-ne0.false in
-    (ordered_links x (legal_slices 256 2048 x (parts none).0), c.check_state-state.ensures.1 none, good none, tt)
+    let x = as_slices a.table in
+    let m = rows a.standing.now a.refused_out.now a.held.now a.refused_in.now in
+    let s = c.check_state-state.ensures in
+    let e = opening_fault x _ _ m _ _ s.0 c.open_fault-fault.ensures in
+    let z = (open_parts (state_fault x a.probe m) _ _ _ (sym e ∙ c.if-fault-ne0.false)).0 in
+    let good = good_state x _ m (all_words c.slice_known-1.given c.slice_known-2-1.given c.slice_known-3-1.given c.slice_known-4-1.given) z in
+    (ordered_links x (legal_slices 256 2048 x good.0), s.1 (s.0 ∙ z), good.1, tt)
 
 pub returns : goal.returns
-unfolding open_fault
 returns c =
-    let x : Slices = as_slices c.args.table in
-    let m : Maps = let a = c.args in rows a.standing.now a.refused_out.now a.held.now a.refused_in.now in
-    let is-fault : c.open_fault-fault.result ≡ open_fault (state_fault x c.args.probe m) (table_of x) c.args.probe c.args.free = (
-    let t = table_of x in
     let a = c.args in
-    c.open_fault-fault.ensures ∙ ap (λ (n : ℕ). or_else n (or_else (probe_fault t a.probe) (full_fault a.free))) c.check_state-state.ensures.0) in
-    let a = c.args in
-    accepted_call _ (table_of x) a.probe Opening m _ _ (sym is-fault ∙ c.if-fault-ne0.false) c.apply-e.ensures.0 c.apply-e.ensures.1
+    let x = as_slices a.table in
+    let m = rows a.standing.now a.refused_out.now a.held.now a.refused_in.now in
+    let e = opening_fault x _ _ m _ _ c.check_state-state.ensures.0 c.open_fault-fault.ensures in
+    accepted_call _ (table_of x) a.probe Opening m _ _ (sym e ∙ c.if-fault-ne0.false) c.apply-e.ensures.0 c.apply-e.ensures.1

@@ -1,4 +1,3 @@
-use borrow.Author.Rules.{rules}
 use Rattle.probe.proofs.steps.is_sendable.Goals as goal
 
 pub returns-in-Offer : goal.returns-in-Offer
