@@ -1,6 +1,6 @@
 -- The plans of the display: held to their own pair, the same as the full ones within it, and slices of its size are never too short.
 use Prim.Native.Nat.{ℕ, ◌*◌, ◌≤◌}
-use mathlib.Core.Path.{◌≡◌, sym, ◌∙◌}
+use mathlib.Core.Path.{◌≡◌, sym, ◌∙◌, ap}
 use mathlib.Core.Bool.{Bool, true, false, cond}
 use mathlib.Core.List.{List}
 use native.Mathlib.Omega.{arith}
@@ -13,10 +13,14 @@ use Rattle.table_read.specs.Reading.{Lent}
 use Rattle.table_write.proofs.Answers.{room_enough}
 use Rattle.table_laws.specs.Functions.{lent_slices, HoldsTable}
 use Rattle.table_display.specs.Display.{over}
+use Rattle.table_laws.proofs.Reading.{answer_refused}
 use Rattle.table_display.proofs.Display.{within, held_to_pair, same_table, same_text, fault_most}
-use Rattle.plan_methods.specs.Planning.{plan_fault, turns_fault, Plans, PlansAndClears, PlansBySlse, PlansByTurns}
-use Rattle.plan_methods.specs.declared.Planning.{Planning}
-use Rattle.plan_methods.specs.declared.Planning.TheVariants.{Plan, Refused}
+use Rattle.plan_methods.specs.Planning.{planning_reply, plan_fault, turns_fault, Plans, PlansAndClears, PlansBySlse, PlansByTurns}
+use Rattle.plan_methods.specs.declared.Totals.{Totals}
+use Rattle.std.specs.Prelude.{Result, Ok, Err}
+use Rattle.refusals.specs.declared.Refusal.{Refusal}
+use Rattle.refusals.specs.declared.Refusal.TheVariants.{Size, Slice}
+use Rattle.refusals.proofs.Laws.{of_its_number}
 use Rattle.plan_methods.proofs.Answers.{plans_answer}
 use Rattle.output.specs.Output.{refusal_line, Prints}
 use Rattle.output.proofs.Printing.{prints_answer, long_enough}
@@ -24,8 +28,8 @@ use Rattle.plan_output.specs.Output.{output_of, PrintsText}
 use Rattle.plan_output.proofs.Most.{always_printed}
 use Rattle.plan_display.specs.Display.{PlansHeld, SamePlan, SamePrint, PlansEnough, DisplayPlans}
 
-plans_three : (t : Table) (r : Planning) (plan after : List ℕ) → Plans 3 t r plan after → (r ≡ Refused 3) × (after ≡ plan)
-plans_three t r plan after p = (plans_answer p, p.plan)
+plans_three : (t : Table) (r : Result Totals Refusal) (plan after : List ℕ) → Plans 3 t r plan after → (r ≡ Err Size) × (after ≡ plan)
+plans_three t r plan after p = (plans_answer p ∙ ap Err (of_its_number Size), p.plan)
 
 -- with room for the plan, and for the working bytes, the fault is that of the table's slices
 module _ (pmax lmax : ℕ) (x : Slices) (plan : ℕ) (room : x.links ≤ plan) where
@@ -49,7 +53,7 @@ plans_held pmax lmax =
           (prints_answer q, q.out);
     }
 
-same_answer : (fault : ℕ) (t : Table) (r r' : Planning) (plan after after' : List ℕ) → Plans fault t r plan after → Plans fault t r' plan after' → (r ≡ r') × (after ≡ after')
+same_answer : (fault : ℕ) (t : Table) (r r' : Result Totals Refusal) (plan after after' : List ℕ) → Plans fault t r plan after → Plans fault t r' plan after' → (r ≡ r') × (after ≡ after')
 same_answer fault t r r' plan after after' p q = (plans_answer p ∙ sym (plans_answer q), p.plan ∙ sym q.plan)
 
 same_plan : (x : Slices) → over 16 40 (table_of x) ≡ false → SamePlan x
@@ -74,10 +78,6 @@ same_print s o =
     output : output_of 16 40 s ≡ output_of 256 2048 s
     output = rw ((same_text s o).fault false)
 
-refused_is : (fault n k c : ℕ) (none : Bool) → Refused n ≡ cond none (Plan k c) (Refused fault) → n ≡ fault
-refused_is fault n k c true e = let z : ◌≡◌ {A = ℕ} 0 1 = cc in absurd (omega arith)
-refused_is fault n k c false e = cc
-
 module _ (a : Lent) (holds : HoldsTable 16 40 a) (number probes links : ℕ) (o : over 16 40 (table_of (lent_slices number probes links a)) ≡ false) where
   abbrev x : Slices
   x = lent_slices number probes links a
@@ -85,18 +85,18 @@ module _ (a : Lent) (holds : HoldsTable 16 40 a) (number probes links : ℕ) (o 
   few : links ≤ 40
   few = (within 16 40 (table_of x) o).1
 
-  slse_not : (r : Planning) (plan after : List ℕ) → 40 ≤ length plan → PlansBySlse 16 40 x r plan after → r ≡ Refused 8 → ⊥
+  slse_not : (r : Result Totals Refusal) (plan after : List ℕ) → 40 ≤ length plan → PlansBySlse 16 40 x r plan after → r ≡ Err Slice → ⊥
   slse_not r plan after fits p e =
       let k = few in
-      let n = refused_is _ 8 _ _ (eqb (plan_fault 16 40 x (length plan)) 0) (sym e ∙ plans_answer p) in
+      let n = (answer_refused (eqb (plan_fault 16 40 x (length plan)) 0) _ 8 _ (ap planning_reply (sym e) ∙ p.answer)).1 in
       let q = plan_enough 16 40 x (length plan) (omega arith) in
       let l = fault_most a holds number probes links o in
       omega arith
 
-  turns_not : (r : Planning) (plan after work cleared : List ℕ) → 40 ≤ length plan → 160 ≤ length work → PlansByTurns 16 40 x r plan after work cleared → r ≡ Refused 8 → ⊥
+  turns_not : (r : Result Totals Refusal) (plan after work cleared : List ℕ) → 40 ≤ length plan → 160 ≤ length work → PlansByTurns 16 40 x r plan after work cleared → r ≡ Err Slice → ⊥
   turns_not r plan after work cleared fits long p e =
       let k = few in
-      let n = refused_is _ 8 _ _ (eqb (turns_fault 16 40 x (length plan) (length work)) 0) (sym e ∙ plans_answer p.plans) in
+      let n = (answer_refused (eqb (turns_fault 16 40 x (length plan) (length work)) 0) _ 8 _ (ap planning_reply (sym e) ∙ p.plans.answer)).1 in
       let q = turns_enough 16 40 x (length plan) (omega arith) (length work) (omega arith) in
       let l = fault_most a holds number probes links o in
       omega arith

@@ -6,19 +6,24 @@ ghost use Rattle.plan_methods.specs.Planning.{PlansBySlse, PlansByTurns};
 ghost use Rattle.plan_output.specs.Output.{PrintsText};
 
 use output::Output;
-use plan_methods::{Planning, limited};
+use plan_methods::{Totals, limited};
+use refusals::Refusal;
 use table::TableSlices;
 use table_display::{LMAX, PMAX};
 
 // `plan_methods::plan_by_slse` at the display's limits.
-pub fn plan_by_slse(table: TableSlices<'_>, plan: &mut [u8]) -> Planning
+pub fn plan_by_slse(table: TableSlices<'_>, plan: &mut [u8]) -> Result<Totals, Refusal>
     ensures { PlansBySlse 16 40 (as_slices table.entry) result plan.old plan.new }
 {
     limited::plan_by_slse::<PMAX, LMAX>(table, plan)
 }
 
 // `plan_methods::plan_by_turns` at the display's limits.
-pub fn plan_by_turns(table: TableSlices<'_>, plan: &mut [u8], work: &mut [u8]) -> Planning
+pub fn plan_by_turns(
+    table: TableSlices<'_>,
+    plan: &mut [u8],
+    work: &mut [u8],
+) -> Result<Totals, Refusal>
     ensures { PlansByTurns 16 40 (as_slices table.entry) result plan.old plan.new work.old work.new }
 {
     limited::plan_by_turns::<PMAX, LMAX, 64, 338>(table, plan, work)

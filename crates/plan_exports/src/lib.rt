@@ -11,15 +11,16 @@ ghost use Rattle.packed_answers.specs.Packed.{PrintsPacked};
 
 use packed_answers::ANSWER_BASE;
 use packed_answers::printed::packed_output;
-use plan_methods::{Planning, plan_by_slse, plan_by_turns};
+use plan_methods::{Totals, plan_by_slse, plan_by_turns};
+use refusals::Refusal;
 use table::TableSlices;
 
-fn packed_planning(r: Planning) -> u64
+fn packed_planning(r: Result<Totals, Refusal>) -> u64
     ensures { result ≡ packed_planning (planning_reply r) }
 {
     match r {
-        Planning::Plan { kept, cost } => ANSWER_BASE + (kept as u64) * 4294967296 + (cost as u64),
-        Planning::Refused(refusal) => refusal as u64,
+        Ok(totals) => ANSWER_BASE + (totals.kept as u64) * 4294967296 + (totals.cost as u64),
+        Err(refusal) => refusal.number() as u64,
     }
 }
 

@@ -1,6 +1,6 @@
 -- Demand 2: the claims put together. What a call leaves is read off its promise, at the fault that its lengths give.
 use Prim.Native.Nat.{ℕ, ◌*◌, ◌≤◌, ◌<◌}
-use mathlib.Core.Path.{◌≡◌, refl, sym, ◌∙◌}
+use mathlib.Core.Path.{◌≡◌, refl, sym, ◌∙◌, ap}
 use mathlib.Core.Logic.{◌⊎◌, inl, inr}
 use mathlib.Core.Bool.{Bool, true, false, cond}
 use mathlib.Core.List.{List}
@@ -26,15 +26,18 @@ use Rattle.plan_theory.proofs.Settled.{settled_is_plan}
 use Rattle.plan_theory.proofs.Bound.{short_keeps, same_none_for_nothing}
 use Rattle.plan_theory.proofs.Slse.{slse_is_plan}
 use Rattle.plan_methods.specs.Planning.{plan_fault, turns_fault, Plans}
-use Rattle.plan_methods.specs.declared.Planning.{Planning}
-use Rattle.plan_methods.specs.declared.Planning.TheVariants.{Plan, Refused}
+use Rattle.plan_methods.specs.declared.Totals.{Totals}
+use Rattle.std.specs.Prelude.{Result, Ok, Err}
+use Rattle.refusals.specs.declared.Refusal.{Refusal}
+use Rattle.refusals.specs.declared.Refusal.TheVariants.{Slice}
+use Rattle.refusals.proofs.Laws.{refusal_of, of_its_number}
 use Rattle.plan_methods.proofs.Answers.{plans_answer}
 use Rattle.table_write.proofs.Answers.{writes_answer}
 use Rattle.plan_laws.specs.Demand2.{LeavesPlan, Demand2}
 
 -- what a call leaves, by its fault
-module _ (fault : ℕ) (t : Table) (r : Planning) (before after : List ℕ) (p : Plans fault t r before after) where
-  answered : r ≡ cond (eqb fault 0) (Plan (kept_count t) (cost_of t (kept t))) (Refused fault)
+module _ (fault : ℕ) (t : Table) (r : Result Totals Refusal) (before after : List ℕ) (p : Plans fault t r before after) where
+  answered : r ≡ cond (eqb fault 0) (Ok (record { kept = kept_count t; cost = cost_of t (kept t) })) (Err (refusal_of fault))
   answered = plans_answer p
 
   plans_none : fault ≡ 0 → Legal t → t.links ≤ length before → LeavesPlan t r before after
@@ -51,8 +54,8 @@ module _ (fault : ℕ) (t : Table) (r : Planning) (before after : List ℕ) (p :
         none_for_nothing = same_none_for_nothing t legal (is_kept after) same;
       }
 
-  plans_short : fault ≡ 8 → (r ≡ Refused 8) × (after ≡ before)
-  plans_short z = (answered ∙ rw z, p.plan ∙ rw z)
+  plans_short : fault ≡ 8 → (r ≡ Err Slice) × (after ≡ before)
+  plans_short z = (answered ∙ rw z (ap Err (of_its_number Slice)), p.plan ∙ rw z)
 
 -- 8 comes first, whatever stands before it
 short_then : (b : Bool) → or_else (cond b 8 0) 8 ≡ 8

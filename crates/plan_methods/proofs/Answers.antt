@@ -2,7 +2,7 @@
 use Prim.Native.Nat.{ℕ, ◌*◌, ◌≤◌, ◌<◌}
 use mathlib.Core.Path.{◌≡◌, ◌∙◌, ap}
 use mathlib.Core.Bool.{Bool, true, false, cond}
-use mathlib.Core.List.{List}
+use mathlib.Core.List.{List, [], ◌∷◌}
 use native.Mathlib.Omega.{arith}
 use lib.Dec.{eqb}
 use lib.ListN.{length, replicate}
@@ -10,7 +10,11 @@ use native.Mathlib.Decide.{dec_lt}
 use borrow.Author.Tests.{ne_eqb, lt-ltb}
 use Rattle.range.specs.Sum.{weigh, count}
 use Rattle.range.specs.Lists.{stored}
-use Rattle.range.specs.Reply.{refusal, values}
+use Rattle.std.specs.Prelude.{Result, Ok, Err, IsErrAnd}
+use Rattle.std.proofs.lemmas.Result.{err_from_is_err_and}
+use Rattle.refusals.specs.Refusals.{number_of}
+use Rattle.refusals.specs.declared.Refusal.{Refusal}
+use Rattle.refusals.proofs.Laws.{number_some, refusal_of, answer_is}
 use Rattle.range.proofs.Sums.{weigh_same}
 use Rattle.range.proofs.Faults.{or_left, or_right}
 use Rattle.table.specs.Table.{Table, of_slices, dearer}
@@ -21,22 +25,22 @@ use Rattle.table.proofs.Slices.{legal_slices}
 use Rattle.plan_theory.specs.Plan.{kept, rested, kept_count, cost_of, plan_byte, is_kept}
 use Rattle.plan_theory.proofs.Plan.{stored_kept}
 use Rattle.plan_methods.specs.Planning.{plan_fault, turns_fault, planning_reply, plan_values, Plans, PlansAndClears}
-use Rattle.plan_methods.specs.declared.Planning.{Planning}
-use Rattle.plan_methods.specs.declared.Planning.TheVariants.{Plan, Refused}
+use Rattle.plan_methods.specs.declared.Totals.{Totals}
 
-pub plans_refused : (fault r : ℕ) (t : Table) (plan : List ℕ) → r ≡ fault → (r ≡ 0 → ⊥) → Plans fault t (Refused r) plan plan
-plans_refused fault r t plan e n =
-    let k = ne_eqb fault 0 (λ z. n (e ∙ z)) in
-    record { answer = rw (e, k); plan = rw k }
+pub plans_refused : (fault : ℕ) (t : Table) (r : Result Totals Refusal) (e : Refusal) (plan : List ℕ) → IsErrAnd r (λ y. y ≡ e) → number_of e ≡ fault → Plans fault t r plan plan
+plans_refused fault t r e plan x n =
+    let p = err_from_is_err_and r x in
+    let k = ne_eqb fault 0 (λ z. number_some e (n ∙ z)) in
+    record { answer = rw (p.1, p.2, k, n); plan = rw k }
 
-pub plans_made : (fault : ℕ) (t : Table) (r : Planning) (plan plan' : List ℕ) → fault ≡ 0 → t.links ≤ length plan
+pub plans_made : (fault : ℕ) (t : Table) (r : Totals) (plan plan' : List ℕ) → fault ≡ 0 → t.links ≤ length plan
     → plan' ≡ stored (λ i. plan_byte (kept t i)) t.links plan
-    → r ≡ Plan (count t.links (is_kept plan')) (weigh t.links (is_kept plan') t.cost)
-    → Plans fault t r plan plan'
+    → r ≡ record { kept = count t.links (is_kept plan'); cost = weigh t.links (is_kept plan') t.cost }
+    → Plans fault t (Ok r) plan plan'
 plans_made fault t r plan plan' z room p e =
     record {
       answer =
-          ap planning_reply e
+          ap (λ (s : Totals). planning_reply (Ok s)) e
           ∙ rw (z, weigh_same t.links (is_kept plan') (kept t) (λ i. 1) same, weigh_same t.links (is_kept plan') (kept t) t.cost same);
       plan = rw z p;
     }
@@ -50,11 +54,12 @@ pub numbered : (other number probes links : ℕ) (needs lows highs costs plan pl
 unfolding rested dearer
 numbered other number probes links needs lows highs costs plan plan' e = e
 
-pub turns_refused : (fault r : ℕ) (t : Table) (plan work : List ℕ) → r ≡ fault → (r ≡ 0 → ⊥) → PlansAndClears fault t (Refused r) plan plan work work
-turns_refused fault r t plan work e n =
-    record { plans = plans_refused fault r t plan e n; cleared = rw (ne_eqb fault 0 (λ z. n (e ∙ z))) }
+pub turns_refused : (fault : ℕ) (t : Table) (r : Result Totals Refusal) (e : Refusal) (plan work : List ℕ) → IsErrAnd r (λ y. y ≡ e) → number_of e ≡ fault
+    → PlansAndClears fault t r plan plan work work
+turns_refused fault t r e plan work x n =
+    record { plans = plans_refused fault t r e plan x n; cleared = rw (ne_eqb fault 0 (λ z. number_some e (n ∙ z))) }
 
-pub turns_made : (fault : ℕ) (t : Table) (r : Planning) (plan plan' work work' : List ℕ) → fault ≡ 0 → Plans fault t r plan plan' → work' ≡ replicate (length work) 0
+pub turns_made : (fault : ℕ) (t : Table) (r : Result Totals Refusal) (plan plan' work work' : List ℕ) → fault ≡ 0 → Plans fault t r plan plan' → work' ≡ replicate (length work) 0
     → PlansAndClears fault t r plan plan' work work'
 turns_made fault t r plan plan' work work' z p w = record { plans = p; cleared = rw z w }
 
@@ -92,12 +97,13 @@ turns_passed pmax lmax x plan work e = (
   or_right (lent_fault work (4 * x.links)) (plan_fault pmax lmax x plan) e,
 )
 
+same_totals : (a b : Totals) → a.kept ≡ b.kept → a.cost ≡ b.cost → a ≡ b
+same_totals a b k c =
+    let with_kept : ℕ → Totals = λ n. record { kept = n; cost = a.cost } in
+    let with_cost : ℕ → Totals = λ n. record { kept = b.kept; cost = n } in
+    ap with_kept k ∙ ap with_cost c
+
 -- the answer, by the fault found
-pub plans_answer : {fault : ℕ} {t : Table} {r : Planning} {plan plan' : List ℕ} → Plans fault t r plan plan' → r ≡ cond (eqb fault 0) (Plan (kept_count t) (cost_of t (kept t))) (Refused fault)
-plans_answer {fault} {t} {r} p = go r (eqb fault 0) p.answer
-  where
-    go : (r : Planning) (none : Bool) → planning_reply r ≡ cond none (values (plan_values t)) (refusal fault) → r ≡ cond none (Plan (kept_count t) (cost_of t (kept t))) (Refused fault)
-    go (Plan k c) true e = cc
-    go (Plan k c) false e = let z : ◌≡◌ {A = ℕ} 0 1 = cc in absurd (omega arith)
-    go (Refused n) true e = let z : ◌≡◌ {A = ℕ} 0 1 = cc in absurd (omega arith)
-    go (Refused n) false e = cc
+pub plans_answer : {fault : ℕ} {t : Table} {r : Result Totals Refusal} {plan plan' : List ℕ} → Plans fault t r plan plan'
+    → r ≡ cond (eqb fault 0) (Ok (record { kept = kept_count t; cost = cost_of t (kept t) })) (Err (refusal_of fault))
+plans_answer {fault} {t} {r} p = answer_is (λ (s : Totals). s.kept ∷ s.cost ∷ []) (record { kept = kept_count t; cost = cost_of t (kept t) }) r fault (λ y e. same_totals y _ (cc) (cc)) p.answer

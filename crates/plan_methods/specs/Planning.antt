@@ -1,14 +1,15 @@
 -- What planning promises: the answer, and the lent buffers at exit. The sentences are those of document 01, "Two ways to one plan".
-use Rattle.std.specs.Prelude.{ℕ, ◌*◌, ◌<◌, ◌≤◌, ◌≡◌, cond, List, [], ◌∷◌, eqb, length, replicate}
+use Rattle.std.specs.Prelude.{ℕ, ◌*◌, ◌<◌, ◌≤◌, ◌≡◌, cond, List, [], ◌∷◌, eqb, length, replicate, Result}
 use Rattle.range.specs.First.{or_else}
 use Rattle.range.specs.Lists.{stored}
-use Rattle.range.specs.Reply.{Reply, refusal, values, reply_of}
+use Rattle.range.specs.Reply.{Reply, reply_of}
+use Rattle.refusals.specs.Refusals.{reply_in}
+use Rattle.refusals.specs.declared.Refusal.{Refusal}
 use Rattle.table.specs.Table.{Table, of_slices}
 use Rattle.table.specs.Legal.{table_fault, room_fault, lent_fault}
 use Rattle.table.specs.Slices.{Slices, table_of, slice_fault}
 use Rattle.plan_theory.specs.Plan.{kept, kept_count, cost_of, plan_byte}
-use Rattle.plan_methods.specs.declared.Planning.{Planning}
-use Rattle.plan_methods.specs.declared.Planning.TheVariants.{Plan, Refused}
+use Rattle.plan_methods.specs.declared.Totals.{Totals}
 
 -- 8 for the plan, then the faults of the table's slices; `plan` is the length of the lent plan
 abbrev pub plan_fault : ℕ → ℕ → Slices → ℕ → ℕ
@@ -30,9 +31,8 @@ pub record SlseReady (links : ℕ) (needs lows highs costs : List ℕ) (plan ord
   pub base : (1 < digits) × (digits ≤ 256)
 
 -- "The answer holds the kept count and total cost"
-abbrev pub planning_reply : Planning → Reply
-planning_reply (Plan kept cost) = values (kept ∷ cost ∷ [])
-planning_reply (Refused n) = refusal n
+abbrev pub planning_reply : Result Totals Refusal → Reply
+planning_reply = reply_in (λ r. r.kept ∷ r.cost ∷ [])
 
 -- "both fixed by that definition"
 abbrev pub plan_values : Table → List ℕ
@@ -47,20 +47,20 @@ abbrev pub cleared_of : ℕ → List ℕ → List ℕ
 cleared_of fault d = cond (eqb fault 0) (replicate (length d) 0) d
 
 -- what a call answers, and what it leaves in the plan
-pub record Plans (fault : ℕ) (t : Table) (r : Planning) (before after : List ℕ) : Type 0 where
+pub record Plans (fault : ℕ) (t : Table) (r : Result Totals Refusal) (before after : List ℕ) : Type 0 where
   pub answer : planning_reply r ≡ reply_of fault (plan_values t)
   pub plan : after ≡ planned_of fault t before
 
 -- and in the working bytes
-pub record PlansAndClears (fault : ℕ) (t : Table) (r : Planning) (before after work work' : List ℕ) : Type 0 where
+pub record PlansAndClears (fault : ℕ) (t : Table) (r : Result Totals Refusal) (before after work work' : List ℕ) : Type 0 where
   pub plans : Plans fault t r before after
   pub cleared : work' ≡ cleared_of fault work
 
 -- `plan_by_slse` and `plan_by_turns` on the slices x, within limits: they answer r and leave the lent plan `before` as `after`
 
-abbrev pub PlansBySlse : ℕ → ℕ → Slices → Planning → List ℕ → List ℕ → Type 0
+abbrev pub PlansBySlse : ℕ → ℕ → Slices → Result Totals Refusal → List ℕ → List ℕ → Type 0
 PlansBySlse pmax lmax x r before after = Plans (plan_fault pmax lmax x (length before)) (table_of x) r before after
 
-abbrev pub PlansByTurns : ℕ → ℕ → Slices → Planning → List ℕ → List ℕ → List ℕ → List ℕ → Type 0
+abbrev pub PlansByTurns : ℕ → ℕ → Slices → Result Totals Refusal → List ℕ → List ℕ → List ℕ → List ℕ → Type 0
 PlansByTurns pmax lmax x r before after work work' =
     PlansAndClears (turns_fault pmax lmax x (length before) (length work)) (table_of x) r before after work work'

@@ -2,53 +2,55 @@
 ghost use Rattle.std.specs.Prelude.{◌≡◌, ℕ, ◌+◌, ◌*◌, ◌<◌, ◌≤◌, length};
 ghost use Rattle.range.specs.Sum.{weigh, count};
 ghost use Rattle.range.specs.Lists.{stored};
+ghost use Rattle.refusals.specs.Refusals.{fault_of};
 ghost use Rattle.table.specs.Table.{item, of_slices};
 ghost use Rattle.table.specs.Slices.{as_slices, table_of};
 ghost use Rattle.table.specs.Legal.{table_fault, room_fault};
 ghost use Rattle.plan_theory.specs.Plan.{kept, plan_byte, is_kept};
 ghost use Rattle.plan_turns_search.specs.Record.{WorkingRoom};
 ghost use Rattle.plan_methods.specs.Planning.{plan_fault, turns_fault, SlseReady, Plans, PlansAndClears, PlansBySlse, PlansByTurns};
-ghost use Rattle.plan_methods.specs.declared.Planning.TheVariants.{Plan};
 
-use super::Planning;
+use super::Totals;
+use refusals::Refusal;
 use table::TableSlices;
 use table::checks::check_slices;
 
-// The fault of a call with a plan of this length, within the limits pmax and lmax.
-fn plan_fault(pmax: usize, lmax: usize, table: TableSlices<'_>, plan: usize) -> u8
-    ensures { result ≡ plan_fault pmax lmax (as_slices table.entry) plan }
+// The checks of a call with a plan of this length, within the limits pmax and lmax.
+fn check_plan(pmax: usize, lmax: usize, table: TableSlices<'_>, plan: usize) -> Result<(), Refusal>
+    ensures { fault_of result ≡ plan_fault pmax lmax (as_slices table.entry) plan }
 {
-    let links = table.links as usize;
-    if plan < links {
-        return 8;
+    if plan < table.links as usize {
+        return Err(Refusal::Slice);
     }
-    match check_slices(pmax, lmax, table) {
-        Ok(()) => 0,
-        Err(refusal) => refusal.number(),
-    }
+    check_slices(pmax, lmax, table)
 }
 
 // And with working bytes of this length.
-fn turns_fault(pmax: usize, lmax: usize, table: TableSlices<'_>, plan: usize, work: usize) -> u8
-    requires { table.links < 65536 }
-    ensures { result ≡ turns_fault pmax lmax (as_slices table.entry) plan work }
+fn check_turns(
+    pmax: usize,
+    lmax: usize,
+    table: TableSlices<'_>,
+    plan: usize,
+    work: usize,
+) -> Result<(), Refusal>
+    ensures { fault_of result ≡ turns_fault pmax lmax (as_slices table.entry) plan work }
 {
     let links = table.links as usize;
     if work < 4 * links {
-        return 8;
+        return Err(Refusal::Slice);
     }
-    plan_fault(pmax, lmax, table, plan)
+    check_plan(pmax, lmax, table, plan)
 }
 
 // The answer that goes with a plan.
-fn answer(plan: &[u8], links: usize, costs: &[u16]) -> Planning
+fn answer(plan: &[u8], links: usize, costs: &[u16]) -> Totals
     requires { (links ≤ length plan.now) × (links ≤ length costs.now) × (links ≤ 2048) }
     ensures { let kept_in = is_kept plan.now in
-        result ≡ Plan (count links kept_in) (weigh links kept_in (item costs.now)) }
+        result ≡ record { kept = count links kept_in; cost = weigh links kept_in (item costs.now) } }
 {
     let kept = super::counts::kept_count(plan, links);
     let cost = super::counts::kept_cost(plan, links, costs);
-    Planning::Plan {
+    Totals {
         kept: kept as u16,
         cost,
     }
@@ -81,10 +83,10 @@ fn slse_answer(
     digits: &mut [u16],
     counts: &mut [u16],
     table: TableSlices<'_>,
-) -> Planning
+) -> Totals
     requires { SlseReady table.links table.needs.now table.lows.now table.highs.now table.costs.now (length plan.old) (length order.old) (length half.old) (length digits.old) (length counts.old) }
     ensures { (number probes : ℕ) → let t = of_slices number probes table.entry.links table.entry.needs.now table.entry.lows.now table.entry.highs.now table.entry.costs.now in
-        probes ≤ length counts.old → table_fault 256 2048 t ≡ 0 → Plans 0 t result plan.old plan.new }
+        probes ≤ length counts.old → table_fault 256 2048 t ≡ 0 → Plans 0 t (Ok result) plan.old plan.new }
 {
     let links = table.links as usize;
     slse_plan(plan, order, half, digits, counts, table);
@@ -102,12 +104,12 @@ fn turns_answer(
     half: &mut [u16],
     digits: &mut [u16],
     table: TableSlices<'_>,
-) -> Planning
+) -> Totals
     requires { (table_fault 256 2048 (table_of (as_slices table)) ≡ 0) × (room_fault table.probes table.links (length table.needs.now) (length table.lows.now) (length table.highs.now) (length table.costs.now) ≡ 0)
         × (table.links ≤ length plan.old) × (4 * table.links ≤ length work.old)
         × WorkingRoom table.probes table.links (length spares.old) (length marks.old) (length site.old) (length order.old) (length half.old) (length digits.old) }
     ensures { (number : ℕ) → let t = of_slices number table.entry.probes table.entry.links table.entry.needs.now table.entry.lows.now table.entry.highs.now table.entry.costs.now in
-        PlansAndClears 0 t result plan.old plan.new work.old work.new }
+        PlansAndClears 0 t (Ok result) plan.old plan.new work.old work.new }
 {
     let links = table.links as usize;
     plan_turns::method::by_turns(plan, work, spares, marks, site, order, half, digits, table);
@@ -118,19 +120,16 @@ fn turns_answer(
 pub fn plan_by_slse<const PMAX: usize, const LMAX: usize>(
     table: TableSlices<'_>,
     plan: &mut [u8],
-) -> Planning
+) -> Result<Totals, Refusal>
     requires { (1 < PMAX) × (PMAX ≤ 256) × (LMAX ≤ 2048) }
     ensures { PlansBySlse PMAX LMAX (as_slices table.entry) result plan.old plan.new }
 {
-    let fault = plan_fault(PMAX, LMAX, table, plan.len());
-    if fault != 0 {
-        return Planning::Refused(fault);
-    }
+    check_plan(PMAX, LMAX, table, plan.len())?;
     let mut order = [0u16; LMAX];
     let mut half = [0u16; LMAX];
     let mut digits = [0u16; PMAX];
     let mut counts = [0u16; PMAX];
-    slse_answer(plan, &mut order, &mut half, &mut digits, &mut counts, table)
+    Ok(slse_answer(plan, &mut order, &mut half, &mut digits, &mut counts, table))
 }
 
 // The plan by offers in turn within them. MARKS and SITE follow from PMAX and LMAX, but no const argument may be computed.
@@ -138,21 +137,18 @@ pub fn plan_by_turns<const PMAX: usize, const LMAX: usize, const MARKS: usize, c
     table: TableSlices<'_>,
     plan: &mut [u8],
     work: &mut [u8],
-) -> Planning
+) -> Result<Totals, Refusal>
     requires { (1 < PMAX) × (PMAX ≤ 256) × (LMAX ≤ 2048) × (MARKS ≡ 4 * PMAX) × (SITE ≡ 8 * LMAX + PMAX + 2) }
     ensures { PlansByTurns PMAX LMAX (as_slices table.entry) result plan.old plan.new work.old work.new }
 {
-    let fault = turns_fault(PMAX, LMAX, table, plan.len(), work.len());
-    if fault != 0 {
-        return Planning::Refused(fault);
-    }
+    check_turns(PMAX, LMAX, table, plan.len(), work.len())?;
     let mut spares = [0u16; PMAX];
     let mut marks = [0u16; MARKS];
     let mut site = [0u16; SITE];
     let mut order = [0u16; LMAX];
     let mut half = [0u16; LMAX];
     let mut digits = [0u16; PMAX];
-    turns_answer(
+    Ok(turns_answer(
         plan,
         work,
         &mut spares,
@@ -162,5 +158,5 @@ pub fn plan_by_turns<const PMAX: usize, const LMAX: usize, const MARKS: usize, c
         &mut half,
         &mut digits,
         table,
-    )
+    ))
 }

@@ -7,17 +7,14 @@ use Rattle.plan_methods.specs.Planning.{turns_fault}
 use Rattle.plan_methods.proofs.Answers.{turns_refused, turns_passed, passed}
 use Rattle.plan_methods.proofs.limited.plan_by_turns.Goals as goal
 
-pub returns-then-fault-ne0 : goal.returns-then-fault-ne0
-returns-then-fault-ne0 g c =
-    let a = c.args in
-    let x = as_slices a.table in
-    turns_refused (turns_fault g.row.PMAX g.row.LMAX x (length a.plan.now) (length a.work.now)) _ (table_of x) a.plan.now a.work.now c.turns_fault-fault.ensures c.if-fault-ne0.true
+pub returns-in_err-check_turns : goal.returns-in_err-check_turns
+returns-in_err-check_turns g c = turns_refused _ _ _ _ _ _ c.from_residual.ensures.1 c.in_err-check_turns.ensures
 
 pub turns_answer-requires : goal.turns_answer-requires
 turns_answer-requires g c =
     let a = c.args in
     let x = as_slices a.table in
-    let both = turns_passed g.row.PMAX g.row.LMAX x (length a.plan.now) (length a.work.now) (sym c.turns_fault-fault.ensures ∙ c.if-fault-ne0.false) in
+    let both = turns_passed g.row.PMAX g.row.LMAX x (length a.plan.now) (length a.work.now) (sym c.in_ok-check_turns.ensures) in
     let k = passed g.row.PMAX g.row.LMAX x (length a.plan.now) (omega arith) (omega arith) both.1 in
     let l = length-replicate {A = ℕ} g.row.LMAX 0 in
     let p = length-replicate {A = ℕ} g.row.PMAX 0 in
@@ -39,4 +36,4 @@ turns_answer-requires g c =
 
 pub returns : goal.returns
 returns g c =
-    rw (sym c.turns_fault-fault.ensures ∙ c.if-fault-ne0.false) (c.turns_answer.ensures c.args.table.number)
+    rw (sym c.in_ok-check_turns.ensures) (c.turns_answer.ensures c.args.table.number)

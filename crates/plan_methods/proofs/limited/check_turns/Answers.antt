@@ -1,7 +1,7 @@
 use Prim.Native.Nat.{◌*◌}
 use mathlib.Core.Path.{sym, ◌∙◌}
 use Rattle.table_write.proofs.Answers.{room_short, room_enough}
-use Rattle.plan_methods.proofs.limited.turns_fault.Goals as goal
+use Rattle.plan_methods.proofs.limited.check_turns.Goals as goal
 
 pub returns-then-work-links : goal.returns-then-work-links
 returns-then-work-links c =
@@ -11,4 +11,4 @@ returns-then-work-links c =
 pub returns : goal.returns
 returns c =
     let a = c.args in
-    c.plan_fault.ensures ∙ sym (room_enough a.work (4 * a.table.links) _ c.if-work-links.false)
+    c.check_plan.ensures ∙ sym (room_enough a.work (4 * a.table.links) _ c.if-work-links.false)
