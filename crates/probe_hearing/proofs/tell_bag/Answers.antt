@@ -1,88 +1,81 @@
-use borrow.Author.Rules.{rules}
-use Prim.Native.Nat.{ℕ, ◌-◌, ◌≤◌}
+use Prim.Native.Nat.{ℕ, ◌-◌}
 use mathlib.Core.Path.{◌≡◌, sym, ap, ◌∙◌}
-use mathlib.Core.List.{List, [], map}
+use mathlib.Core.List.{List, []}
 use native.Mathlib.Omega.{arith}
-use lib.ListN.{length, replicate, length-replicate}
+use lib.ListN.{length, length-replicate}
 use lib.Seq.{length-sets}
-use Rattle.table.specs.Table.{Table, of_slices}
-use Rattle.table.specs.Slices.{Slices, table_of, slices_fault, as_slices}
+use Rattle.table.specs.Table.{of_slices}
+use Rattle.table.specs.Slices.{Slices, table_of, as_slices}
 use Rattle.table.proofs.Slices.{legal_slices}
 use Rattle.table_links.proofs.OrderedLinks.{ordered_links}
 use Rattle.table_links.proofs.Search.{ordered}
-use Rattle.probe_maps.specs.Maps.{Maps, AllWords, rows, maps_fault, state_fault}
-use Rattle.probe_maps.specs.GoodMaps.{GoodMaps}
+use Rattle.probe_maps.specs.Maps.{Maps, AllWords, rows, state_fault}
 use Rattle.probe_maps.proofs.Faults.{good_maps}
 use Rattle.probe_checks.proofs.Accepted.{state_parts}
-use Rattle.probe_bags.specs.Bag.{frames_of, events_of, bag_fault, hears_bag_fault}
-use Rattle.probe_hearing.specs.PackedEvents.{packed_event}
-use Rattle.probe_bags.proofs.Faults.{NoFault, no_fault, none_many}
+use Rattle.probe_bags.specs.Bag.{frames_of, bag_fault, hears_bag_fault}
+use Rattle.probe_bags.proofs.Faults.{no_fault, none_many}
 use Rattle.probe_hearing.proofs.Faults.{bag_same}
 use Rattle.probe_hearing.proofs.Said.{said_events, said_plain}
 use Rattle.probe_hearing.proofs.Told.{refused_bag, heard_bag}
 use Rattle.probe_hearing.proofs.tell_bag.Goals as goal
 
+-- the fault that was found is that of the whole call
+told_fault : (x : Slices) (p : ℕ) (m : Maps) (bag : List ℕ) (used room state free fault : ℕ) → state ≡ state_fault x p m → free ≡ room - used
+    → fault ≡ bag_fault state (of_slices x.number x.probes x.links [] x.lows x.highs []) p (frames_of bag) free → fault ≡ hears_bag_fault x p m bag (room - used)
+told_fault x p m bag used room state free fault s n f =
+    f
+    ∙ bag_same state x.number x.probes x.links x.needs x.lows x.highs x.costs p (frames_of bag) free
+    ∙ ap (λ (k : ℕ). bag_fault k (table_of x) p (frames_of bag) free) s
+    ∙ ap (bag_fault (state_fault x p m) (table_of x) p (frames_of bag)) n
+
 pub check_bag-checked-requires : goal.check_bag-checked-requires
 check_bag-checked-requires c =
-    let x : Slices = let a = c.args in as_slices a.table in
-    let m : Maps = let a = c.args in rows a.standing.now a.refused_out.now a.held.now a.refused_in.now in
-    let parts : (none : c.check_state-state.result ≡ 0) → (slices_fault x ≡ 0) × (maps_fault (table_of x) c.args.probe m ≡ 0) = λ none. state_parts x c.args.probe m (sym c.check_state-state.ensures.0 ∙ none) in
     let a = c.args in
-    ((λ none. (ordered 256 2048 0 a.table.probes a.table.links a.table.needs.now a.table.lows.now a.table.highs.now a.table.costs.now (parts none).0, (ordered_links x (legal_slices 256 2048 x (parts none).0)).few)), search rules)
+    let t = a.table in
+    let x = as_slices t in
+    let m = rows a.standing.now a.refused_out.now a.held.now a.refused_in.now in
+    ((λ none. let z = (state_parts x a.probe m (sym c.check_state-state.ensures.0 ∙ none)).0 in (ordered 256 2048 0 t.probes t.links t.needs.now t.lows.now t.highs.now t.costs.now z, (ordered_links x (legal_slices 256 2048 x z)).few)), length-replicate {A = ℕ} 64 0)
 
 pub returns-then-checked-ne0 : goal.returns-then-checked-ne0
 returns-then-checked-ne0 c =
-    let x : Slices = let a = c.args in as_slices a.table in
-    let m : Maps = let a = c.args in rows a.standing.now a.refused_out.now a.held.now a.refused_in.now in
-    let ls : List (List ℕ) = frames_of c.args.bag.now in
-    let fault_is : let a = c.args in c.check_bag-checked.result.fault ≡ hears_bag_fault x a.probe m a.bag.now (a.room - a.used) = (
     let a = c.args in
-    c.check_bag-checked.ensures.0
-    ∙ bag_same c.check_state-state.result a.table.number a.table.probes a.table.links a.table.needs.now a.table.lows.now a.table.highs.now a.table.costs.now a.probe ls c.free.result
-    ∙ ap (λ (n : ℕ). bag_fault n (table_of x) a.probe ls c.free.result) c.check_state-state.ensures.0
-    ∙ ap (bag_fault (state_fault x a.probe m) (table_of x) a.probe ls) c.free.ensures) in
-    refused_bag _ _ _ _ _ _ _ fault_is c.if-checked-ne0.true c.no_entries.ensures
+    let m = rows a.standing.now a.refused_out.now a.held.now a.refused_in.now in
+    let e = told_fault (as_slices a.table) a.probe m a.bag.now a.used a.room _ _ _ c.check_state-state.ensures.0 c.free.ensures c.check_bag-checked.ensures.0 in
+    refused_bag _ _ _ _ _ _ _ e c.if-checked-ne0.true c.no_entries.ensures
 
 pub hear_frames-entries-requires : goal.hear_frames-entries-requires
 hear_frames-entries-requires c =
-    let x : Slices = let a = c.args in as_slices a.table in
-    let m : Maps = let a = c.args in rows a.standing.now a.refused_out.now a.held.now a.refused_in.now in
-    let plain : Table = let a = c.args in table_of (as_slices a.table) in
-    let words : AllWords m = (
-    record {
+    let a = c.args in
+    let t = a.table in
+    let x = as_slices t in
+    let m = rows a.standing.now a.refused_out.now a.held.now a.refused_in.now in
+    let words : AllWords m = record {
       standing = λ k. (c.slice_known-1.given k).fits;
       refused_out_lem = λ k. (c.slice_known-2-1.given k).fits;
       held = λ k. (c.slice_known-3-1.given k).fits;
       refused_in_lem = λ k. (c.slice_known-4-1.given k).fits;
-    }) in
-    let parts : (none : c.check_state-state.result ≡ 0) → (slices_fault x ≡ 0) × (maps_fault (table_of x) c.args.probe m ≡ 0) = λ none. state_parts x c.args.probe m (sym c.check_state-state.ensures.0 ∙ none) in
-    let good : (none : c.check_state-state.result ≡ 0) → GoodMaps plain c.args.probe m = λ none. good_maps plain c.args.probe m words (parts none).1 in
-    let ls : List (List ℕ) = frames_of c.args.bag.now in
-    let part-table : Table = let a = c.args in of_slices a.table.number a.table.probes a.table.links [] a.table.lows.now a.table.highs.now [] in
-    let passes : (z : c.check_bag-checked.result.fault ≡ 0) → NoFault c.check_state-state.result part-table c.args.probe ls c.free.result = λ z. no_fault c.check_state-state.result part-table c.args.probe ls c.free.result (sym c.check_bag-checked.ensures.0 ∙ z) in
-    let state_none : (z : c.check_bag-checked.result.fault ≡ 0) → c.check_state-state.result ≡ 0 = λ z. (passes z).state_none in
-    let few-count : (z : c.check_bag-checked.result.fault ≡ 0) → c.check_bag-checked.result.count ≤ 64 = λ z. let n = (c.check_bag-checked.ensures.1 z).0 in let f = none_many ls (passes z).few in omega arith in
-    let room : (z : c.check_bag-checked.result.fault ≡ 0) → length ls ≤ length (replicate {A = ℕ} 64 0) = λ z. let n = length-replicate {A = ℕ} 64 0 in let f = none_many ls (passes z).few in omega arith in
-    let z = c.if-checked-ne0.false in
-    let a = c.args in
-    let none = state_none z in
-    (ordered_links x (legal_slices 256 2048 x (parts none).0), c.check_state-state.ensures.1 none, good none, few-count z, (let n = ap length (c.check_bag-checked.ensures.1 z).1 ∙ length-sets (replicate {A = ℕ} 64 0) 0 (map packed_event (events_of part-table ls)) ∙ length-replicate {A = ℕ} 64 0 in let f = few-count z in omega (arith, n, f)), said_plain a.table.number a.table.probes a.table.links a.table.needs.now a.table.lows.now a.table.highs.now a.table.costs.now a.probe ls _ _ _ (c.check_bag-checked.ensures.1 z).0 (room z) (c.check_bag-checked.ensures.1 z).1 (passes z).frames)
+    } in
+    let ls = frames_of a.bag.now in
+    let s = c.check_state-state.ensures in
+    let k = c.check_bag-checked.ensures in
+    let passes = no_fault c.check_state-state.result (of_slices t.number t.probes t.links [] t.lows.now t.highs.now []) a.probe ls c.free.result (sym k.0 ∙ c.if-checked-ne0.false) in
+    let said = k.1 c.if-checked-ne0.false in
+    let few = none_many ls passes.few in
+    let zeros = length-replicate {A = ℕ} 64 0 in
+    let parts = state_parts x a.probe m (sym s.0 ∙ passes.state_none) in
+    (ordered_links x (legal_slices 256 2048 x parts.0), s.1 passes.state_none, good_maps (table_of x) a.probe m words parts.1, omega arith, omega (arith, simp length-sets at (ap length said.1)), said_plain t.number t.probes t.links t.needs.now t.lows.now t.highs.now t.costs.now a.probe ls _ _ _ said.0 (omega arith) said.1 passes.frames)
 
 pub returns : goal.returns
 returns c =
-    let x : Slices = let a = c.args in as_slices a.table in
-    let m : Maps = let a = c.args in rows a.standing.now a.refused_out.now a.held.now a.refused_in.now in
-    let ls : List (List ℕ) = frames_of c.args.bag.now in
-    let part-table : Table = let a = c.args in of_slices a.table.number a.table.probes a.table.links [] a.table.lows.now a.table.highs.now [] in
-    let fault_is : let a = c.args in c.check_bag-checked.result.fault ≡ hears_bag_fault x a.probe m a.bag.now (a.room - a.used) = (
     let a = c.args in
-    c.check_bag-checked.ensures.0
-    ∙ bag_same c.check_state-state.result a.table.number a.table.probes a.table.links a.table.needs.now a.table.lows.now a.table.highs.now a.table.costs.now a.probe ls c.free.result
-    ∙ ap (λ (n : ℕ). bag_fault n (table_of x) a.probe ls c.free.result) c.check_state-state.ensures.0
-    ∙ ap (bag_fault (state_fault x a.probe m) (table_of x) a.probe ls) c.free.ensures) in
-    let passes : (z : c.check_bag-checked.result.fault ≡ 0) → NoFault c.check_state-state.result part-table c.args.probe ls c.free.result = λ z. no_fault c.check_state-state.result part-table c.args.probe ls c.free.result (sym c.check_bag-checked.ensures.0 ∙ z) in
-    let room : (z : c.check_bag-checked.result.fault ≡ 0) → length ls ≤ length (replicate {A = ℕ} 64 0) = λ z. let n = length-replicate {A = ℕ} 64 0 in let f = none_many ls (passes z).few in omega arith in
+    let t = a.table in
+    let m = rows a.standing.now a.refused_out.now a.held.now a.refused_in.now in
+    let ls = frames_of a.bag.now in
+    let part = of_slices t.number t.probes t.links [] t.lows.now t.highs.now [] in
+    let k = c.check_bag-checked.ensures in
     let z = c.if-checked-ne0.false in
-    let a = c.args in
+    let e = told_fault (as_slices t) a.probe m a.bag.now a.used a.room _ _ _ c.check_state-state.ensures.0 c.free.ensures k.0 in
+    let few = none_many ls (no_fault c.check_state-state.result part a.probe ls c.free.result (sym k.0 ∙ z)).few in
+    let zeros = length-replicate {A = ℕ} 64 0 in
     let told = c.hear_frames-entries.ensures in
-    heard_bag a.table.number a.table.probes a.table.links a.table.needs.now a.table.lows.now a.table.highs.now a.table.costs.now a.probe ls _ m _ _ _ _ (sym fault_is ∙ z) (c.check_bag-checked.ensures.1 z).0 (said_events part-table ls _ _ _ (c.check_bag-checked.ensures.1 z).0 (room z) (c.check_bag-checked.ensures.1 z).1) told.0 told.1
+    heard_bag t.number t.probes t.links t.needs.now t.lows.now t.highs.now t.costs.now a.probe ls _ m _ _ _ _ (sym e ∙ z) (k.1 z).0 (said_events part ls _ _ _ (k.1 z).0 (omega arith) (k.1 z).1) told.0 told.1

@@ -1,13 +1,11 @@
-use borrow.Author.Rules.{rules}
-use Prim.Native.Nat.{◌+◌, ◌-◌, ◌≤◌}
-use mathlib.Core.Path.{◌≡◌, ap}
+use mathlib.Core.Path.{ap}
 use mathlib.Core.List.{[]}
 use native.Mathlib.Omega.{arith}
 use lib.ListN.{length}
 use Rattle.lines.specs.Line.{lines_from}
 use Rattle.lines.specs.declared.Found.{Found}
 use Rattle.lines.proofs.Split.{next_after}
-use Rattle.probe_hearing.proofs.Laws.{left, none_left, fewer_left, many_counted, few_counted}
+use Rattle.probe_hearing.proofs.Laws.{none_left, fewer_left, many_counted, few_counted}
 use Rattle.probe_hearing.proofs.frames.count_frames.Goals as goal
 
 pub returns-then-count-eq64 : goal.returns-then-count-eq64

@@ -1,5 +1,5 @@
 use borrow.Author.Rules.{rules}
-use Prim.Native.Nat.{ℕ, ◌-◌, ◌≤◌, ◌<◌}
+use Prim.Native.Nat.{ℕ, ◌≤◌, ◌<◌}
 use mathlib.Core.Path.{◌≡◌, refl, sym, ap, ◌∙◌}
 use mathlib.Core.List.{List, map}
 use native.Mathlib.Omega.{arith}
@@ -17,7 +17,7 @@ use Rattle.probe_bags.specs.Bag.{entries_after}
 use Rattle.probe_bags.proofs.Steps.{length_entries}
 use Rattle.probe_hearing.specs.PackedEvents.{unpacked_event}
 use Rattle.probe_hearing.proofs.Laws.{is_frame}
-use Rattle.probe_hearing.proofs.HeardSoFar.{HeardSoFar, heard_none, heard_next, heard_maps, heard_entries}
+use Rattle.probe_hearing.proofs.HeardSoFar.{heard_none, heard_next, heard_maps, heard_entries}
 use Rattle.table.specs.Slices.{as_slices, table_of}
 use Rattle.probe_hearing.proofs.hearing.hear_frames.Goals as goal
 

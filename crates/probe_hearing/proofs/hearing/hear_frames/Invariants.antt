@@ -1,24 +1,10 @@
 -- Invariant: the maps are good and the own links as at first; the frames left, from the maps now, leave what all leave from the first.
-use borrow.Author.Rules.{rules}
-use Prim.Native.Nat.{ℕ, ◌-◌, ◌≤◌, ◌<◌}
-use mathlib.Core.Path.{◌≡◌, refl, sym, ap, ◌∙◌}
-use mathlib.Core.List.{List, map}
-use native.Mathlib.Omega.{arith}
-use lib.ListN.{length, get_or, take, replicate, length-map, get_or-map}
-use lib.Seq.{sets, length-take-le, get_or-take}
-use Rattle.table.specs.Table.{Table}
-use Rattle.table.specs.Legal.{RisingLinks}
-use Rattle.wake_log.specs.declared.Entry.{Entry}
-use Rattle.wake_log.specs.Log.{no_entry}
-use Rattle.bag_entries.specs.Entries.{entries_of}
-use Rattle.probe_rules.specs.declared.Event.{Event}
-use Rattle.probe_rules.proofs.Befalls.{own_within}
-use Rattle.probe_maps.specs.Maps.{Maps, rows}
-use Rattle.probe_bags.specs.Bag.{entries_after}
-use Rattle.probe_bags.proofs.Steps.{length_entries}
+use mathlib.Core.Path.{◌≡◌}
+use mathlib.Core.List.{map}
+use lib.ListN.{length, take}
+use Rattle.probe_maps.specs.Maps.{rows}
 use Rattle.probe_hearing.specs.PackedEvents.{unpacked_event}
-use Rattle.probe_hearing.proofs.Laws.{is_frame}
-use Rattle.probe_hearing.proofs.HeardSoFar.{HeardSoFar, heard_none, heard_next, heard_maps, heard_entries}
+use Rattle.probe_hearing.proofs.HeardSoFar.{HeardSoFar}
 use Rattle.table.specs.Slices.{as_slices, table_of}
 use Rattle.probe_hearing.proofs.hearing.hear_frames.Given as goal
 
