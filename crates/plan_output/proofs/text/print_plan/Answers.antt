@@ -1,4 +1,4 @@
-use Prim.Native.Nat.{ℕ, ◌+◌}
+use Prim.Native.Nat.{ℕ}
 use mathlib.Core.Path.{◌∙◌, ap}
 use mathlib.Core.List.{List}
 use native.Mathlib.Omega.{arith}
@@ -35,120 +35,60 @@ slse_plan-requires c =
 pub count_degrees-requires : goal.count_degrees-requires
 count_degrees-requires c =
     let a = c.args in
-    let pre = c.requires in
-    let g = legal_slices 256 2048 (as_slices a.table) pre.0 in
+    let g = legal_slices 256 2048 (as_slices a.table) c.requires.0 in
     let z = c.clear_counts in
-    let n = z.auto.counts in
-    let m = c.slse_plan.auto.counts in
-    let ends = ends_within a.table.probes a.table.links (length z.new.counts) (item a.table.lows.now) (item a.table.highs.now) (legal_table 256 2048 (table_of (as_slices a.table)) g.legal).links_pass (omega (arith, pre.6)) in
+    let ends = ends_within a.table.probes a.table.links (length z.new.counts) (item a.table.lows.now) (item a.table.highs.now) (legal_table 256 2048 (table_of (as_slices a.table)) g.legal).links_pass (omega arith) in
     (g.in_lows, g.in_highs, omega (arith, g.within), ends, λ v. ap (λ (x : List ℕ). item x v) z.ensures ∙ zeros_at (length c.slse_plan.new.counts) v)
 
 pub kept_count-kept-requires : goal.kept_count-kept-requires
-kept_count-kept-requires c =
-    let a = c.args in
-    let pre = c.requires in
-    let g = legal_slices 256 2048 (as_slices a.table) pre.0 in
-    (omega (arith, c.slse_plan.auto.plan, pre.1), g.within)
+kept_count-kept-requires c = (omega arith, (legal_slices 256 2048 (as_slices c.args.table) c.requires.0).within)
 
 pub short_count-short-requires : goal.short_count-short-requires
 short_count-short-requires c =
-    let a = c.args in
-    let pre = c.requires in
-    let g = legal_slices 256 2048 (as_slices a.table) pre.0 in
-    (g.few, g.in_needs, omega (arith, c.count_degrees.auto.counts, c.clear_counts.auto.counts, c.slse_plan.auto.counts, pre.6))
-
-pub shape_of-plan-then-out-end : goal.shape_of-plan-then-out-end
-shape_of-plan-then-out-end c =
-    c.slse_plan.auto.plan
-
-pub shape_of-order-then-out-end : goal.shape_of-order-then-out-end
-shape_of-order-then-out-end c =
-    c.slse_plan.auto.order
-
-pub shape_of-half-then-out-end : goal.shape_of-half-then-out-end
-shape_of-half-then-out-end c =
-    c.slse_plan.auto.half
-
-pub shape_of-digits-then-out-end : goal.shape_of-digits-then-out-end
-shape_of-digits-then-out-end c =
-    c.slse_plan.auto.digits
-
-pub shape_of-degrees-then-out-end : goal.shape_of-degrees-then-out-end
-shape_of-degrees-then-out-end c =
-    c.count_degrees.auto.counts ∙ c.clear_counts.auto.counts ∙ c.slse_plan.auto.counts
+    let g = legal_slices 256 2048 (as_slices c.args.table) c.requires.0 in
+    (g.few, g.in_needs, omega arith)
 
 pub returns-then-out-end : goal.returns-then-out-end
 returns-then-out-end c =
     let a = c.args in
     let pre = c.requires in
     let g = legal_slices 256 2048 (as_slices a.table) pre.0 in
-    let t = table_of (as_slices a.table) in
+    let t = a.table in
     let s = c.slse_plan in
-    let p = numbered 0 a.table.number a.table.probes a.table.links a.table.needs.now a.table.lows.now a.table.highs.now a.table.costs.now a.plan.now s.new.plan (s.ensures a.table.probes pre.6 g.legal) in
-    let d = c.count_degrees in
-    let l = end_says t a.plan.now s.new.plan d.new.counts pre.1 p d.ensures _ _ c.kept_count-kept.ensures c.short_count-short.ensures in
-    prints_refused _ 8 _ a.out.now (too_short (length a.out.now) (plan_text t) (omega (arith, l, c.short_start-end.ensures, c.if-out-end.true))) (λ z. omega arith)
+    let p = numbered 0 t.number t.probes t.links t.needs.now t.lows.now t.highs.now t.costs.now a.plan.now s.new.plan (s.ensures t.probes pre.6 g.legal) in
+    let l = end_says (table_of (as_slices t)) a.plan.now s.new.plan c.count_degrees.new.counts pre.1 p c.count_degrees.ensures _ _ c.kept_count-kept.ensures c.short_count-short.ensures in
+    prints_refused _ 8 _ a.out.now (too_short (length a.out.now) (plan_text (table_of (as_slices t))) (omega arith)) (λ z. omega arith)
 
 pub kept_cost-cost-requires : goal.kept_cost-cost-requires
 kept_cost-cost-requires c =
-    let a = c.args in
-    let pre = c.requires in
-    let g = legal_slices 256 2048 (as_slices a.table) pre.0 in
-    (omega (arith, c.slse_plan.auto.plan, pre.1), g.in_costs, g.within)
+    let g = legal_slices 256 2048 (as_slices c.args.table) c.requires.0 in
+    (omega arith, g.in_costs, g.within)
 
 pub put_kept-requires : goal.put_kept-requires
 put_kept-requires c =
-    let a = c.args in
-    let pre = c.requires in
-    let g = legal_slices 256 2048 (as_slices a.table) pre.0 in
-    (omega (arith, c.kept_count-kept.ensures, c.short_start-end.ensures, c.if-out-end.false, c.put_head.auto.out), omega (arith, c.slse_plan.auto.plan, pre.1), g.in_lows, g.in_highs, g.in_costs)
+    let g = legal_slices 256 2048 (as_slices c.args.table) c.requires.0 in
+    (omega arith, omega arith, g.in_lows, g.in_highs, g.in_costs)
 
 pub put_shorts-requires : goal.put_shorts-requires
 put_shorts-requires c =
-    let a = c.args in
-    let pre = c.requires in
-    let g = legal_slices 256 2048 (as_slices a.table) pre.0 in
-    (omega (arith, c.short_count-short.ensures, c.short_start-end.ensures, c.short_start-shorts.ensures, c.if-out-end.false, c.put_head.auto.out, c.put_kept.auto.out), g.few, g.in_needs, omega (arith, c.count_degrees.auto.counts, c.clear_counts.auto.counts, c.slse_plan.auto.counts, pre.6))
-
-pub shape_of-out : goal.shape_of-out
-shape_of-out c =
-    c.put_closing.auto.out ∙ c.put_shorts.auto.out ∙ c.put_kept.auto.out ∙ c.put_head.auto.out
-
-pub shape_of-plan : goal.shape_of-plan
-shape_of-plan c =
-    c.slse_plan.auto.plan
-
-pub shape_of-order : goal.shape_of-order
-shape_of-order c =
-    c.slse_plan.auto.order
-
-pub shape_of-half : goal.shape_of-half
-shape_of-half c =
-    c.slse_plan.auto.half
-
-pub shape_of-digits : goal.shape_of-digits
-shape_of-digits c =
-    c.slse_plan.auto.digits
-
-pub shape_of-degrees : goal.shape_of-degrees
-shape_of-degrees c =
-    c.count_degrees.auto.counts ∙ c.clear_counts.auto.counts ∙ c.slse_plan.auto.counts
+    let g = legal_slices 256 2048 (as_slices c.args.table) c.requires.0 in
+    (omega arith, g.few, g.in_needs, omega arith)
 
 pub returns : goal.returns
 returns c =
     let a = c.args in
     let pre = c.requires in
     let g = legal_slices 256 2048 (as_slices a.table) pre.0 in
-    let t = table_of (as_slices a.table) in
+    let b = a.table in
+    let t = table_of (as_slices b) in
     let s = c.slse_plan in
-    let p = numbered 0 a.table.number a.table.probes a.table.links a.table.needs.now a.table.lows.now a.table.highs.now a.table.costs.now a.plan.now s.new.plan (s.ensures a.table.probes pre.6 g.legal) in
+    let p = numbered 0 b.number b.probes b.links b.needs.now b.lows.now b.highs.now b.costs.now a.plan.now s.new.plan (s.ensures b.probes pre.6 g.legal) in
     let d = c.count_degrees in
     let n = c.kept_count-kept in
     let k = c.short_count-short in
     let e = c.short_start-end.ensures in
     let l = end_says t a.plan.now s.new.plan d.new.counts pre.1 p d.ensures _ _ n.ensures k.ensures in
-    let f = c.if-out-end.false in
     let shorts = rw c.short_start-shorts.ensures at c.put_shorts.ensures in
     let closed = rw e at c.put_closing.ensures in
-    prints_done _ (c.short_start-end.result + 5) _ a.out.now _ (long_enough (length a.out.now) (plan_text t) (omega arith)) (omega arith) f
+    prints_done _ _ _ a.out.now _ (long_enough (length a.out.now) (plan_text t) (omega arith)) (omega arith) c.if-out-end.false
     (plan_then t a.plan.now s.new.plan d.new.counts pre.1 p d.ensures n.result c.kept_cost-cost.result k.result a.out.now _ _ _ _ n.ensures c.kept_cost-cost.ensures k.ensures c.put_head.ensures c.put_kept.ensures shorts closed)
