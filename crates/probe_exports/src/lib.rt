@@ -15,7 +15,6 @@ ghost use Rattle.probe_exports.specs.Packed.{OpensPacked, HearsPacked, AsksForPa
 use packed_answers::{ANSWER_BASE, logs, packed_answer};
 use probe::{Asked, Kind, Resting};
 use probe_bags::Hearing;
-use probe_turning::Turning;
 use table::TableSlices;
 
 fn packed_asked(r: Asked) -> u64
@@ -42,12 +41,12 @@ fn packed_resting(r: Resting) -> u64
     }
 }
 
-fn packed_turning(r: Turning) -> u64
+fn packed_turning(r: Result<(), Refusal>) -> u64
     ensures { result ≡ packed_value (turning_reply r) }
 {
     match r {
-        Turning::Turned => ANSWER_BASE,
-        Turning::Refused(refusal) => refusal as u64,
+        Ok(()) => ANSWER_BASE,
+        Err(refusal) => refusal.number() as u64,
     }
 }
 

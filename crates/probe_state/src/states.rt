@@ -1,10 +1,12 @@
 // The state that an end's calls start from.
-ghost use Rattle.std.specs.Prelude.{◌≡◌, length};
+ghost use Rattle.std.specs.Prelude.{◌≡◌, length, IfOk};
+ghost use Rattle.refusals.specs.Refusals.{fault_of};
 ghost use Rattle.bit_maps.specs.BitMap.{map_of};
 ghost use Rattle.table.specs.Slices.{table_of, as_slices};
 ghost use Rattle.probe_maps.specs.Maps.{rows, is_own, state_fault};
 
 use super::{own, words};
+use refusals::Refusal;
 use table::TableSlices;
 use table::checks::check_slices;
 
@@ -17,31 +19,23 @@ pub fn check_state(
     held: &[u64],
     refused_in: &[u64],
     own: &mut [u64],
-) -> u8
+) -> Result<(), Refusal>
     requires { length own.old ≡ 32 }
     ensures { let x = as_slices table.entry in
         let m = rows standing.now refused_out.now held.now refused_in.now in
-        (result ≡ state_fault x probe m) × (result ≡ 0 → own.new ≡ map_of (is_own (table_of x) probe) 32) }
+        (fault_of result ≡ state_fault x probe m) × IfOk result (λ u. own.new ≡ map_of (is_own (table_of x) probe) 32) }
 {
     let links = table.links as usize;
-    if let Err(refusal) = check_slices(256, 2048, table) {
-        return refusal.number();
-    }
-    let lengths = words::length_fault(
+    check_slices(256, 2048, table)?;
+    words::check_lengths(
         links,
         standing.len(),
         refused_out.len(),
         held.len(),
         refused_in.len(),
-    );
-    if lengths != 0 {
-        return lengths;
-    }
+    )?;
     own::own_map(links, table.lows, table.highs, probe, own);
-    let bits = words::bits_fault(standing, refused_out, held, refused_in, own);
-    if bits != 0 {
-        return bits;
-    }
+    words::check_bits(standing, refused_out, held, refused_in, own)?;
     let spare = own::spare(own, table.needs, probe as usize);
-    words::ones_fault(spare, standing, held)
+    words::check_ones(spare, standing, held)
 }

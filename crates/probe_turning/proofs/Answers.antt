@@ -1,6 +1,6 @@
 -- What the answers of turning are, by the fault found.
 use Prim.Native.Nat.{ℕ, ◌*◌, ◌≤◌}
-use mathlib.Core.Path.{◌≡◌, refl}
+use mathlib.Core.Path.{◌≡◌, refl, ◌∙◌}
 use mathlib.Core.Logic.{◌⊎◌, inl, inr}
 use mathlib.Core.Bool.{Bool, true, false, cond, ◌&&◌}
 use mathlib.Core.List.{List, []}
@@ -18,21 +18,18 @@ use Rattle.table.specs.Table.{Table}
 use Rattle.table.specs.Legal.{lent_fault}
 use Rattle.table.specs.Slices.{Slices}
 use Rattle.probe_maps.specs.Maps.{Maps, bytes_of, maps_of, has_words, maps_length_fault, stored_in}
-use Rattle.probe_turning.specs.declared.Turning.{Turning}
-use Rattle.probe_turning.specs.declared.Turning.TheVariants as turning
+use Rattle.std.specs.Prelude.{Result, Ok, Err, IsErrAnd, ⊤}
+use Rattle.std.proofs.lemmas.Result.{err_from_is_err_and}
+use Rattle.refusals.specs.Refusals.{number_of}
+use Rattle.refusals.specs.declared.Refusal.{Refusal}
+use Rattle.refusals.proofs.Laws.{number_some, refusal_of, answer_is}
 use Rattle.probe_turning.specs.Turned.{turning_reply, rows_lent_fault, to_maps_fault, to_bytes_fault, TurnsToMaps, TurnsToBytes}
 
 -- a promise fixes the answer
-pub turning_is : (r : Turning) (fault : ℕ) → turning_reply r ≡ reply_of fault [] → r ≡ cond (eqb fault 0) turning.Turned (turning.Refused fault)
-turning_is r fault e = go r (eqb fault 0) e
-  where
-    go : (r : Turning) (none : Bool) → turning_reply r ≡ cond none (values []) (refusal fault) → r ≡ cond none turning.Turned (turning.Refused fault)
-    go turning.Turned true e = refl
-    go turning.Turned false e = let z : ◌≡◌ {A = ℕ} 0 1 = cc in absurd (omega arith)
-    go (turning.Refused n) true e = let z : ◌≡◌ {A = ℕ} 0 1 = cc in absurd (omega arith)
-    go (turning.Refused n) false e = cc
+pub turning_is : (r : Result ⊤ Refusal) (fault : ℕ) → turning_reply r ≡ reply_of fault [] → r ≡ cond (eqb fault 0) (Ok tt) (Err (refusal_of fault))
+turning_is r fault = answer_is (λ u. []) tt r fault (λ u e. refl)
 
-pub turned_none : (fault : ℕ) → turning_reply turning.Turned ≡ reply_of fault [] → fault ≡ 0
+pub turned_none : (fault : ℕ) → turning_reply (Ok tt) ≡ reply_of fault [] → fault ≡ 0
 turned_none fault e = go (decided (eqb fault 0))
   where
     go : (eqb fault 0 ≡ true) ⊎ (eqb fault 0 ≡ false) → fault ≡ 0
@@ -99,16 +96,22 @@ module _ (t : Table) (m : Maps) (none : maps_length_fault t m ≡ 0) where
 
 -- into maps
 module _ (x : Slices) (p : ℕ) (e : List ℕ) (out : Maps) where
-  pub maps_refused : (n : ℕ) → n ≡ to_maps_fault x p e out → (n ≡ 0 → ⊥) → TurnsToMaps x p e (turning.Refused n) out out
-  maps_refused n q some = record { answer = rw (← q, ne_eqb n 0 some); maps_after_lem = rw (← q, ne_eqb n 0 some) }
+  pub maps_refused : (r : Result ⊤ Refusal) (d : Refusal) → IsErrAnd r (λ y. y ≡ d) → number_of d ≡ to_maps_fault x p e out → TurnsToMaps x p e r out out
+  maps_refused r d is q =
+      let k = err_from_is_err_and r is in
+      let n = ne_eqb _ 0 (number_some d) in
+      record { answer = rw (k.1, k.2, ← q, n); maps_after_lem = rw (← q, n) }
 
-  pub maps_turned : (after : Maps) → to_maps_fault x p e out ≡ 0 → after ≡ stored_in out (maps_of x.links e) → TurnsToMaps x p e turning.Turned out after
+  pub maps_turned : (after : Maps) → to_maps_fault x p e out ≡ 0 → after ≡ stored_in out (maps_of x.links e) → TurnsToMaps x p e (Ok tt) out after
   maps_turned after none q = record { answer = rw none; maps_after_lem = rw none q }
 
 -- into bytes
 module _ (x : Slices) (p : ℕ) (m : Maps) (out : List ℕ) where
-  pub bytes_refused : (n : ℕ) → n ≡ to_bytes_fault x p m out → (n ≡ 0 → ⊥) → TurnsToBytes x p m (turning.Refused n) out out
-  bytes_refused n q some = record { answer = rw (← q, ne_eqb n 0 some); bytes_after_lem = rw (← q, ne_eqb n 0 some) }
+  pub bytes_refused : (r : Result ⊤ Refusal) (d : Refusal) → IsErrAnd r (λ y. y ≡ d) → number_of d ≡ to_bytes_fault x p m out → TurnsToBytes x p m r out out
+  bytes_refused r d is q =
+      let k = err_from_is_err_and r is in
+      let n = ne_eqb _ 0 (number_some d) in
+      record { answer = rw (k.1, k.2, ← q, n); bytes_after_lem = rw (← q, n) }
 
-  pub bytes_turned : (after : List ℕ) → to_bytes_fault x p m out ≡ 0 → after ≡ sets out 0 (bytes_of x.links m) → TurnsToBytes x p m turning.Turned out after
+  pub bytes_turned : (after : List ℕ) → to_bytes_fault x p m out ≡ 0 → after ≡ sets out 0 (bytes_of x.links m) → TurnsToBytes x p m (Ok tt) out after
   bytes_turned after none q = record { answer = rw none; bytes_after_lem = rw none q }

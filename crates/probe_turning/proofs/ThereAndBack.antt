@@ -16,8 +16,8 @@ use Rattle.probe_maps.specs.Maps.{Maps, AllWords, bytes_of, maps_of, maps_fault,
 use Rattle.probe_maps.specs.SameRecords.{TurnsBack}
 use Rattle.probe_maps.proofs.Rounds.{rows_same, length_bytes_of}
 use Rattle.probe_maps.proofs.Faults.{turns_back}
-use Rattle.probe_turning.specs.declared.Turning.{Turning}
-use Rattle.probe_turning.specs.declared.Turning.TheVariants.{Turned}
+use Rattle.std.specs.Prelude.{Result, Ok, ⊤}
+use Rattle.refusals.specs.declared.Refusal.{Refusal}
 use Rattle.probe_turning.specs.Turned.{rows_lent_fault, to_maps_fault, to_bytes_fault, TurnsToMaps, TurnsToBytes, maps_in}
 use Rattle.probe_turning.specs.ThereAndBack.{ThereAndBack}
 use Rattle.probe_turning.proofs.Answers.{lent, turned_none, turning_is, room_standing, room_refused_out, room_held, room_refused_in}
@@ -39,38 +39,38 @@ module _ (x : Slices) (p : ℕ) where
   same : TurnsBack (table_of x) p
   same = turns_back (table_of x) p
 
-  maps_are : (e : List ℕ) (out after : Maps) (r : Turning) → to_maps_fault x p e out ≡ 0 → TurnsToMaps x p e r out after → (r ≡ Turned) × (maps_in x.links after ≡ maps_of x.links e)
+  maps_are : (e : List ℕ) (out after : Maps) (r : Result ⊤ Refusal) → to_maps_fault x p e out ≡ 0 → TurnsToMaps x p e r out after → (r ≡ Ok tt) × (maps_in x.links after ≡ maps_of x.links e)
   maps_are e out after r none t = (
     rw none at (turning_is r (to_maps_fault x p e out) t.answer),
     ap (maps_in x.links) (rw none at t.maps_after_lem) ∙ maps_start x.links e out (or_left (rows_lent_fault x.links out) _ none),
   )
 
-  bytes_are : (m : Maps) (rec after : List ℕ) (r : Turning) → to_bytes_fault x p m rec ≡ 0 → TurnsToBytes x p m r rec after → (r ≡ Turned) × (take (2 * x.links) after ≡ bytes_of x.links m)
+  bytes_are : (m : Maps) (rec after : List ℕ) (r : Result ⊤ Refusal) → to_bytes_fault x p m rec ≡ 0 → TurnsToBytes x p m r rec after → (r ≡ Ok tt) × (take (2 * x.links) after ≡ bytes_of x.links m)
   bytes_are m rec after r none t = (
     rw none at (turning_is r (to_bytes_fault x p m rec) t.answer),
     ap (take (2 * x.links)) (rw none at t.bytes_after_lem)
         ∙ start_is rec (bytes_of x.links m) (2 * x.links) (length_bytes_of x.links m) (lent (length rec) (2 * x.links) (or_left (lent_fault (length rec) (2 * x.links)) (state_fault x p m) none)),
   )
 
-  maps_then_bytes : (e : List ℕ) (out out' : Maps) → TurnsToMaps x p e Turned out out' → (rec : List ℕ) → 2 * x.links ≤ length rec → (r : Turning) (rec' : List ℕ)
-      → TurnsToBytes x p (maps_in x.links out') r rec rec' → (r ≡ Turned) × (take (2 * x.links) rec' ≡ e)
+  maps_then_bytes : (e : List ℕ) (out out' : Maps) → TurnsToMaps x p e (Ok tt) out out' → (rec : List ℕ) → 2 * x.links ≤ length rec → (r : Result ⊤ Refusal) (rec' : List ℕ)
+      → TurnsToBytes x p (maps_in x.links out') r rec rec' → (r ≡ Ok tt) × (take (2 * x.links) rec' ≡ e)
   maps_then_bytes e out out' there rec room r rec' back =
       let none = turned_none (to_maps_fault x p e out) there.answer in
       let checks = or_right (rows_lent_fault x.links out) _ none in
       let fine = or_right (slices_fault x) (record_fault (table_of x) p e) checks in
-      let m = (maps_are e out out' Turned none there).1 in
+      let m = (maps_are e out out' (Ok tt) none there).1 in
       let legal = or_left (slices_fault x) (record_fault (table_of x) p e) checks in
       let passes : state_fault x p (maps_of x.links e) ≡ 0 = or_none (slices_fault x) _ legal ∙ same.bytes_there e fine in
       let b = bytes_are (maps_of x.links e) rec rec' r (rw (le-ltb (length rec) (2 * x.links) room) passes) (rw m at back) in
       (b.0, b.1 ∙ sym (same.bytes_back e fine).bytes_are)
 
-  bytes_then_maps : (m : Maps) (rec rec' : List ℕ) → AllWords m → TurnsToBytes x p m Turned rec rec' → (out : Maps) → rows_lent_fault x.links out ≡ 0 → (r : Turning) (out' : Maps)
-      → TurnsToMaps x p (take (2 * x.links) rec') r out out' → (r ≡ Turned) × (maps_in x.links out' ≡ m)
+  bytes_then_maps : (m : Maps) (rec rec' : List ℕ) → AllWords m → TurnsToBytes x p m (Ok tt) rec rec' → (out : Maps) → rows_lent_fault x.links out ≡ 0 → (r : Result ⊤ Refusal) (out' : Maps)
+      → TurnsToMaps x p (take (2 * x.links) rec') r out out' → (r ≡ Ok tt) × (maps_in x.links out' ≡ m)
   bytes_then_maps m rec rec' words there out room r out' back =
       let none = turned_none (to_bytes_fault x p m rec) there.answer in
       let checks = or_right (lent_fault (length rec) (2 * x.links)) (state_fault x p m) none in
       let fine = or_right (slices_fault x) (maps_fault (table_of x) p m) checks in
-      let e = (bytes_are m rec rec' Turned none there).1 in
+      let e = (bytes_are m rec rec' (Ok tt) none there).1 in
       let legal = or_left (slices_fault x) (maps_fault (table_of x) p m) checks in
       let passes : to_maps_fault x p (bytes_of x.links m) out ≡ 0 =
       or_none (rows_lent_fault x.links out) _ room ∙ or_none (slices_fault x) _ legal ∙ same.maps_there m words fine

@@ -1,20 +1,19 @@
 -- Turning the record of an end, bytes into maps and back: document 02, No. 9.
-use Rattle.std.specs.Prelude.{ℕ, ◌*◌, ◌≡◌, cond, List, [], eqb, length, take}
+use Rattle.std.specs.Prelude.{ℕ, ◌*◌, ◌≡◌, cond, List, [], eqb, length, take, Result, ⊤}
 use Rattle.std.proofs.lemmas.List.Edits.{sets}
 use Rattle.range.specs.First.{or_else}
-use Rattle.range.specs.Reply.{Reply, refusal, values, reply_of}
+use Rattle.range.specs.Reply.{Reply, reply_of}
+use Rattle.refusals.specs.Refusals.{reply_in}
+use Rattle.refusals.specs.declared.Refusal.{Refusal}
 use Rattle.bit_maps.specs.BitMap.{words_for}
 use Rattle.table.specs.Legal.{lent_fault}
 use Rattle.table.specs.Slices.{Slices, table_of, slices_fault}
 use Rattle.probe_record.specs.Record.{record_fault}
 use Rattle.probe_maps.specs.Maps.{Maps, rows, bytes_of, maps_of, state_fault, stored_in}
-use Rattle.probe_turning.specs.declared.Turning.{Turning}
-use Rattle.probe_turning.specs.declared.Turning.TheVariants as turning
 
 -- no values where it is turned
-abbrev pub turning_reply : Turning → Reply
-turning_reply turning.Turned = values []
-turning_reply (turning.Refused n) = refusal n
+abbrev pub turning_reply : Result ⊤ Refusal → Reply
+turning_reply = reply_in (λ u. [])
 
 -- "turning checks 20 to 22 of the form it is given": 8 for an output too short first, then the table's checks
 abbrev pub rows_lent_fault : ℕ → Maps → ℕ
@@ -37,11 +36,11 @@ abbrev pub turned_bytes : Slices → ℕ → Maps → List ℕ → List ℕ
 turned_bytes x p m out = cond (eqb (to_bytes_fault x p m out) 0) (sets out 0 (bytes_of x.links m)) out
 
 -- the calls of turning
-pub record TurnsToMaps (x : Slices) (p : ℕ) (e : List ℕ) (r : Turning) (before after : Maps) : Type 0 where
+pub record TurnsToMaps (x : Slices) (p : ℕ) (e : List ℕ) (r : Result ⊤ Refusal) (before after : Maps) : Type 0 where
   pub answer : turning_reply r ≡ reply_of (to_maps_fault x p e before) []
   pub maps_after_lem : after ≡ turned_maps x p e before
 
-pub record TurnsToBytes (x : Slices) (p : ℕ) (m : Maps) (r : Turning) (before after : List ℕ) : Type 0 where
+pub record TurnsToBytes (x : Slices) (p : ℕ) (m : Maps) (r : Result ⊤ Refusal) (before after : List ℕ) : Type 0 where
   pub answer : turning_reply r ≡ reply_of (to_bytes_fault x p m before) []
   pub bytes_after_lem : after ≡ turned_bytes x p m before
 

@@ -5,19 +5,13 @@ ghost use Rattle.table.specs.Slices.{as_slices};
 ghost use Rattle.probe_maps.specs.Maps.{rows};
 ghost use Rattle.probe_turning.specs.Turned.{TurnsToMaps, TurnsToBytes};
 
+use refusals::Refusal;
 use table::TableSlices;
 use table::checks::check_slices;
 
 mod lengths;
 mod records;
 mod words;
-
-// The record is turned, or the number of the refusal.
-#[derive(Clone, Copy)]
-pub enum Turning {
-    Turned,
-    Refused(u8),
-}
 
 // Turns a record of bytes, two a link, into maps at the start of the lent rows.
 pub fn maps_of(
@@ -28,34 +22,26 @@ pub fn maps_of(
     refused_out: &mut [u64],
     held: &mut [u64],
     refused_in: &mut [u64],
-) -> Turning
+) -> Result<(), Refusal>
     ensures { let before = rows standing.old refused_out.old held.old refused_in.old in
         let after = rows standing.new refused_out.new held.new refused_in.new in
         TurnsToMaps (as_slices table.entry) probe rec.now result before after }
 {
     let n = table.links as usize;
-    let room = lengths::rows_fault(
+    lengths::check_rows(
         n,
         standing.len(),
         refused_out.len(),
         held.len(),
         refused_in.len(),
-    );
-    if room != 0 {
-        return Turning::Refused(room);
-    }
-    if let Err(refusal) = check_slices(256, 2048, table) {
-        return Turning::Refused(refusal.number());
-    }
-    let bad = probe_record::checks::record_fault(rec, table, probe as usize);
-    if bad != 0 {
-        return Turning::Refused(bad);
-    }
+    )?;
+    check_slices(256, 2048, table)?;
+    probe_record::checks::check_record(rec, table, probe as usize)?;
     words::fill(rec, 0, 1, n, standing);
     words::fill(rec, 0, 2, n, refused_out);
     words::fill(rec, 1, 1, n, held);
     words::fill(rec, 1, 2, n, refused_in);
-    Turning::Turned
+    Ok(())
 }
 
 // Turns maps into a record of bytes, at the start of the lent one.
@@ -67,15 +53,15 @@ pub fn bytes_of(
     held: &[u64],
     refused_in: &[u64],
     rec: &mut [u8],
-) -> Turning
+) -> Result<(), Refusal>
     ensures { let m = rows standing.now refused_out.now held.now refused_in.now in
         TurnsToBytes (as_slices table.entry) probe m result rec.old rec.new }
 {
     if rec.len() < 2 * (table.links as usize) {
-        return Turning::Refused(8);
+        return Err(Refusal::Slice);
     }
     let mut own = [0u64; 32];
-    let state = probe_state::states::check_state(
+    probe_state::states::check_state(
         table,
         probe,
         standing,
@@ -83,10 +69,7 @@ pub fn bytes_of(
         held,
         refused_in,
         &mut own,
-    );
-    if state != 0 {
-        return Turning::Refused(state);
-    }
+    )?;
     records::store(
         table.links as usize,
         standing,
@@ -95,5 +78,5 @@ pub fn bytes_of(
         refused_in,
         rec,
     );
-    Turning::Turned
+    Ok(())
 }

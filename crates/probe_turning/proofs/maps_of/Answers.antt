@@ -1,9 +1,7 @@
 use borrow.Author.Rules.{rules}
-use mathlib.Core.Path.{sym, ◌∙◌, ap}
+use mathlib.Core.Path.{sym}
 use native.Mathlib.Omega.{arith}
-use Rattle.refusals.specs.Refusals.{fault_of}
-use Rattle.range.proofs.Faults.{or_here, or_next}
-use Rattle.refusals.proofs.Laws.{number_some, or_refused}
+use Rattle.refusals.proofs.Laws.{or_refused, or_passed}
 use Rattle.table.specs.Slices.{Slices, as_slices}
 use Rattle.table.proofs.Slices.{legal_slices}
 use Rattle.probe_maps.specs.Maps.{Maps, rows}
@@ -12,53 +10,46 @@ use Rattle.probe_turning.proofs.Laws.{out_filled, in_filled}
 use Rattle.probe_turning.proofs.Answers.{maps_refused, maps_turned, room_standing, room_refused_out, room_held, room_refused_in}
 use Rattle.probe_turning.proofs.maps_of.Goals as goal
 
-pub returns-then-room-ne0 : goal.returns-then-room-ne0
-returns-then-room-ne0 c = maps_refused _ _ _ _ _ (or_here _ _ _ c.rows_fault-room.ensures c.if-room-ne0.true) c.if-room-ne0.true
+pub returns-in_err-check_rows : goal.returns-in_err-check_rows
+returns-in_err-check_rows c = maps_refused _ _ _ _ _ _ c.from_residual.ensures.1 (or_refused _ _ _ c.in_err-check_rows.ensures)
 
-pub returns-in-Err : goal.returns-in-Err
-returns-in-Err c =
-    let e = c.number.ensures in
-    maps_refused _ _ _ _ _
-    (or_next _ _ _ _ c.rows_fault-room.ensures c.if-room-ne0.false (e ∙ or_refused _ _ _ c.in-Err.ensures))
-    (λ z. number_some c.in-Err.refusal (sym e ∙ z))
+pub returns-in_err-check_slices : goal.returns-in_err-check_slices
+returns-in_err-check_slices c =
+    maps_refused _ _ _ _ _ _ c.from_residual-in_err-check_slices.ensures.1 (or_passed _ _ _ c.in_ok-check_rows.ensures (or_refused _ _ _ c.in_err-check_slices.ensures))
 
-pub record_fault-bad-requires : goal.record_fault-bad-requires
-record_fault-bad-requires c =
-    let a = c.args in
-    let x : Slices = as_slices a.table in
-    let g = legal_slices 256 2048 x (sym c.check_slices.ensures ∙ ap fault_of c.in_default.is) in
+pub check_record-requires : goal.check_record-requires
+check_record-requires c =
+    let g = legal_slices 256 2048 (as_slices c.args.table) (sym c.in_ok-check_slices.ensures) in
     (omega (arith, g.within), g.in_lows, g.in_highs)
 
-pub returns-then-bad-ne0 : goal.returns-then-bad-ne0
-returns-then-bad-ne0 c =
-    maps_refused _ _ _ _ _
-    (or_next _ _ _ _ c.rows_fault-room.ensures c.if-room-ne0.false
-    (or_next _ _ _ _ c.check_slices.ensures (ap fault_of c.in_default.is) c.record_fault-bad.ensures))
-    c.if-bad-ne0.true
+pub returns-in_err-check_record : goal.returns-in_err-check_record
+returns-in_err-check_record c =
+    maps_refused _ _ _ _ _ _ c.from_residual-in_err-check_record.ensures.1
+    (or_passed _ _ _ c.in_ok-check_rows.ensures (or_passed _ _ _ c.in_ok-check_slices.ensures c.in_err-check_record.ensures))
 
 pub fill-requires : goal.fill-requires
 fill-requires c =
     let a = c.args in
     let out : Maps = rows a.standing.now a.refused_out.now a.held.now a.refused_in.now in
-    (search rules, search rules, search rules, room_standing a.table.links out (sym c.rows_fault-room.ensures ∙ c.if-room-ne0.false))
+    (search rules, search rules, search rules, room_standing a.table.links out (sym c.in_ok-check_rows.ensures))
 
 pub fill-requires-2 : goal.fill-requires-2
 fill-requires-2 c =
     let a = c.args in
     let out : Maps = rows a.standing.now a.refused_out.now a.held.now a.refused_in.now in
-    (search rules, search rules, omega (arith, c.ranges.table), room_refused_out a.table.links out (sym c.rows_fault-room.ensures ∙ c.if-room-ne0.false))
+    (search rules, search rules, omega (arith, c.ranges.table), room_refused_out a.table.links out (sym c.in_ok-check_rows.ensures))
 
 pub fill-requires-3 : goal.fill-requires-3
 fill-requires-3 c =
     let a = c.args in
     let out : Maps = rows a.standing.now a.refused_out.now a.held.now a.refused_in.now in
-    (search rules, search rules, omega (arith, c.ranges.table), room_held a.table.links out (sym c.rows_fault-room.ensures ∙ c.if-room-ne0.false))
+    (search rules, search rules, omega (arith, c.ranges.table), room_held a.table.links out (sym c.in_ok-check_rows.ensures))
 
 pub fill-requires-4 : goal.fill-requires-4
 fill-requires-4 c =
     let a = c.args in
     let out : Maps = rows a.standing.now a.refused_out.now a.held.now a.refused_in.now in
-    (search rules, search rules, omega (arith, c.ranges.table), room_refused_in a.table.links out (sym c.rows_fault-room.ensures ∙ c.if-room-ne0.false))
+    (search rules, search rules, omega (arith, c.ranges.table), room_refused_in a.table.links out (sym c.in_ok-check_rows.ensures))
 
 pub returns : goal.returns
 returns c =
@@ -66,11 +57,8 @@ returns c =
     let e = a.rec.now in
     let x : Slices = as_slices a.table in
     let out : Maps = rows a.standing.now a.refused_out.now a.held.now a.refused_in.now in
-    let bad =
-    or_next _ _ _ _ c.rows_fault-room.ensures c.if-room-ne0.false
-    (or_next _ _ _ _ c.check_slices.ensures (ap fault_of c.in_default.is) c.record_fault-bad.ensures)
-    in
-    maps_turned x a.probe e out _ (sym bad ∙ c.if-bad-ne0.false)
+    let none = or_passed _ _ _ c.in_ok-check_rows.ensures (or_passed _ _ _ c.in_ok-check_slices.ensures c.in_ok-check_record.ensures) in
+    maps_turned x a.probe e out _ (sym none)
     (rows_same (out_filled e 1 a.table.links a.standing.now _ c.fill.ensures)
     (out_filled e 2 a.table.links a.refused_out.now _ c.fill-2.ensures)
     (in_filled e 1 a.table.links a.held.now _ c.fill-3.ensures)

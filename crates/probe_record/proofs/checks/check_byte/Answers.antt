@@ -1,5 +1,5 @@
 use borrow.Author.Tests.{lt-ltb, le-ltb, eq-eqb, ne_eqb}
-use Rattle.probe_record.proofs.checks.byte_fault.Goals as goal
+use Rattle.probe_record.proofs.checks.check_byte.Goals as goal
 
 pub returns-then-rec-i-gt2 : goal.returns-then-rec-i-gt2
 returns-then-rec-i-gt2 c = rw (lt-ltb _ _ c.if-rec-i-gt2.true)

@@ -1,6 +1,6 @@
 use borrow.Author.Rules.{rules}
 use borrow.Author.Tests.{lt-ltb, le-ltb}
-use Rattle.probe_turning.proofs.lengths.rows_fault.Goals as goal
+use Rattle.probe_turning.proofs.lengths.check_rows.Goals as goal
 
 pub returns-then-standing-words : goal.returns-then-standing-words
 returns-then-standing-words c = rw (lt-ltb _ _ c.if-standing-words.true)

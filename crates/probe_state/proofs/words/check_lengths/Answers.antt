@@ -1,6 +1,6 @@
 use borrow.Author.Rules.{rules}
 use borrow.Author.Tests.{eq-eqb, ne_eqb}
-use Rattle.probe_state.proofs.words.length_fault.Goals as goal
+use Rattle.probe_state.proofs.words.check_lengths.Goals as goal
 
 pub returns-then-standing-words : goal.returns-then-standing-words
 returns-then-standing-words c = rw (ne_eqb _ _ c.if-standing-words.true)

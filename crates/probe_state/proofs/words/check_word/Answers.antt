@@ -1,6 +1,6 @@
 use native.Mathlib.Omega.{arith}
 use Rattle.probe_state.proofs.FaultLaws.{word_meets, word_foreign, word_right}
-use Rattle.probe_state.proofs.words.word_fault.Goals as goal
+use Rattle.probe_state.proofs.words.check_word.Goals as goal
 
 pub returns-then-standing-refused_out-ne0 : goal.returns-then-standing-refused_out-ne0
 returns-then-standing-refused_out-ne0 c =

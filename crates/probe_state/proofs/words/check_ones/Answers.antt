@@ -1,7 +1,7 @@
 use borrow.Author.Rules.{rules}
 use Rattle.bit_maps.specs.BitMap.{ones_of}
 use Rattle.probe_state.proofs.FaultLaws.{standing_over, held_over, none_over}
-use Rattle.probe_state.proofs.words.ones_fault.Goals as goal
+use Rattle.probe_state.proofs.words.check_ones.Goals as goal
 
 pub returns-then-spare-ones : goal.returns-then-spare-ones
 returns-then-spare-ones c =
