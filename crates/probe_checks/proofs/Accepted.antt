@@ -10,21 +10,19 @@ use native.Mathlib.Decide.{ℕ_discrete}
 use borrow.Author.Tests.{ltb-true, eqb-true, eq-eqb, ne_eqb}
 use Rattle.range.specs.First.{or_else}
 use Rattle.range.proofs.Bools.{and_left, and_right, unless_none, decided}
-use Rattle.range.proofs.Faults.{or_here, or_none, or_same, or_left, or_right}
+use Rattle.range.proofs.Faults.{or_none, or_left, or_right}
 use Rattle.table.specs.Table.{Table, touches, between}
 use Rattle.table.specs.Slices.{Slices, table_of, slices_fault}
 use Rattle.std.specs.Prelude.{Ok, Err}
 use Rattle.refusals.specs.Refusals.{number_of}
 use Rattle.refusals.specs.declared.Refusal.{Refusal}
-use Rattle.refusals.proofs.Laws.{number_some, or_refused}
+use Rattle.refusals.proofs.Laws.{or_refused}
 use Rattle.probe_frame.specs.Frame.{Frame, frame_of, frame_fault, frame_read, ReadsFrame}
 use Rattle.probe_frame.specs.declared.FrameLine.{FrameLine}
-use Rattle.probe_rules.specs.declared.Event.{Event}
-use Rattle.probe_rules.specs.declared.Event.TheVariants.{Opening}
 use Rattle.probe_rules.specs.Frames.{number_fault, heard_of}
 use Rattle.probe_rules.specs.Within.{EventWithin}
 use Rattle.probe_maps.specs.Maps.{Maps, maps_fault, state_fault}
-use Rattle.probe_checks.specs.Checks.{frame_kind_fault, to_fault, probe_fault, own_link_fault, full_fault, heard_fault, HearsFrame, hear_fault, open_fault, link_call_fault}
+use Rattle.probe_checks.specs.Checks.{frame_kind_fault, to_fault, probe_fault, own_link_fault, full_fault, heard_fault, hear_fault, open_fault, link_call_fault}
 
 -- 9, 23, 24 of a frame
 abbrev pub heard_checks : Table → ℕ → Frame → ℕ
@@ -82,52 +80,18 @@ module _ (state : ℕ) (t : Table) (p : ℕ) where
       let own = unless_none (ltb i t.links && touches t p i) 23 (or_right state (own_link_fault t p i) f) in
       (or_left state (own_link_fault t p i) f, ltb-true i t.links (and_left (ltb i t.links) (touches t p i) own))
 
-  -- the fault of table and record is the call's, or the rest's is
-  module _ (r : ℕ) where
-    pub hear_early : (l : List ℕ) (free : ℕ) → r ≡ state → (r ≡ 0 → ⊥) → r ≡ hear_fault state t p l free
-    unfolding hear_fault
-    hear_early l free = or_here r state (or_else (heard_fault t p l) (full_fault free))
-
-    -- n is the frame's fault
-    pub hear_late : (l : List ℕ) (free n : ℕ) → state ≡ 0 → n ≡ heard_fault t p l → r ≡ or_else n (full_fault free) → r ≡ hear_fault state t p l free
-    unfolding hear_fault
-    hear_late l free n z is f = f ∙ or_same is refl ∙ sym (or_none state (or_else (heard_fault t p l) (full_fault free)) z)
-
-    pub open_early : (free : ℕ) → r ≡ state → (r ≡ 0 → ⊥) → r ≡ open_fault state t p free
-    unfolding open_fault
-    open_early free = or_here r state (or_else (probe_fault t p) (full_fault free))
-
-    pub open_late : (free : ℕ) → state ≡ 0 → r ≡ or_else (probe_fault t p) (full_fault free) → r ≡ open_fault state t p free
-    unfolding open_fault
-    open_late free z f = f ∙ sym (or_none state (or_else (probe_fault t p) (full_fault free)) z)
-
-    pub link_early : (i : ℕ) → r ≡ state → (r ≡ 0 → ⊥) → r ≡ link_call_fault state t p i
-    unfolding link_call_fault
-    link_early i = or_here r state (own_link_fault t p i)
-
-    pub link_late : (i : ℕ) → state ≡ 0 → r ≡ own_link_fault t p i → r ≡ link_call_fault state t p i
-    unfolding link_call_fault
-    link_late i z f = f ∙ sym (or_none state (own_link_fault t p i) z)
-
 -- A frame as the code reads it.
 
 module _ (t : Table) (p : ℕ) (l : List ℕ) where
   -- 1 or 2
-  pub heard_turned : (e : Refusal) → ReadsFrame l (Err e) → HearsFrame t p l (record { fault = number_of e; event = Opening })
+  pub heard_turned : (e : Refusal) → ReadsFrame l (Err e) → number_of e ≡ heard_fault t p l
   unfolding heard_fault
-  heard_turned e reads = (or_refused e (frame_fault l) (heard_checks t p (frame_of l)) reads.0, λ z. absurd (number_some e z))
+  heard_turned e reads = or_refused e (frame_fault l) (heard_checks t p (frame_of l)) reads.0
 
-  module _ (r : FrameLine) (reads : ReadsFrame l (Ok r)) where
-    of_frame : (n : ℕ) → n ≡ heard_checks t p (frame_read r) → n ≡ heard_fault t p l
-    unfolding heard_fault
-    of_frame n e = e ∙ ap (heard_checks t p) reads.1 ∙ sym (or_none (frame_fault l) (heard_checks t p (frame_of l)) (sym reads.0))
-
-    -- 9, 23 or 24
-    pub frame_turned : (n : ℕ) → n ≡ heard_checks t p (frame_read r) → (n ≡ 0 → ⊥) → HearsFrame t p l (record { fault = n; event = Opening })
-    frame_turned n e some = (of_frame n e, λ none. absurd (some none))
-
-    pub frame_heard : (v : Event) → heard_checks t p (frame_read r) ≡ 0 → v ≡ heard_of t (frame_read r) → HearsFrame t p l (record { fault = 0; event = v })
-    frame_heard v e is = (of_frame 0 (sym e), λ none. is ∙ ap (heard_of t) reads.1)
+  -- 9, 23, 24 or none
+  pub of_frame : (r : FrameLine) → ReadsFrame l (Ok r) → (n : ℕ) → n ≡ heard_checks t p (frame_read r) → n ≡ heard_fault t p l
+  unfolding heard_fault
+  of_frame r reads n e = e ∙ ap (heard_checks t p) reads.1 ∙ sym (or_none (frame_fault l) (heard_checks t p (frame_of l)) (sym reads.0))
 
 -- the code's tests of the kind
 pub no_kind : (k : ℕ) → k ≡ 0 → (eqb k 1 || eqb k 2) ≡ false

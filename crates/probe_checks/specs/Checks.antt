@@ -1,11 +1,13 @@
 -- The checks of one end alone: document 01, "Turned down for the state". A fault is a refusal's number, or 0 for none. `state` is the fault of the table in its slices and of the record, `state_fault`.
-use Rattle.std.specs.Prelude.{ℕ, ◌≡◌, cond, ◌&&◌, ◌||◌, List, ltb, eqb}
+use Rattle.std.specs.Prelude.{ℕ, ◌≡◌, cond, ◌&&◌, ◌||◌, List, ltb, eqb, Result, IfOk}
 use Rattle.range.specs.First.{or_else}
+use Rattle.refusals.specs.Refusals.{fault_of}
+use Rattle.refusals.specs.declared.Refusal.{Refusal}
 use Rattle.table.specs.Table.{Table, between}
 use Rattle.probe_frame.specs.Frame.{Frame, frame_of, frame_fault}
+use Rattle.probe_rules.specs.declared.Event.{Event}
 use Rattle.probe_rules.specs.Frames.{number_fault, heard_of}
 use Rattle.probe_maps.specs.Maps.{is_own}
-use Rattle.probe_checks.specs.declared.Heard.{Heard}
 
 -- 9: "Kind 01 is an offer, 02 a refusal"; an end alone knows no other
 abbrev pub frame_kind_fault : Frame → ℕ
@@ -32,9 +34,9 @@ heard_fault t p l =
     let f = frame_of l in
     or_else (frame_fault l) (or_else (frame_kind_fault f) (or_else (number_fault t f) (to_fault t p f)))
 
--- a frame's line was heard: its fault, and the event that it says where it has none
-abbrev pub HearsFrame : Table → ℕ → List ℕ → Heard → Type 0
-HearsFrame t p l h = (h.fault ≡ heard_fault t p l) × (h.fault ≡ 0 → h.event ≡ heard_of t (frame_of l))
+-- a frame's line was heard: its fault, or the event that it says
+abbrev pub HearsFrame : Table → ℕ → List ℕ → Result Event Refusal → Type 0
+HearsFrame t p l r = (fault_of r ≡ heard_fault t p l) × IfOk r (λ v. v ≡ heard_of t (frame_of l))
 
 -- "These come after the table's checks: 20, 21, 22, then the frame's 1, 2, 9, 23, 24, .. then 26."
 -- 02, No. 2: "A refusal of an untried link is now learnt." "Refusal 25 is withdrawn".

@@ -1,135 +1,89 @@
-// The faults of an end's calls, in their order, and what a frame says. `state` is the fault of the table and of the record.
-ghost use Rattle.std.specs.Prelude.{◌≡◌, cond, [], ◌≤◌, eqb, length};
-ghost use Rattle.table.specs.Table.{of_slices};
-ghost use Rattle.probe_frame.specs.Frame.{frame_of};
-ghost use Rattle.probe_rules.specs.declared.Event.TheVariants.{Opening, Offer, Refusal};
-ghost use Rattle.probe_rules.specs.Frames.{heard_of};
+// The checks of an end's calls behind those of its state, in their order, and what a frame says.
+ghost use Rattle.std.specs.Prelude.{◌≡◌, cond, ◌≤◌, eqb, length, IfOk};
+ghost use Rattle.refusals.specs.Refusals.{fault_of};
+ghost use Rattle.table.specs.Slices.{as_slices, table_of};
 ghost use Rattle.table_links.specs.RisingSlices.{RisingSlices};
+ghost use Rattle.probe_frame.specs.Frame.{frame_of};
+ghost use Rattle.probe_rules.specs.declared.Event.TheVariants as event;
+ghost use Rattle.probe_rules.specs.Frames.{heard_of};
 ghost use Rattle.probe_checks.specs.Checks.{HearsFrame, hear_fault, open_fault, link_call_fault};
 
-use super::Heard;
-
-fn refused(fault: u8) -> Heard
-    ensures { result ≡ record { fault = fault; event = Opening } }
-{
-    Heard {
-        fault,
-        event: probe_rules::Event::Opening,
-    }
-}
+use probe_rules::Event;
+use refusals::Refusal;
+use table::TableSlices;
 
 // What a frame says, by its kind and the link between its ends.
-fn event_of(kind: usize, link: usize) -> probe_rules::Event
-    ensures { result ≡ cond (eqb kind 1) (Offer link) (Refusal link) }
+fn event_of(kind: usize, link: usize) -> Event
+    ensures { result ≡ cond (eqb kind 1) (event.Offer link) (event.Refusal link) }
 {
     if kind == 1 {
-        return probe_rules::Event::Offer(link);
+        return Event::Offer(link);
     }
-    probe_rules::Event::Refusal(link)
+    Event::Refusal(link)
 }
 
 // 1, 2, 9, 23, 24 of a frame's line, or what it says. A bag's frames are read by this one by one.
-pub fn check_frame(
-    number: u16,
-    links: usize,
-    lows: &[u16],
-    highs: &[u16],
-    probe: usize,
-    frame: &[u8],
-) -> Heard
-    requires { RisingSlices links lows.now highs.now }
-    ensures { HearsFrame (of_slices number 0 links [] lows.now highs.now []) probe frame.now result }
+pub fn check_frame(table: TableSlices<'_>, probe: usize, frame: &[u8]) -> Result<Event, Refusal>
+    requires { RisingSlices table.links table.lows.now table.highs.now }
+    ensures { HearsFrame (table_of (as_slices table.entry)) probe frame.now result }
 {
-    let read = match probe_frame::frame_line::read_frame(frame) {
-        Ok(read) => read,
-        Err(refusal) => return refused(refusal.number()),
-    };
+    let read = probe_frame::frame_line::read_frame(frame)?;
     if read.kind == 0 {
-        return refused(9);
+        return Err(Refusal::Kind);
     }
     if 2 < read.kind {
-        return refused(9);
+        return Err(Refusal::Kind);
     }
-    if read.number != table::numbers::wide(number) {
-        return refused(23);
+    if read.number != table.number as usize {
+        return Err(Refusal::OtherTable);
     }
     if read.to != probe {
-        return refused(24);
+        return Err(Refusal::NotThere);
     }
-    let link = table_links::pairs::between(links, lows, highs, read.from, read.to);
+    let links = table.links as usize;
+    let link = table_links::pairs::between(links, table.lows, table.highs, read.from, read.to);
     if links <= link {
-        return refused(24);
+        return Err(Refusal::NotThere);
     }
-    Heard {
-        fault: 0,
-        event: event_of(read.kind, link),
-    }
+    Ok(event_of(read.kind, link))
 }
 
-// The faults of an opening.
-pub fn open_fault(state: u8, probes: usize, probe: usize, free: usize) -> u8
-    ensures { result ≡ open_fault state (of_slices 0 probes 0 [] [] [] []) probe free }
+// 24 and 26 of an opening.
+pub fn check_open(table: TableSlices<'_>, probe: usize, free: usize) -> Result<(), Refusal>
+    ensures { fault_of result ≡ open_fault 0 (table_of (as_slices table.entry)) probe free }
 {
-    if state != 0 {
-        return state;
-    }
-    if probes <= probe {
-        return 24;
+    if table.probes as usize <= probe {
+        return Err(Refusal::NotThere);
     }
     if free == 0 {
-        return 26;
+        return Err(Refusal::LogFull);
     }
-    0
+    Ok(())
 }
 
-// The faults of a frame heard, or what it says.
-pub fn check_hearing(
-    state: u8,
-    number: u16,
-    links: usize,
-    lows: &[u16],
-    highs: &[u16],
-    probe: usize,
-    frame: &[u8],
-    free: usize,
-) -> Heard
-    requires { state ≡ 0 → RisingSlices links lows.now highs.now }
-    ensures { let t = of_slices number 0 links [] lows.now highs.now [] in
-        (result.fault ≡ hear_fault state t probe frame.now free) × (result.fault ≡ 0 → result.event ≡ heard_of t (frame_of frame.now)) }
+// What a frame says, or its fault, then 26.
+pub fn check_hearing(table: TableSlices<'_>, probe: usize, frame: &[u8], free: usize) -> Result<Event, Refusal>
+    requires { RisingSlices table.links table.lows.now table.highs.now }
+    ensures { let t = table_of (as_slices table.entry) in
+        (fault_of result ≡ hear_fault 0 t probe frame.now free) × IfOk result (λ v. v ≡ heard_of t (frame_of frame.now)) }
 {
-    if state != 0 {
-        return refused(state);
-    }
-    let heard = check_frame(number, links, lows, highs, probe, frame);
-    if heard.fault != 0 {
-        return heard;
-    }
+    let event = check_frame(table, probe, frame)?;
     if free == 0 {
-        return refused(26);
+        return Err(Refusal::LogFull);
     }
-    heard
+    Ok(event)
 }
 
-// The faults of a call about one link.
-pub fn link_call_fault(
-    state: u8,
-    links: usize,
-    lows: &[u16],
-    highs: &[u16],
-    probe: usize,
-    link: usize,
-) -> u8
-    requires { state ≡ 0 → (links ≤ length lows.now) × (links ≤ length highs.now) }
-    ensures { result ≡ link_call_fault state (of_slices 0 0 links [] lows.now highs.now []) probe link }
+// 24 of a call about one link.
+pub fn check_link_call(table: TableSlices<'_>, probe: usize, link: usize) -> Result<(), Refusal>
+    requires { (table.links ≤ length table.lows.now) × (table.links ≤ length table.highs.now) }
+    ensures { fault_of result ≡ link_call_fault 0 (table_of (as_slices table.entry)) probe link }
 {
-    if state != 0 {
-        return state;
+    if table.links as usize <= link {
+        return Err(Refusal::NotThere);
     }
-    if links <= link {
-        return 24;
+    if !table_links::ends::touches(table.lows, table.highs, probe, link) {
+        return Err(Refusal::NotThere);
     }
-    if !table_links::ends::touches(lows, highs, probe, link) {
-        return 24;
-    }
-    0
+    Ok(())
 }
