@@ -2,16 +2,20 @@
 use Prim.Native.Nat.{ℕ, ◌<◌}
 use mathlib.Core.Path.{◌≡◌, sym, ◌∙◌, ap}
 use mathlib.Core.Bool.{◌&&◌}
-use mathlib.Core.List.{List, []}
+use mathlib.Core.List.{List}
 use mir.Syntax.{w64}
 use mir.Val.{Fits}
 use lib.ListN.{get_or}
 use borrow.Author.Tests.{ne_eqb}
-use Rattle.table.specs.Table.{Table, of_slices, other}
+use Rattle.std.specs.Prelude.{Result, Ok, IfOk, ⊤}
+use Rattle.std.proofs.lemmas.Result.{IfOk-at_ok}
+use Rattle.refusals.specs.Refusals.{number_of, fault_of}
+use Rattle.refusals.specs.declared.Refusal.{Refusal}
+use Rattle.refusals.proofs.Laws.{number_some, or_refused}
+use Rattle.table.specs.Table.{Table, other}
 use Rattle.table.specs.Legal.{Legal}
 use Rattle.table.specs.Slices.{Slices, table_of, slices_fault}
 use Rattle.bit_maps.specs.BitMap.{bit}
-use Rattle.range.specs.First.{or_else}
 use Rattle.range.specs.Reply.{values}
 use Rattle.wake_log.specs.declared.Entry.{Entry}
 use Rattle.wake_log.specs.Entry.{entry_values}
@@ -26,7 +30,7 @@ use Rattle.probe_maps.specs.GoodMaps.{GoodMaps}
 use Rattle.probe_maps.proofs.Rounds.{is_standing, is_refused_in, is_held}
 use Rattle.probe_maps.proofs.Faults.{good_maps}
 use Rattle.probe_checks.specs.Checks.{own_link_fault, link_call_fault}
-use Rattle.probe_checks.proofs.Accepted.{state_parts, link_parts}
+use Rattle.probe_checks.proofs.Accepted.{state_parts}
 use Rattle.probe_maps.specs.MapRules.{befalls_maps, alter_maps}
 use Rattle.probe.specs.declared.Kind.{Kind}
 use Rattle.probe.specs.declared.Kind.TheVariants as kind
@@ -35,6 +39,14 @@ use Rattle.probe.specs.Answers.{Befallen, asked_event, asked_bit, asked_frame}
 pub refused_call : (fault : ℕ) (t : Table) (p : ℕ) (event : Event) (r : ℕ) (m : Maps) → r ≡ fault → (r ≡ 0 → ⊥) → Befallen fault t p event (Refused r) m m
 refused_call fault t p event r m same n =
     record { answer = rw (← same, ne_eqb r 0 n); maps_after_lem = rw (← same, ne_eqb r 0 n) }
+
+-- by the refusal that was found
+pub refused_by : (fault : ℕ) (t : Table) (p : ℕ) (event : Event) (d : Refusal) (r : ℕ) (m : Maps) → r ≡ number_of d → number_of d ≡ fault → Befallen fault t p event (Refused r) m m
+refused_by fault t p event d r m is same = refused_call fault t p event r m (is ∙ same) (λ z. number_some d (sym is ∙ z))
+
+-- a check that found nothing, and what it says then
+pub passed : {Q : Type 0} {fault : ℕ} {r : Result ⊤ Refusal} {u : ⊤} → r ≡ Ok u → (fault_of r ≡ fault) × IfOk r (λ v. Q) → (fault ≡ 0) × Q
+passed {Q} is h = (sym h.0 ∙ ap fault_of is, IfOk-at_ok (λ v. Q) is h.1)
 
 pub accepted_call : (fault : ℕ) (t : Table) (p : ℕ) (event : Event) (m : Maps) (entry : Entry) (after : Maps) → fault ≡ 0
     → entry ≡ entry_of t p (befalls_maps t p event m) → after ≡ alter_maps t.links (befalls_maps t p event m) m
@@ -58,17 +70,13 @@ good_state x p m words f =
     let parts = state_parts x p m f in
     (parts.0, good_maps (table_of x) p m words parts.1)
 
--- a call about one link, whose state was checked before
-module _ (x : Slices) (p i : ℕ) (m : Maps) (state fault : ℕ) (is_state : state ≡ state_fault x p m) (is : fault ≡ link_call_fault state (of_slices 0 0 x.links [] x.lows x.highs []) p i) where
-  pub call_fault : fault ≡ link_call_fault (state_fault x p m) (table_of x) p i
-  unfolding link_call_fault
-  call_fault = is ∙ ap (λ (n : ℕ). or_else n (own_link_fault (table_of x) p i)) is_state
+-- the fault of a call about one link whose state has none
+pub call_same : (state : ℕ) (t : Table) (p i : ℕ) → state ≡ 0 → link_call_fault 0 t p i ≡ link_call_fault state t p i
+call_same state t p i none = ap (λ (n : ℕ). link_call_fault n t p i) (sym none)
 
-  pub call_passed : AllWords m → fault ≡ 0 → (i < x.links) × (slices_fault x ≡ 0) × GoodMaps (table_of x) p m
-  call_passed words none =
-      let parts = link_parts (state_fault x p m) (table_of x) p i (sym call_fault ∙ none) in
-      let good = good_state x p m words parts.0 in
-      (parts.1, good.0, good.1)
+pub call_state : (d : Refusal) (state : ℕ) (t : Table) (p i : ℕ) → number_of d ≡ state → number_of d ≡ link_call_fault state t p i
+unfolding link_call_fault
+call_state d state t p i = or_refused d state (own_link_fault t p i)
 
 module _ (t : Table) (p : ℕ) (m : Maps) (good : GoodMaps t p m) where
   -- what an end is asked for may be sent by the bit that lets it

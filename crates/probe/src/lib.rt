@@ -6,6 +6,7 @@ ghost use Rattle.table.specs.Slices.{as_slices};
 ghost use Rattle.probe_maps.specs.Maps.{rows};
 ghost use Rattle.probe.specs.Answers.{Opens, Hears, AsksFor, resting_reply, whether_rests};
 
+use probe_checks::faults;
 use table::TableSlices;
 
 pub mod steps;
@@ -47,7 +48,7 @@ pub fn open(
         Opens (as_slices table.entry) probe free result before after }
 {
     let mut own = [0u64; 32];
-    let state = probe_state::states::check_state(
+    if let Err(refusal) = probe_state::states::check_state(
         table,
         probe,
         standing,
@@ -55,15 +56,11 @@ pub fn open(
         held,
         refused_in,
         &mut own,
-    );
-    let fault = probe_checks::faults::open_fault(
-        state,
-        table.probes as usize,
-        probe as usize,
-        free,
-    );
-    if fault != 0 {
-        return wake_log::Answer::Refused(fault);
+    ) {
+        return wake_log::Answer::Refused(refusal.number());
+    }
+    if let Err(refusal) = faults::check_open(table, probe as usize, free) {
+        return wake_log::Answer::Refused(refusal.number());
     }
     let e = probe_decisions::steps::apply(
         probe_rules::Event::Opening,
@@ -94,7 +91,7 @@ pub fn hear(
         Hears (as_slices table.entry) probe frame.now free result before after }
 {
     let mut own = [0u64; 32];
-    let state = probe_state::states::check_state(
+    if let Err(refusal) = probe_state::states::check_state(
         table,
         probe,
         standing,
@@ -102,21 +99,13 @@ pub fn hear(
         held,
         refused_in,
         &mut own,
-    );
-    let heard = probe_checks::faults::check_hearing(
-        state,
-        table.number,
-        table.links as usize,
-        table.lows,
-        table.highs,
-        probe as usize,
-        frame,
-        free,
-    );
-    if heard.fault != 0 {
-        return wake_log::Answer::Refused(heard.fault);
+    ) {
+        return wake_log::Answer::Refused(refusal.number());
     }
-    let event = heard.event;
+    let event = match faults::check_hearing(table, probe as usize, frame, free) {
+        Ok(event) => event,
+        Err(refusal) => return wake_log::Answer::Refused(refusal.number()),
+    };
     let e = probe_decisions::steps::apply(
         event,
         &mut own,
@@ -149,7 +138,7 @@ pub fn ask(
         return Asked::Refused(8);
     }
     let mut own = [0u64; 32];
-    let state = probe_state::states::check_state(
+    if let Err(refusal) = probe_state::states::check_state(
         table,
         probe,
         standing,
@@ -157,17 +146,11 @@ pub fn ask(
         held,
         refused_in,
         &mut own,
-    );
-    let fault = probe_checks::faults::link_call_fault(
-        state,
-        table.links as usize,
-        table.lows,
-        table.highs,
-        probe as usize,
-        link as usize,
-    );
-    if fault != 0 {
-        return Asked::Refused(fault);
+    ) {
+        return Asked::Refused(refusal.number());
+    }
+    if let Err(refusal) = faults::check_link_call(table, probe as usize, link as usize) {
+        return Asked::Refused(refusal.number());
     }
     if !steps::is_sendable(kind, standing, refused_in, link as usize) {
         return Asked::NotNow;
@@ -191,7 +174,7 @@ pub fn rests(
         resting_reply result ≡ whether_rests (as_slices table.entry) probe m link }
 {
     let mut own = [0u64; 32];
-    let state = probe_state::states::check_state(
+    if let Err(refusal) = probe_state::states::check_state(
         table,
         probe,
         standing,
@@ -199,17 +182,11 @@ pub fn rests(
         held,
         refused_in,
         &mut own,
-    );
-    let fault = probe_checks::faults::link_call_fault(
-        state,
-        table.links as usize,
-        table.lows,
-        table.highs,
-        probe as usize,
-        link as usize,
-    );
-    if fault != 0 {
-        return Resting::Refused(fault);
+    ) {
+        return Resting::Refused(refusal.number());
+    }
+    if let Err(refusal) = faults::check_link_call(table, probe as usize, link as usize) {
+        return Resting::Refused(refusal.number());
     }
     Resting::Rests(steps::in_both(standing, held, link as usize))
 }
