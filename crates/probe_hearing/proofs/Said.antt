@@ -46,22 +46,7 @@ module _ (t : Table) (ls : List (List ℕ)) (said₀ said : List ℕ) (count : �
   pub said_events : map unpacked_event (take count said) ≡ events_of t ls
   said_events = ap (map unpacked_event) first_said ∙ told_events t ls
 
-  said_own : (p : ℕ) → frames_fault t p ls ≡ 0 → (k : ℕ) → k < count → OwnEvent t p (unpacked_event (get_or said k 0))
+  pub said_own : (p : ℕ) → frames_fault t p ls ≡ 0 → (k : ℕ) → k < count → OwnEvent t p (unpacked_event (get_or said k 0))
   said_own p fine k l =
       let n = ap length first_said ∙ as_many in
       rw (get_or-take count said k 0 l) at (own_packed t p (take count said) (rw said_events (all_own t p ls fine)) k (omega (arith, n, l)))
-
--- an own link is told by the links alone
-own_plain : (number probes links : ℕ) (needs lows highs costs : List ℕ) (p : ℕ) (v : Event) → OwnEvent (of_slices number probes links [] lows highs []) p v
-    → OwnEvent (of_slices number probes links needs lows highs costs) p v
-own_plain number probes links needs lows highs costs p Opening o = o
-own_plain number probes links needs lows highs costs p (Offer i) o = o
-own_plain number probes links needs lows highs costs p (Refusal i) o = o
-
-pub said_plain : (number probes links : ℕ) (needs lows highs costs : List ℕ) (p : ℕ) (ls : List (List ℕ)) (said₀ said : List ℕ) (count : ℕ) → count ≡ length ls
-    → length ls ≤ length said₀ → said ≡ sets said₀ 0 (map packed_event (events_of (of_slices number probes links [] lows highs []) ls))
-    → frames_fault (of_slices number probes links [] lows highs []) p ls ≡ 0 → (k : ℕ) → k < count
-    → OwnEvent (of_slices number probes links needs lows highs costs) p (unpacked_event (get_or said k 0))
-said_plain number probes links needs lows highs costs p ls said₀ said count is room stored fine k l =
-    own_plain number probes links needs lows highs costs p (unpacked_event (get_or said k 0))
-    (said_own (of_slices number probes links [] lows highs []) ls said₀ said count is room stored p fine k l)

@@ -1,12 +1,17 @@
 // A bag of frames heard by one end: its frames counted, read and heard, each once; the entries told by value.
 #![tactic(auto)]
 
+ghost use Rattle.std.specs.Prelude.{◌≡◌, []};
+ghost use Rattle.refusals.specs.Refusals.{number_of};
 ghost use Rattle.table.specs.Slices.{as_slices};
+ghost use Rattle.bag_entries.specs.Entries.{entries_of};
+ghost use Rattle.probe_bags.specs.declared.Hearing.TheVariants.{Refused};
 ghost use Rattle.probe_maps.specs.Maps.{rows};
 ghost use Rattle.probe_hearing.specs.Told.{HearsBagTold};
 
 use bag_entries::Entries;
 use probe_bags::Hearing;
+use refusals::Refusal;
 use table::TableSlices;
 
 mod checks;
@@ -19,6 +24,16 @@ mod hearing;
 pub struct ToldBag {
     pub entries: Entries,
     pub answer: Hearing,
+}
+
+// A bag that is refused.
+fn refused(refusal: Refusal) -> ToldBag
+    ensures { result ≡ record { entries = entries_of []; answer = Refused (number_of refusal) } }
+{
+    ToldBag {
+        entries: hearing::no_entries(),
+        answer: Hearing::Refused(refusal.number()),
+    }
 }
 
 // The probe hears a bag, of any bytes; `used` of the log's `room` entries are used.
@@ -38,7 +53,7 @@ pub fn tell_bag(
         HearsBagTold (as_slices table.entry) probe bag.now used room result before after }
 {
     let mut own = [0u64; 32];
-    let state = probe_state::states::check_state(
+    if let Err(refusal) = probe_state::states::check_state(
         table,
         probe,
         standing,
@@ -46,29 +61,18 @@ pub fn tell_bag(
         held,
         refused_in,
         &mut own,
-    );
-    let mut said = [0u16; 64];
-    let checked = checks::check_bag(
-        state,
-        table.number,
-        table.probes as usize,
-        table.links as usize,
-        table.lows,
-        table.highs,
-        probe as usize,
-        bag,
-        wake_log::storing::free(used, room),
-        &mut said,
-    );
-    if checked.fault != 0 {
-        return ToldBag {
-            entries: hearing::no_entries(),
-            answer: Hearing::Refused(checked.fault),
-        };
+    ) {
+        return refused(refusal);
     }
+    let mut said = [0u16; 64];
+    let free = wake_log::storing::free(used, room);
+    let count = match checks::check_bag(table, probe as usize, bag, free, &mut said) {
+        Ok(count) => count,
+        Err(refusal) => return refused(refusal),
+    };
     let entries = hearing::hear_frames(
         &said,
-        checked.count,
+        count,
         &mut own,
         table,
         probe,
@@ -79,6 +83,6 @@ pub fn tell_bag(
     );
     ToldBag {
         entries,
-        answer: Hearing::Heard(checked.count),
+        answer: Hearing::Heard(count),
     }
 }
