@@ -1,6 +1,7 @@
 // 20, 21 and 22 of a fleet's record.
-ghost use Rattle.std.specs.Prelude.{◌≡◌, [], ℕ, ◌+◌, ◌*◌, ◌-◌, ◌<◌, ◌≤◌, length, get_or};
+ghost use Rattle.std.specs.Prelude.{◌≡◌, [], ℕ, ◌+◌, ◌*◌, ◌-◌, ◌<◌, ◌≤◌, length, get_or, IfOk};
 ghost use Rattle.range.specs.First.{or_else, first};
+ghost use Rattle.refusals.specs.Refusals.{fault_of};
 ghost use Rattle.table.specs.Slices.{table_of, slices_fault, as_slices};
 ghost use Rattle.probe_record.specs.Record.{spare_fault};
 ghost use Rattle.table.specs.Table.{item, Degrees};
@@ -8,6 +9,7 @@ ghost use Rattle.fleet_theory.specs.Fleet.{own, wrong_byte, link_bytes_fault, fl
 ghost use Rattle.fleet_state.specs.Faults.{over_fault, wrong_link};
 ghost use Rattle.fleet_state.specs.Within.{LegalWithoutCosts};
 
+use refusals::Refusal;
 use table::TableSlices;
 use table::checks::check_slices;
 
@@ -35,48 +37,48 @@ fn is_wrong_link(rec: &[u8], i: usize) -> bool
 
 // 21.
 #[tactic(auto, using(range::proofs::Faults::first_none, range::proofs::Faults::first_some, crate::proofs::CheckLaws::wrong_link_lem), unfolding(range::specs::First::first))]
-fn bytes_fault(rec: &[u8], links: usize) -> u8
+fn check_bytes(rec: &[u8], links: usize) -> Result<(), Refusal>
     requires { (links ≤ 65535) × (8 * links ≤ length rec.now) }
-    ensures { result ≡ first (link_bytes_fault rec.now) links }
+    ensures { fault_of result ≡ first (link_bytes_fault rec.now) links }
 {
     for i in 0..links {
         if is_wrong_link(rec, i) {
-            return 21;
+            return Err(Refusal::RecordByte);
         }
     }
-    0
+    Ok(())
 }
 
 // 22, by the probes' counts.
 #[tactic(auto, using(range::proofs::Faults::first_none, range::proofs::Faults::first_some), unfolding(range::specs::First::first))]
-fn over_spare_fault(
+fn check_counts(
     probes: usize,
     needs: &[u16],
     degrees: &[u16],
     standing: &[u16],
     held: &[u16],
-) -> u8
+) -> Result<(), Refusal>
     requires { (probes ≤ length degrees.now) × (probes ≤ length standing.now) × (probes ≤ length held.now) }
-    ensures { result ≡ first (λ v. over_fault (item degrees.now v - item needs.now v) (item standing.now v) (item held.now v)) probes }
+    ensures { fault_of result ≡ first (λ v. over_fault (item degrees.now v - item needs.now v) (item standing.now v) (item held.now v)) probes }
 {
     for v in 0..probes {
         let spare = table_links::spares::spare_at(degrees, needs, v);
         if spare < standing[v] as usize {
-            return 22;
+            return Err(Refusal::OverSpare);
         }
         if spare < held[v] as usize {
-            return 22;
+            return Err(Refusal::OverSpare);
         }
     }
-    0
+    Ok(())
 }
 
 // 22; counts each probe's links into zeros.
-fn spares_fault(table: TableSlices<'_>, rec: &[u8], degrees: &mut [u16]) -> u8
+fn check_spares(table: TableSlices<'_>, rec: &[u8], degrees: &mut [u16]) -> Result<(), Refusal>
     requires { LegalWithoutCosts table.probes table.links table.needs.now table.lows.now table.highs.now × (8 * table.links ≤ length rec.now)
         × (length degrees.old ≡ 256) × ((v : ℕ) → get_or degrees.old v 0 ≡ 0) }
     ensures { let t = table_of (as_slices table.entry) in
-        (result ≡ first (λ p. spare_fault t p (own t p rec.now)) table.entry.probes) × Degrees t degrees.new }
+        (fault_of result ≡ first (λ p. spare_fault t p (own t p rec.now)) table.entry.probes) × Degrees t degrees.new }
 {
     let probes = table.probes as usize;
     let links = table.links as usize;
@@ -85,34 +87,30 @@ fn spares_fault(table: TableSlices<'_>, rec: &[u8], degrees: &mut [u16]) -> u8
     table::degrees::count_degrees(degrees, links, table.lows, table.highs);
     super::counts::count_bytes(&mut standing, rec, links, table.lows, table.highs, 0, 2, 1);
     super::counts::count_bytes(&mut held, rec, links, table.lows, table.highs, 3, 1, 1);
-    over_spare_fault(probes, table.needs, degrees, &standing, &held)
+    check_counts(probes, table.needs, degrees, &standing, &held)
 }
 
 // 20, 21, 22; where there is none, each probe's links are counted.
-fn fleet_fault(table: TableSlices<'_>, rec: &[u8], degrees: &mut [u16]) -> u8
+fn check_fleet(table: TableSlices<'_>, rec: &[u8], degrees: &mut [u16]) -> Result<(), Refusal>
     requires { LegalWithoutCosts table.probes table.links table.needs.now table.lows.now table.highs.now × (length degrees.old ≡ 256) × ((v : ℕ) → get_or degrees.old v 0 ≡ 0) }
     ensures { let t = table_of (as_slices table.entry) in
-        (result ≡ fleet_fault t rec.now) × (result ≡ 0 → Degrees t degrees.new) }
+        (fault_of result ≡ fleet_fault t rec.now) × IfOk result (λ u. Degrees t degrees.new) }
 {
     let links = table.links as usize;
     if rec.len() != 8 * links {
-        return 20;
+        return Err(Refusal::RecordLength);
     }
-    let fault = bytes_fault(rec, links);
-    if fault != 0 {
-        return fault;
-    }
-    spares_fault(table, rec, degrees)
+    check_bytes(rec, links)?;
+    check_spares(table, rec, degrees)?;
+    Ok(())
 }
 
 // The table's own, then 20, 21, 22; where there is none, each probe's links are counted into zeros.
-pub fn state_fault(table: TableSlices<'_>, rec: &[u8], degrees: &mut [u16]) -> u8
+pub fn check_state(table: TableSlices<'_>, rec: &[u8], degrees: &mut [u16]) -> Result<(), Refusal>
     requires { (length degrees.old ≡ 256) × ((v : ℕ) → get_or degrees.old v 0 ≡ 0) }
     ensures { let x = as_slices table.entry in
-        (result ≡ or_else (slices_fault x) (fleet_fault (table_of x) rec.now)) × (result ≡ 0 → Degrees (table_of x) degrees.new) }
+        (fault_of result ≡ or_else (slices_fault x) (fleet_fault (table_of x) rec.now)) × IfOk result (λ u. Degrees (table_of x) degrees.new) }
 {
-    if let Err(refusal) = check_slices(256, 2048, table) {
-        return refusal.number();
-    }
-    fleet_fault(table, rec, degrees)
+    check_slices(256, 2048, table)?;
+    check_fleet(table, rec, degrees)
 }

@@ -7,9 +7,7 @@ use mir.Syntax.{w64}
 use mir.Val.{Fits}
 use lib.ListN.{get_or}
 use borrow.Author.Tests.{ne_eqb}
-use Rattle.std.specs.Prelude.{Result, Ok, IfOk, ⊤}
-use Rattle.std.proofs.lemmas.Result.{IfOk-at_ok}
-use Rattle.refusals.specs.Refusals.{number_of, fault_of}
+use Rattle.refusals.specs.Refusals.{number_of}
 use Rattle.refusals.specs.declared.Refusal.{Refusal}
 use Rattle.refusals.proofs.Laws.{number_some, or_refused}
 use Rattle.table.specs.Table.{Table, other}
@@ -43,10 +41,6 @@ refused_call fault t p event r m same n =
 -- by the refusal that was found
 pub refused_by : (fault : ℕ) (t : Table) (p : ℕ) (event : Event) (d : Refusal) (r : ℕ) (m : Maps) → r ≡ number_of d → number_of d ≡ fault → Befallen fault t p event (Refused r) m m
 refused_by fault t p event d r m is same = refused_call fault t p event r m (is ∙ same) (λ z. number_some d (sym is ∙ z))
-
--- a check that found nothing, and what it says then
-pub passed : {Q : Type 0} {fault : ℕ} {r : Result ⊤ Refusal} {u : ⊤} → r ≡ Ok u → (fault_of r ≡ fault) × IfOk r (λ v. Q) → (fault ≡ 0) × Q
-passed {Q} is h = (sym h.0 ∙ ap fault_of is, IfOk-at_ok (λ v. Q) is h.1)
 
 pub accepted_call : (fault : ℕ) (t : Table) (p : ℕ) (event : Event) (m : Maps) (entry : Entry) (after : Maps) → fault ≡ 0
     → entry ≡ entry_of t p (befalls_maps t p event m) → after ≡ alter_maps t.links (befalls_maps t p event m) m

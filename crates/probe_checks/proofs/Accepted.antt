@@ -13,8 +13,9 @@ use Rattle.range.proofs.Bools.{and_left, and_right, unless_none, decided}
 use Rattle.range.proofs.Faults.{or_none, or_left, or_right}
 use Rattle.table.specs.Table.{Table, touches, between}
 use Rattle.table.specs.Slices.{Slices, table_of, slices_fault}
-use Rattle.std.specs.Prelude.{Ok, Err}
-use Rattle.refusals.specs.Refusals.{number_of}
+use Rattle.std.specs.Prelude.{Result, Ok, Err, IfOk, ⊤}
+use Rattle.std.proofs.lemmas.Result.{IfOk-at_ok}
+use Rattle.refusals.specs.Refusals.{number_of, fault_of}
 use Rattle.refusals.specs.declared.Refusal.{Refusal}
 use Rattle.refusals.proofs.Laws.{or_refused}
 use Rattle.probe_frame.specs.Frame.{Frame, frame_of, frame_fault, frame_read, ReadsFrame}
@@ -23,6 +24,10 @@ use Rattle.probe_rules.specs.Frames.{number_fault, heard_of}
 use Rattle.probe_rules.specs.Within.{EventWithin}
 use Rattle.probe_maps.specs.Maps.{Maps, maps_fault, state_fault}
 use Rattle.probe_checks.specs.Checks.{frame_kind_fault, to_fault, probe_fault, own_link_fault, full_fault, heard_fault, hear_fault, open_fault, link_call_fault}
+
+-- a check that found nothing, and what it says then
+pub passed : {Q : Type 0} {fault : ℕ} {r : Result ⊤ Refusal} {u : ⊤} → r ≡ Ok u → (fault_of r ≡ fault) × IfOk r (λ v. Q) → (fault ≡ 0) × Q
+passed {Q} is h = (sym h.0 ∙ ap fault_of is, IfOk-at_ok (λ v. Q) is h.1)
 
 -- 9, 23, 24 of a frame
 abbrev pub heard_checks : Table → ℕ → Frame → ℕ

@@ -1,12 +1,10 @@
 -- A bag that is refused, and one that is heard.
 use Prim.Native.Nat.{ℕ}
-use mathlib.Core.Path.{◌≡◌, sym, ◌∙◌, ap}
+use mathlib.Core.Path.{◌≡◌, ◌∙◌, ap}
 use mathlib.Core.List.{List, []}
 use lib.ListN.{length}
 use borrow.Author.Tests.{ne_eqb}
-use Rattle.std.specs.Prelude.{Result, Ok, IfOk, ⊤}
-use Rattle.std.proofs.lemmas.Result.{IfOk-at_ok}
-use Rattle.refusals.specs.Refusals.{number_of, fault_of}
+use Rattle.refusals.specs.Refusals.{number_of}
 use Rattle.refusals.specs.declared.Refusal.{Refusal}
 use Rattle.refusals.proofs.Laws.{number_some}
 use Rattle.table.specs.Table.{Table}
@@ -18,10 +16,6 @@ use Rattle.probe_bags.specs.declared.Hearing.TheVariants.{Heard, Refused}
 use Rattle.probe_bags.specs.Bag.{events_of, maps_after, entries_after}
 use Rattle.probe_hearing.specs.declared.ToldBag.{ToldBag}
 use Rattle.probe_hearing.specs.Told.{ToldBagCall}
-
--- a check that found nothing, and what it says then
-pub passed : {Q : Type 0} {fault : ℕ} {r : Result ⊤ Refusal} {u : ⊤} → r ≡ Ok u → (fault_of r ≡ fault) × IfOk r (λ v. Q) → (fault ≡ 0) × Q
-passed {Q} is h = (sym h.0 ∙ ap fault_of is, IfOk-at_ok (λ v. Q) is h.1)
 
 pub refused_bag : (fault : ℕ) (t : Table) (p : ℕ) (ls : List (List ℕ)) (d : Refusal) (r : ToldBag) (m : Maps) → r ≡ record { entries = entries_of []; answer = Refused (number_of d) }
     → number_of d ≡ fault → ToldBagCall fault t p ls r m m

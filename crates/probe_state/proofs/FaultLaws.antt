@@ -10,8 +10,6 @@ use lib.ListN.{length, get_or}
 use lib.Bits.{bit_and, bit_or, and_lt, or_lt}
 use borrow.Author.Tests.{lt-ltb, le-ltb, eqb-true}
 use Rattle.range.specs.First.{or_else, first}
-use Rattle.std.specs.Prelude.{Result, Ok, Err, IfOk}
-use Rattle.refusals.specs.declared.Refusal.{Refusal}
 use Rattle.range.proofs.Bools.{and_left, and_right, or_false_right, unless_none, when_none}
 use Rattle.range.proofs.Faults.{or_none, or_some, first_same, first_all, none_first, first_parts}
 use Rattle.bit_maps.specs.BitMap.{words_for, word_bit, map_of}
@@ -162,11 +160,6 @@ own_bits t p words m own n r is long l e =
 
 pub length_own : (t : Table) (p words : ℕ) (own : List ℕ) → own ≡ map_of (is_own t p) words → length own ≡ words
 length_own t p words own is = ap (λ (m : List ℕ). length m) is ∙ length_map_of (is_own t p) words
-
--- what is so however a call answers
-pub if_ok : {A : Type 0} (P : A → Type 0) (r : Result A Refusal) → ((x : A) → P x) → IfOk r P
-if_ok P (Ok x) h = h x
-if_ok P (Err e) h = tt
 
 -- 22, by a spare and two counts
 abbrev over_fault : ℕ → ℕ → ℕ → ℕ

@@ -37,5 +37,6 @@ pub fn check_state(
     own::own_map(links, table.lows, table.highs, probe, own);
     words::check_bits(standing, refused_out, held, refused_in, own)?;
     let spare = own::spare(own, table.needs, probe as usize);
-    words::check_ones(spare, standing, held)
+    words::check_ones(spare, standing, held)?;
+    Ok(())
 }

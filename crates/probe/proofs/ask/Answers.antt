@@ -8,8 +8,8 @@ use Rattle.table.specs.Slices.{table_of, as_slices}
 use Rattle.table.proofs.Slices.{legal_slices}
 use Rattle.probe_maps.specs.Maps.{rows, state_fault}
 use Rattle.probe_checks.specs.Checks.{link_call_fault}
-use Rattle.probe_checks.proofs.Accepted.{state_parts, link_parts}
-use Rattle.probe.proofs.Calls.{passed, all_words, good_state, call_state, asked_bit_lem}
+use Rattle.probe_checks.proofs.Accepted.{passed, state_parts, link_parts}
+use Rattle.probe.proofs.Calls.{all_words, good_state, call_state, asked_bit_lem}
 use Rattle.probe.proofs.ask.Goals as goal
 
 pub returns-then-out-lt15 : goal.returns-then-out-lt15

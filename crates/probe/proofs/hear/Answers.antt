@@ -11,8 +11,8 @@ use Rattle.probe_frame.specs.Frame.{frame_of}
 use Rattle.probe_rules.specs.Frames.{heard_of}
 use Rattle.probe_maps.specs.Maps.{rows}
 use Rattle.probe_checks.specs.Checks.{hear_fault}
-use Rattle.probe_checks.proofs.Accepted.{state_parts, hear_parts, heard_within}
-use Rattle.probe.proofs.Calls.{refused_by, passed, accepted_call, all_words, good_state}
+use Rattle.probe_checks.proofs.Accepted.{passed, state_parts, hear_parts, heard_within}
+use Rattle.probe.proofs.Calls.{refused_by, accepted_call, all_words, good_state}
 use Rattle.probe.proofs.hear.Goals as goal
 
 pub returns-in-Err : goal.returns-in-Err

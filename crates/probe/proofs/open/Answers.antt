@@ -8,7 +8,8 @@ use Rattle.table_links.proofs.OrderedLinks.{ordered_links}
 use Rattle.probe_rules.specs.declared.Event.TheVariants.{Opening}
 use Rattle.probe_maps.specs.Maps.{rows}
 use Rattle.probe_checks.specs.Checks.{open_fault}
-use Rattle.probe.proofs.Calls.{refused_by, passed, accepted_call, all_words, good_state}
+use Rattle.probe_checks.proofs.Accepted.{passed}
+use Rattle.probe.proofs.Calls.{refused_by, accepted_call, all_words, good_state}
 use Rattle.probe.proofs.open.Goals as goal
 
 pub returns-in-Err : goal.returns-in-Err

@@ -8,8 +8,8 @@ use Rattle.table.specs.Slices.{table_of, as_slices}
 use Rattle.table.proofs.Slices.{legal_slices}
 use Rattle.probe_maps.specs.Maps.{rows, state_fault}
 use Rattle.probe_checks.specs.Checks.{link_call_fault}
-use Rattle.probe_checks.proofs.Accepted.{state_parts, link_parts}
-use Rattle.probe.proofs.Calls.{passed, all_words, good_state, call_state, rests_bits}
+use Rattle.probe_checks.proofs.Accepted.{passed, state_parts, link_parts}
+use Rattle.probe.proofs.Calls.{all_words, good_state, call_state, rests_bits}
 use Rattle.probe.proofs.rests.Goals as goal
 
 pub returns-in-Err : goal.returns-in-Err

@@ -11,11 +11,11 @@ use Rattle.table_links.proofs.OrderedLinks.{ordered_links}
 use Rattle.table_links.proofs.Search.{ordered}
 use Rattle.probe_maps.specs.Maps.{Maps, AllWords, rows, state_fault}
 use Rattle.probe_maps.proofs.Faults.{good_maps}
-use Rattle.probe_checks.proofs.Accepted.{state_parts}
+use Rattle.probe_checks.proofs.Accepted.{passed, state_parts}
 use Rattle.probe_bags.specs.Bag.{frames_of, bag_fault, hears_bag_fault}
 use Rattle.probe_bags.proofs.Faults.{no_fault, none_many}
 use Rattle.probe_hearing.proofs.Said.{said_events, said_own}
-use Rattle.probe_hearing.proofs.Told.{passed, refused_bag, heard_bag}
+use Rattle.probe_hearing.proofs.Told.{refused_bag, heard_bag}
 use Rattle.probe_hearing.proofs.tell_bag.Goals as goal
 
 -- where the state has no fault, the bag's is that of the whole call

@@ -11,7 +11,7 @@ use Rattle.table.specs.Table.{spare}
 use Rattle.table.specs.Slices.{Slices, table_of, slices_fault, LegalSlices, as_slices}
 use Rattle.table.proofs.Slices.{legal_slices}
 use Rattle.probe_maps.specs.Maps.{Maps, rows, is_own, maps_length_fault}
-use Rattle.probe_state.proofs.FaultLaws.{lengths_passed, own_bits, length_own, ones_by_spare, if_ok}
+use Rattle.probe_state.proofs.FaultLaws.{lengths_passed, own_bits, length_own, ones_by_spare}
 use Rattle.probe_state.proofs.states.check_state.Goals as goal
 
 pub returns-in_err-check_slices : goal.returns-in_err-check_slices
@@ -64,6 +64,19 @@ check_ones-requires c =
     let l = lengths_passed (length a.standing.now) (length a.refused_out.now) (length a.held.now) (length a.refused_in.now) (words_for x.links) _ c.in_ok-check_lengths.ensures refl in
     (omega (arith, l.0, legal.within), omega (arith, l.2, legal.within))
 
+pub returns-in_err-check_ones : goal.returns-in_err-check_ones
+returns-in_err-check_ones c =
+    let a = c.args in
+    let x : Slices = as_slices a.table in
+    let t = table_of x in
+    let m : Maps = rows a.standing.now a.refused_out.now a.held.now a.refused_in.now in
+    let legal : LegalSlices 256 2048 x = legal_slices 256 2048 x (sym c.in_ok-check_slices.ensures) in
+    let l = lengths_passed (length m.standing) (length m.refused_out) (length m.held) (length m.refused_in) (words_for x.links) _ c.in_ok-check_lengths.ensures refl in
+    let bits = own_bits t a.probe 32 m _ (length m.standing) _ c.own_map.ensures l.0 legal.within c.in_ok-check_bits.ensures in
+    let room = c.spare-spare.ensures t legal.within refl c.own_map.ensures in
+    let ones = ones_by_spare (spare t a.probe) _ (ones_of m.standing) (ones_of m.held) _ room c.in_err-check_ones.ensures in
+    at_exit_if _ _ _ _ c.from_residual-in_err-check_ones.ensures.1 (past_lengths x a.probe m c.in_ok-check_slices.ensures c.in_ok-check_lengths.ensures _ _ (or_passed _ _ _ bits ones))
+
 pub returns : goal.returns
 returns c =
     let a = c.args in
@@ -72,8 +85,7 @@ returns c =
     let m : Maps = rows a.standing.now a.refused_out.now a.held.now a.refused_in.now in
     let legal : LegalSlices 256 2048 x = legal_slices 256 2048 x (sym c.in_ok-check_slices.ensures) in
     let l = lengths_passed (length m.standing) (length m.refused_out) (length m.held) (length m.refused_in) (words_for x.links) _ c.in_ok-check_lengths.ensures refl in
-    let own_is = c.own_map.ensures in
-    let bits = own_bits t a.probe 32 m _ (length m.standing) _ own_is l.0 legal.within c.in_ok-check_bits.ensures in
-    let room = c.spare-spare.ensures t legal.within refl own_is in
-    let ones = ones_by_spare (spare t a.probe) _ (ones_of m.standing) (ones_of m.held) _ room c.check_ones.ensures in
-    (past_lengths x a.probe m c.in_ok-check_slices.ensures c.in_ok-check_lengths.ensures _ _ (or_passed _ _ _ bits ones), if_ok _ _ (λ u. own_is))
+    let bits = own_bits t a.probe 32 m _ (length m.standing) _ c.own_map.ensures l.0 legal.within c.in_ok-check_bits.ensures in
+    let room = c.spare-spare.ensures t legal.within refl c.own_map.ensures in
+    let ones = ones_by_spare (spare t a.probe) _ (ones_of m.standing) (ones_of m.held) _ room c.in_ok-check_ones.ensures in
+    (past_lengths x a.probe m c.in_ok-check_slices.ensures c.in_ok-check_lengths.ensures _ _ (or_passed _ _ _ bits ones), c.own_map.ensures)

@@ -10,7 +10,7 @@ use Rattle.table.specs.Slices.{as_slices, table_of}
 use Rattle.table.proofs.LegalLaws.{legal_table}
 use Rattle.fleet_state.proofs.Legal.{fits_ends}
 use Rattle.fleet_state.proofs.Spares.{over_counted}
-use Rattle.fleet_state.proofs.checks.spares_fault.Goals as goal
+use Rattle.fleet_state.proofs.checks.check_spares.Goals as goal
 
 pub count_degrees-requires : goal.count_degrees-requires
 count_degrees-requires c =
@@ -36,8 +36,8 @@ count_bytes-requires-2 c =
     let ends = fits_ends a.table.probes a.table.links a.table.needs.now a.table.lows.now a.table.highs.now p in
     (p.in_lows, p.in_highs, omega (arith, s.within), c.requires.1, search rules, search rules, ends, zeros_at 256)
 
-pub over_spare_fault-requires : goal.over_spare_fault-requires
-over_spare_fault-requires c =
+pub check_counts-requires : goal.check_counts-requires
+check_counts-requires c =
     let a = c.args in
     let p = c.requires.0 in
     let s = (legal_table 256 2048 (of_slices 0 a.table.probes a.table.links a.table.needs.now a.table.lows.now a.table.highs.now []) p.legal).size in
@@ -50,4 +50,4 @@ pub returns : goal.returns
 returns c =
     let a = c.args in
     let t : Table = table_of (as_slices a.table) in
-    (c.over_spare_fault.ensures ∙ first_same _ _ a.table.probes (λ v l. over_counted t a.rec.now v _ _ _ (c.count_degrees.ensures v) (c.count_bytes.ensures v) (c.count_bytes-2.ensures v)), c.count_degrees.ensures)
+    (c.check_counts.ensures ∙ first_same _ _ a.table.probes (λ v l. over_counted t a.rec.now v _ _ _ (c.count_degrees.ensures v) (c.count_bytes.ensures v) (c.count_bytes-2.ensures v)), c.count_degrees.ensures)

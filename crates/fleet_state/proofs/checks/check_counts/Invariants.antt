@@ -5,7 +5,7 @@ use mathlib.Core.List.{List}
 use Rattle.range.specs.First.{first}
 use Rattle.table.specs.Table.{item}
 use Rattle.fleet_state.specs.Faults.{over_fault}
-use Rattle.fleet_state.proofs.checks.over_spare_fault.Given as goal
+use Rattle.fleet_state.proofs.checks.check_counts.Given as goal
 
 abbrev pub fault : List ℕ → List ℕ → List ℕ → List ℕ → ℕ → ℕ
 fault rules degrees standing held v = over_fault (item degrees v - item rules v) (item standing v) (item held v)

@@ -3,8 +3,8 @@ use mathlib.Core.Path.{◌≡◌, sym, ◌∙◌}
 use native.Mathlib.Omega.{arith}
 use borrow.Author.Tests.{lt-ltb, le-ltb}
 use Rattle.range.proofs.Faults.{first_some}
-use Rattle.fleet_state.proofs.checks.over_spare_fault.Invariants.{fault}
-use Rattle.fleet_state.proofs.checks.over_spare_fault.Goals as goal
+use Rattle.fleet_state.proofs.checks.check_counts.Invariants.{fault}
+use Rattle.fleet_state.proofs.checks.check_counts.Goals as goal
 
 pub returns-then-spare-standing : goal.returns-then-spare-standing
 returns-then-spare-standing c =
