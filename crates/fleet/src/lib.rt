@@ -29,9 +29,8 @@ pub fn event(
     ensures { Handled (as_slices table.entry) used room line.now result rec.old rec.new }
 {
     let mut degrees = [0u16; 256];
-    let fault = fleet_state::checks::state_fault(table, rec, &mut degrees);
-    if fault != 0 {
-        return wake_log::Answer::Refused(fault);
+    if let Err(refusal) = fleet_state::checks::check_state(table, rec, &mut degrees) {
+        return wake_log::Answer::Refused(refusal.number());
     }
     let counted = CountedTable {
         table,
@@ -45,9 +44,8 @@ pub fn finished(table: TableSlices<'_>, rec: &[u8]) -> Finishing
     ensures { finishing_reply result ≡ whether_finished (as_slices table.entry) rec.now }
 {
     let mut degrees = [0u16; 256];
-    let fault = fleet_state::checks::state_fault(table, rec, &mut degrees);
-    if fault != 0 {
-        return Finishing::Refused(fault);
+    if let Err(refusal) = fleet_state::checks::check_state(table, rec, &mut degrees) {
+        return Finishing::Refused(refusal.number());
     }
     let counted = CountedTable {
         table,

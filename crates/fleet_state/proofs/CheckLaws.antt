@@ -1,6 +1,6 @@
 -- What the checks of a fleet's record give.
 use Prim.Native.Nat.{ℕ, ◌+◌, ◌*◌, ◌<◌}
-use mathlib.Core.Path.{◌≡◌, refl, sym, ◌∙◌}
+use mathlib.Core.Path.{◌≡◌, refl, sym, ap, ◌∙◌}
 use mathlib.Core.Logic.{◌⊎◌, inl, inr}
 use mathlib.Core.Bool.{Bool, true, false, cond, ◌||◌, true≢false}
 use mathlib.Core.List.{List}
@@ -11,6 +11,11 @@ use borrow.Author.Tests.{le-ltb, eqb-true}
 use Rattle.range.specs.First.{or_else, first}
 use Rattle.range.proofs.Bools.{unless_none, decided}
 use Rattle.range.proofs.Faults.{or_left, or_right, none_first}
+use Rattle.std.specs.Prelude.{Result, Ok, IfOk, ⊤}
+use Rattle.std.proofs.lemmas.Result.{IfOk-at_ok}
+use Rattle.refusals.specs.Refusals.{fault_of}
+use Rattle.refusals.specs.declared.Refusal.{Refusal}
+use Rattle.table.specs.Slices.{Slices, table_of, slices_fault}
 use Rattle.table.specs.Table.{Table, item, touches}
 use Rattle.probe_record.specs.Record.{outbound, inbound, byte_fault, spare_fault}
 use Rattle.fleet_theory.specs.Fleet.{own, wrong_byte, link_bytes_fault, fleet_fault}
@@ -52,3 +57,10 @@ own_passes t p r fine = none_first (byte_fault t p (own t p r)) t.links (λ i l.
     go i l (inl e) = rw (le-ltb 2 (outbound (own t p r) i) (marked.outs p i).byte_small, le-ltb 2 (inbound (own t p r) i) (marked.ins p i).byte_small, e)
     go i l (inr e) =
         rw (e, (out_reads t).no_byte r p i (λ a. true≢false (sym a.1 ∙ e)), (in_reads t).no_byte r p i (λ a. true≢false (sym a.1 ∙ e)))
+
+-- a state that passed its check, and what the check says then
+pub state_passed : (x : Slices) (rec : List ℕ) {Q : Type 0} {r : Result ⊤ Refusal} {u : ⊤} → r ≡ Ok u → (fault_of r ≡ or_else (slices_fault x) (fleet_fault (table_of x) rec)) × IfOk r (λ v. Q)
+    → (slices_fault x ≡ 0) × (fleet_fault (table_of x) rec ≡ 0) × Q
+state_passed x rec {Q} is h =
+    let none = sym h.0 ∙ ap fault_of is in
+    (or_left (slices_fault x) (fleet_fault (table_of x) rec) none, or_right (slices_fault x) (fleet_fault (table_of x) rec) none, IfOk-at_ok (λ v. Q) is h.1)

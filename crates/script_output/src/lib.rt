@@ -42,9 +42,8 @@ fn piece_fault(
     if line.len() < 16 {
         return 8;
     }
-    let fault = fleet_state::checks::state_fault(table, rec, degrees);
-    if fault != 0 {
-        return fault;
+    if let Err(refusal) = fleet_state::checks::check_state(table, rec, degrees) {
+        return refusal.number();
     }
     if begun.held as usize + piece.len() <= room / 5 {
         return 0;
@@ -96,9 +95,8 @@ pub fn script_end(table: TableSlices<'_>, rec: &[u8], progress: Progress, out: &
         return Output::Refused(8);
     }
     let mut degrees = [0u16; 256];
-    let fault = fleet_state::checks::state_fault(table, rec, &mut degrees);
-    if fault != 0 {
-        return Output::Refused(fault);
+    if let Err(refusal) = fleet_state::checks::check_state(table, rec, &mut degrees) {
+        return Output::Refused(refusal.number());
     }
     let counted = CountedTable {
         table,
