@@ -62,7 +62,12 @@ pub fn check_open(table: TableSlices<'_>, probe: usize, free: usize) -> Result<(
 }
 
 // What a frame says, or its fault, then 26.
-pub fn check_hearing(table: TableSlices<'_>, probe: usize, frame: &[u8], free: usize) -> Result<Event, Refusal>
+pub fn check_hearing(
+    table: TableSlices<'_>,
+    probe: usize,
+    frame: &[u8],
+    free: usize,
+) -> Result<Event, Refusal>
     requires { RisingSlices table.links table.lows.now table.highs.now }
     ensures { let t = table_of (as_slices table.entry) in
         (fault_of result ≡ hear_fault 0 t probe frame.now free) × IfOk result (λ v. v ≡ heard_of t (frame_of frame.now)) }

@@ -12,7 +12,13 @@ use refusals::Refusal;
 use table::TableSlices;
 
 // How many frames the bag has. Where there is no fault, `said` has what each frame says.
-pub fn check_bag(table: TableSlices<'_>, probe: usize, bag: &[u8], free: usize, said: &mut [u16]) -> Result<usize, Refusal>
+pub fn check_bag(
+    table: TableSlices<'_>,
+    probe: usize,
+    bag: &[u8],
+    free: usize,
+    said: &mut [u16],
+) -> Result<usize, Refusal>
     requires { RisingSlices table.links table.lows.now table.highs.now × (table.links ≤ 2048) × (length said.old ≡ 64) }
     ensures { let t = table_of (as_slices table.entry) in
         let ls = frames_of bag.now in

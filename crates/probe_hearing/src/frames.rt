@@ -29,7 +29,12 @@ pub fn count_frames(bag: &[u8]) -> usize
 }
 
 // Reads each frame: the first bad one's fault, or in `said` what each says, as a number.
-pub fn read_frames(table: TableSlices<'_>, probe: usize, bag: &[u8], said: &mut [u16]) -> Result<(), Refusal>
+pub fn read_frames(
+    table: TableSlices<'_>,
+    probe: usize,
+    bag: &[u8],
+    said: &mut [u16],
+) -> Result<(), Refusal>
     requires { RisingSlices table.links table.lows.now table.highs.now × (table.links ≤ 2048) × (length (frames_of bag.now) ≤ 64) × (length said.old ≡ 64) }
     ensures { let t = table_of (as_slices table.entry) in
         let ls = frames_of bag.now in

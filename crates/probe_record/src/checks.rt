@@ -10,7 +10,13 @@ use refusals::Refusal;
 use table::TableSlices;
 
 // 21, of one link.
-fn check_byte(rec: &[u8], lows: &[u16], highs: &[u16], probe: usize, i: usize) -> Result<(), Refusal>
+fn check_byte(
+    rec: &[u8],
+    lows: &[u16],
+    highs: &[u16],
+    probe: usize,
+    i: usize,
+) -> Result<(), Refusal>
     requires { (i < length lows.now) × (i < length highs.now) × (2 * i + 1 < length rec.now) }
     ensures { fault_of result ≡ byte_fault (of_slices 0 0 0 [] lows.now highs.now []) probe rec.now i }
 {
@@ -33,7 +39,13 @@ fn check_byte(rec: &[u8], lows: &[u16], highs: &[u16], probe: usize, i: usize) -
 }
 
 // 21.
-fn check_bytes(rec: &[u8], links: usize, lows: &[u16], highs: &[u16], probe: usize) -> Result<(), Refusal>
+fn check_bytes(
+    rec: &[u8],
+    links: usize,
+    lows: &[u16],
+    highs: &[u16],
+    probe: usize,
+) -> Result<(), Refusal>
     requires { (links ≤ length lows.now) × (links ≤ length highs.now) × (2 * links ≤ length rec.now) }
     ensures { fault_of result ≡ first (byte_fault (of_slices 0 0 0 [] lows.now highs.now []) probe rec.now) links }
 {

@@ -9,7 +9,13 @@ ghost use Rattle.probe_state.specs.OwnWords.{word_fault, own_bit_fault};
 use refusals::Refusal;
 
 // 21 of the 64 links of one word: a link in both maps of a direction, or in one and not the probe's own.
-fn check_word(standing: u64, refused_out: u64, held: u64, refused_in: u64, own: u64) -> Result<(), Refusal>
+fn check_word(
+    standing: u64,
+    refused_out: u64,
+    held: u64,
+    refused_in: u64,
+    own: u64,
+) -> Result<(), Refusal>
     ensures { fault_of result ≡ word_fault standing refused_out held refused_in own }
 {
     if (standing & refused_out) | (held & refused_in) != 0 {
