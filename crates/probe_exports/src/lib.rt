@@ -41,7 +41,7 @@ fn packed_resting(r: Resting) -> u64
     }
 }
 
-fn packed_turning(r: Result<(), Refusal>) -> u64
+fn packed_turning(r: Result<(), refusals::Refusal>) -> u64
     ensures { result ≡ packed_value (turning_reply r) }
 {
     match r {
