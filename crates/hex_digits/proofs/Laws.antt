@@ -12,7 +12,7 @@ use lib.Dec.{ltb}
 use lib.ListN.{length, get_or, take, drop, set, length-append, length-drop, get_or-append}
 use lib.Seq.{take-suc, get_or-drop, sets, get_or_at, set_comm}
 use borrow.Author.Tests.{lt-ltb, le-ltb, le-leb, lt-leb}
-use Rattle.std.specs.Prelude.{Some, None}
+use Rattle.std.specs.Prelude.{Ok, Err}
 use Rattle.hex_digits.specs.Digits.{value_of, digit_of, number_at, are_digits, number_in, digits}
 
 -- The value of a byte, by its range.
@@ -238,9 +238,9 @@ put_step l m at (suc w) v d some e h =
     rw (k, e) (sym last ∙ h)
 
 -- a number that is read has digits alone
-pub number_in_some : (s : List ℕ) (at w n : ℕ) → Some n ≡ number_in s at w → (are_digits s at w ≡ true) × (n ≡ number_at s at w)
-number_in_some s at w n e = go (are_digits s at w) e
+pub number_in_ok : (s : List ℕ) (at w n : ℕ) → Ok n ≡ number_in s at w → (are_digits s at w ≡ true) × (n ≡ number_at s at w)
+number_in_ok s at w n e = go (are_digits s at w) e
   where
-    go : (b : Bool) → Some n ≡ cond b (Some (number_at s at w)) None → (b ≡ true) × (n ≡ number_at s at w)
+    go : (b : Bool) → Ok n ≡ cond b (Ok (number_at s at w)) (Err (number_at s at w)) → (b ≡ true) × (n ≡ number_at s at w)
     go true e = (refl, cc)
     go false e = let z : ◌≡◌ {A = ℕ} 0 1 = cc in absurd (omega arith)

@@ -1,5 +1,5 @@
 -- Numbers as lower-case hexadecimal digits.
-use Rattle.std.specs.Prelude.{ℕ, zero, suc, ◌+◌, ◌-◌, ◌*◌, ◌/◌, ◌%◌, Bool, true, cond, ◌&&◌, List, [], ◌∷◌, ◌++◌, leb, ltb, get_or, Option, Some, None}
+use Rattle.std.specs.Prelude.{ℕ, zero, suc, ◌+◌, ◌-◌, ◌*◌, ◌/◌, ◌%◌, Bool, true, cond, ◌&&◌, List, [], ◌∷◌, ◌++◌, leb, ltb, get_or, Result, Ok, Err}
 
 -- "for each byte its digit value, or 255 where it is no digit"
 unfoldable pub value_of : ℕ → ℕ
@@ -19,9 +19,9 @@ unfoldable pub are_digits : List ℕ → ℕ → ℕ → Bool
 are_digits s at zero = true
 are_digits s at (suc w) = are_digits s at w && ltb (value_of (get_or s (at + w) 0)) 16
 
--- the number that they write, where each is a digit
-abbrev pub number_in : List ℕ → ℕ → ℕ → Option ℕ
-number_in s at w = cond (are_digits s at w) (Some (number_at s at w)) None
+-- the number that they write: a good one where each is a digit
+abbrev pub number_in : List ℕ → ℕ → ℕ → Result ℕ ℕ
+number_in s at w = cond (are_digits s at w) (Ok (number_at s at w)) (Err (number_at s at w))
 
 -- the w digits that write v, the highest first
 unfoldable pub digits : ℕ → ℕ → List ℕ

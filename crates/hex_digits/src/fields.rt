@@ -10,7 +10,7 @@ fn wide(x: u8) -> usize
 }
 
 // In one pass, by the table of the bytes' values. No 14 digits have values that add up to 255, which a byte that is no digit has alone.
-fn read_by(values: &[u8], text: &[u8], at: usize, width: usize) -> Option<usize>
+fn read_by(values: &[u8], text: &[u8], at: usize, width: usize) -> Result<usize, usize>
     requires { ((b : ℕ) → b < 256 → get_or values.now b 0 ≡ value_of b) × (length values.now ≡ 256) × (at + width ≤ length text.now) × (width ≤ 14) }
     ensures { result ≡ number_in text.now at width }
 {
@@ -22,11 +22,11 @@ fn read_by(values: &[u8], text: &[u8], at: usize, width: usize) -> Option<usize>
         sum += value;
     }
     let good = sum < 255;
-    if good { Some(number) } else { None }
+    if good { Ok(number) } else { Err(number) }
 }
 
-// The number that bytes from an offset on write, where each is a digit.
-pub fn read_digits(text: &[u8], at: usize, width: usize) -> Option<usize>
+// The number that bytes from an offset on write, by the table of their values: `Ok` where each is a digit.
+pub fn read_digits(text: &[u8], at: usize, width: usize) -> Result<usize, usize>
     requires { (at + width ≤ length text.now) × (width ≤ 14) }
     ensures { result ≡ number_in text.now at width }
 {

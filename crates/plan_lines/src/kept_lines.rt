@@ -7,7 +7,7 @@ ghost use Rattle.table.specs.Table.{item};
 ghost use Rattle.plan_theory.specs.Plan.{is_kept};
 ghost use Rattle.plan_lines.specs.Lines.{head_line, kept_start, kept_line};
 
-use table::{LINK_BYTES, TableSlices};
+use table::LINK_BYTES;
 
 // A plan's first line.
 pub fn put_head(out: &mut [u8], number: u16, kept: u32, cost: u32)
@@ -34,22 +34,21 @@ fn put_link(out: &mut [u8], at: usize, byte: u8, low: u16, high: u16, cost: u16)
 }
 
 // The lines of the kept links, behind a plan's first line.
-pub fn put_kept(out: &mut [u8], plan: &[u8], table: TableSlices<'_>)
-    requires { (kept_start (count table.links (is_kept plan.now)) ≤ length out.old) × (table.links ≤ length plan.now)
-        × (table.links ≤ length table.lows.now) × (table.links ≤ length table.highs.now) × (table.links ≤ length table.costs.now) }
+pub fn put_kept(
+    out: &mut [u8],
+    plan: &[u8],
+    links: usize,
+    lows: &[u16],
+    highs: &[u16],
+    costs: &[u16],
+)
+    requires { (kept_start (count links (is_kept plan.now)) ≤ length out.old) × (links ≤ length plan.now)
+        × (links ≤ length lows.now) × (links ≤ length highs.now) × (links ≤ length costs.now) }
     ensures { out.new ≡ sets out.old (kept_start 0)
-        (joined (λ i. kept_line (is_kept plan.now i) (item table.entry.lows.now i) (item table.entry.highs.now i) (item table.entry.costs.now i)) table.entry.links) }
+        (joined (λ i. kept_line (is_kept plan.now i) (item lows.now i) (item highs.now i) (item costs.now i)) links) }
 {
-    let links = table.links as usize;
     let mut at = super::starts::kept_start(0);
     for i in 0..links {
-        at = put_link(
-            out,
-            at,
-            plan[i],
-            table.lows[i],
-            table.highs[i],
-            table.costs[i],
-        );
+        at = put_link(out, at, plan[i], lows[i], highs[i], costs[i]);
     }
 }

@@ -4,7 +4,7 @@ ghost use Rattle.range.specs.Sum.{weigh, count};
 ghost use Rattle.range.specs.Lists.{stored};
 ghost use Rattle.refusals.specs.Refusals.{fault_of};
 ghost use Rattle.table.specs.Table.{item, of_slices};
-ghost use Rattle.table.specs.Slices.{as_slices, table_of};
+ghost use Rattle.table.specs.Slices.{slices_of, as_slices, table_of};
 ghost use Rattle.table.specs.Legal.{table_fault, room_fault};
 ghost use Rattle.plan_theory.specs.Plan.{kept, plan_byte, is_kept};
 ghost use Rattle.plan_turns_search.specs.Record.{WorkingRoom};
@@ -13,33 +13,50 @@ ghost use Rattle.plan_methods.specs.Planning.{plan_fault, turns_fault, SlseReady
 use super::Totals;
 use refusals::Refusal;
 use table::TableSlices;
-use table::checks::check_slices;
+use table::checks::check_parts;
 
 // The checks of a call with a plan of this length, within the limits pmax and lmax.
-fn check_plan(pmax: usize, lmax: usize, table: TableSlices<'_>, plan: usize) -> Result<(), Refusal>
-    ensures { fault_of result ≡ plan_fault pmax lmax (as_slices table.entry) plan }
+pub fn check_plan(
+    pmax: usize,
+    lmax: usize,
+    probes: usize,
+    links: usize,
+    needs: &[u16],
+    lows: &[u16],
+    highs: &[u16],
+    costs: &[u16],
+    plan: usize,
+) -> Result<(), Refusal>
+    ensures { let x = slices_of 0 probes links needs.now lows.now highs.now costs.now in
+        fault_of result ≡ plan_fault pmax lmax x plan }
 {
-    if plan < table.links as usize {
+    if plan < links {
         return Err(Refusal::Slice);
     }
-    check_slices(pmax, lmax, table)
+    check_parts(pmax, lmax, probes, links, needs, lows, highs, costs)
 }
 
 // And with working bytes of this length.
-fn check_turns(
+pub fn check_turns(
     pmax: usize,
     lmax: usize,
-    table: TableSlices<'_>,
+    probes: usize,
+    links: usize,
+    needs: &[u16],
+    lows: &[u16],
+    highs: &[u16],
+    costs: &[u16],
     plan: usize,
     work: usize,
 ) -> Result<(), Refusal>
-    ensures { fault_of result ≡ turns_fault pmax lmax (as_slices table.entry) plan work }
+    requires { links < 65536 }
+    ensures { let x = slices_of 0 probes links needs.now lows.now highs.now costs.now in
+        fault_of result ≡ turns_fault pmax lmax x plan work }
 {
-    let links = table.links as usize;
     if work < 4 * links {
         return Err(Refusal::Slice);
     }
-    check_plan(pmax, lmax, table, plan)
+    check_plan(pmax, lmax, probes, links, needs, lows, highs, costs, plan)
 }
 
 // The answer that goes with a plan.
@@ -76,7 +93,7 @@ pub fn slse_plan(
 }
 
 // The same plan, and its answer.
-fn slse_answer(
+pub fn slse_answer(
     plan: &mut [u8],
     order: &mut [u16],
     half: &mut [u16],
@@ -94,7 +111,7 @@ fn slse_answer(
 }
 
 // The plan by offers in turn of a legal table, and its answer. Behind the working bytes are the slices that it works in.
-fn turns_answer(
+pub fn turns_answer(
     plan: &mut [u8],
     work: &mut [u8],
     spares: &mut [u16],
@@ -124,7 +141,19 @@ pub fn plan_by_slse<const PMAX: usize, const LMAX: usize>(
     requires { (1 < PMAX) × (PMAX ≤ 256) × (LMAX ≤ 2048) }
     ensures { PlansBySlse PMAX LMAX (as_slices table.entry) result plan.old plan.new }
 {
-    check_plan(PMAX, LMAX, table, plan.len())?;
+    let probes = table.probes as usize;
+    let links = table.links as usize;
+    check_plan(
+        PMAX,
+        LMAX,
+        probes,
+        links,
+        table.needs,
+        table.lows,
+        table.highs,
+        table.costs,
+        plan.len(),
+    )?;
     let mut order = [0u16; LMAX];
     let mut half = [0u16; LMAX];
     let mut digits = [0u16; PMAX];
@@ -132,16 +161,29 @@ pub fn plan_by_slse<const PMAX: usize, const LMAX: usize>(
     Ok(slse_answer(plan, &mut order, &mut half, &mut digits, &mut counts, table))
 }
 
-// The plan by offers in turn within them. MARKS and SITE follow from PMAX and LMAX, but no const argument may be computed.
+// The plan by offers in turn within them. The least MARKS and SITE follow from PMAX and LMAX, but no const argument may be computed.
 pub fn plan_by_turns<const PMAX: usize, const LMAX: usize, const MARKS: usize, const SITE: usize>(
     table: TableSlices<'_>,
     plan: &mut [u8],
     work: &mut [u8],
 ) -> Result<Totals, Refusal>
-    requires { (1 < PMAX) × (PMAX ≤ 256) × (LMAX ≤ 2048) × (MARKS ≡ 4 * PMAX) × (SITE ≡ 8 * LMAX + PMAX + 2) }
+    requires { (1 < PMAX) × (PMAX ≤ 256) × (LMAX ≤ 2048) × (4 * PMAX ≤ MARKS) × (MARKS < 65536) × (8 * LMAX + PMAX + 2 ≤ SITE) × (SITE < 65536) }
     ensures { PlansByTurns PMAX LMAX (as_slices table.entry) result plan.old plan.new work.old work.new }
 {
-    check_turns(PMAX, LMAX, table, plan.len(), work.len())?;
+    let probes = table.probes as usize;
+    let links = table.links as usize;
+    check_turns(
+        PMAX,
+        LMAX,
+        probes,
+        links,
+        table.needs,
+        table.lows,
+        table.highs,
+        table.costs,
+        plan.len(),
+        work.len(),
+    )?;
     let mut spares = [0u16; PMAX];
     let mut marks = [0u16; MARKS];
     let mut site = [0u16; SITE];

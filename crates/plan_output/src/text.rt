@@ -8,7 +8,7 @@ use output::Output;
 use table::{CLOSING_BYTES, TableSlices};
 
 // Prints the plan of the legal table in these slices. It works in `plan`, `order`, `half`, `digits` and `degrees`.
-fn print_plan(
+pub fn print_plan(
     out: &mut [u8],
     plan: &mut [u8],
     order: &mut [u16],
@@ -35,7 +35,7 @@ fn print_plan(
     }
     let cost = plan_methods::counts::kept_cost(plan, links, table.costs);
     plan_lines::kept_lines::put_head(out, table.number, kept, cost);
-    plan_lines::kept_lines::put_kept(out, plan, table);
+    plan_lines::kept_lines::put_kept(out, plan, links, table.lows, table.highs, table.costs);
     let shorts = plan_lines::starts::short_start(kept, 0);
     plan_lines::short_lines::put_shorts(out, shorts, probes, table.needs, degrees);
     table_write::line::put_closing(out, end);

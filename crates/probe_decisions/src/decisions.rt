@@ -11,26 +11,26 @@ use super::search;
 use bit_maps::bits::has;
 use bit_maps::counts::ones;
 use probe_rules::{Event, Outcome};
-use table::TableSlices;
 
 // What befalls at an opening. The own links are used up: nothing is promised of them afterwards.
 fn decide_opening(
     own: &mut [u64],
-    table: TableSlices<'_>,
+    links: usize,
+    needs: &[u16],
+    costs: &[u16],
     probe: usize,
     standing: &[u64],
     refused_out: &[u64],
 ) -> Outcome
-    requires { EndRoom table.links table.costs.now own.old (rows standing.now refused_out.now standing.now refused_out.now) }
+    requires { EndRoom links costs.now own.old (rows standing.now refused_out.now standing.now refused_out.now) }
     ensures { (t : Table) (held refused_in : List ℕ) → (let m = rows standing.now refused_out.now held refused_in in
-        EndOf t probe table.entry.links table.entry.needs.now table.entry.costs.now own.old m → result ≡ opening t probe (bytes_of t.links m)) }
+        EndOf t probe links needs.now costs.now own.old m → result ≡ opening t probe (bytes_of t.links m)) }
 {
-    let links = table.links as usize;
-    if probe_state::own::spare(own, table.needs, probe) <= ones(standing) {
+    if probe_state::own::spare(own, needs, probe) <= ones(standing) {
         return Outcome::Enough;
     }
     search::remove_tried(own, standing, refused_out);
-    let i = search::best_in(false, own, links, table.costs);
+    let i = search::best_in(false, own, links, costs);
     if links <= i {
         return Outcome::AllTried;
     }
@@ -40,24 +40,25 @@ fn decide_opening(
 // What befalls at an offer on a link on which none was heard.
 fn decide_offer(
     own: &[u64],
-    table: TableSlices<'_>,
+    links: usize,
+    needs: &[u16],
+    costs: &[u16],
     probe: usize,
     held: &[u64],
     i: usize,
 ) -> Outcome
-    requires { EndRoom table.links table.costs.now own.now (rows held.now held.now held.now held.now) × (i < table.links) }
+    requires { EndRoom links costs.now own.now (rows held.now held.now held.now held.now) × (i < links) }
     ensures { (t : Table) (standing refused_out refused_in : List ℕ) → (let m = rows standing refused_out held.now refused_in in
-        EndOf t probe table.entry.links table.entry.needs.now table.entry.costs.now own.now m → result ≡ offer t probe (bytes_of t.links m) i) }
+        EndOf t probe links needs.now costs.now own.now m → result ≡ offer t probe (bytes_of t.links m) i) }
 {
-    let links = table.links as usize;
-    if ones(held) < probe_state::own::spare(own, table.needs, probe) {
+    if ones(held) < probe_state::own::spare(own, needs, probe) {
         return Outcome::Taken(i);
     }
-    let displaced = search::best_in(true, held, links, table.costs);
+    let displaced = search::best_in(true, held, links, costs);
     if links <= displaced {
         return Outcome::Refused(i);
     }
-    if table_links::order::dearer(table.costs, i, displaced) {
+    if table_links::order::dearer(costs, i, displaced) {
         return Outcome::TakenDisplacing { link: i, displaced };
     }
     Outcome::Refused(i)
@@ -67,20 +68,22 @@ fn decide_offer(
 pub fn decide(
     event: Event,
     own: &mut [u64],
-    table: TableSlices<'_>,
+    links: usize,
+    needs: &[u16],
+    costs: &[u16],
     probe: usize,
     standing: &[u64],
     refused_out: &[u64],
     held: &[u64],
     refused_in: &[u64],
 ) -> Outcome
-    requires { EndRoom table.links table.costs.now own.old (rows standing.now refused_out.now held.now refused_in.now) × EventWithin table.links event }
+    requires { EndRoom links costs.now own.old (rows standing.now refused_out.now held.now refused_in.now) × EventWithin links event }
     ensures { let m = rows standing.now refused_out.now held.now refused_in.now in
-        ((t : Table) → EndOf t probe table.entry.links table.entry.needs.now table.entry.costs.now own.old m → result ≡ befalls_maps t probe event m)
+        ((t : Table) → EndOf t probe links needs.now costs.now own.old m → result ≡ befalls_maps t probe event m)
         × (IsHeard event → own.new ≡ own.old) }
 {
     match event {
-        Event::Opening => decide_opening(own, table, probe, standing, refused_out),
+        Event::Opening => decide_opening(own, links, needs, costs, probe, standing, refused_out),
         Event::Offer(i) => {
             if has(held, i) {
                 return Outcome::NoChange(i);
@@ -88,7 +91,7 @@ pub fn decide(
             if has(refused_in, i) {
                 return Outcome::NoChange(i);
             }
-            decide_offer(own, table, probe, held, i)
+            decide_offer(own, links, needs, costs, probe, held, i)
         }
         Event::Refusal(i) => {
             if has(refused_out, i) {

@@ -72,7 +72,9 @@ pub fn apply(
     let outcome = super::decisions::decide(
         event,
         own,
-        table,
+        table.links as usize,
+        table.needs,
+        table.costs,
         probe as usize,
         standing,
         refused_out,

@@ -65,7 +65,7 @@ pub fn check_record(rec: &[u8], table: TableSlices<'_>, probe: usize) -> Result<
         return Err(Refusal::RecordLength);
     }
     check_bytes(rec, links, table.lows, table.highs, probe)?;
-    let room = table_links::spares::spare(table, probe);
+    let room = table_links::spares::spare(links, table.needs, table.lows, table.highs, probe);
     if room < super::counts::ones(rec, links, 0) {
         return Err(Refusal::OverSpare);
     }

@@ -49,8 +49,8 @@ pub fn number_line(text: &[u8], at: usize, width: usize) -> Result<usize, Refusa
         return Err(Refusal::Line);
     }
     match hex_digits::fields::read_digits(text, at, width) {
-        Some(number) => Ok(number),
-        None => Err(bad_digit(text, at, width)),
+        Ok(number) => Ok(number),
+        Err(_) => Err(bad_digit(text, at, width)),
     }
 }
 

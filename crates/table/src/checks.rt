@@ -4,7 +4,7 @@ ghost use Rattle.range.specs.First.{first};
 ghost use Rattle.refusals.specs.Refusals.{fault_of};
 ghost use Rattle.table.specs.Table.{item};
 ghost use Rattle.table.specs.Legal.{size_fault, ends_fault, order_fault, link_fault, room_fault};
-ghost use Rattle.table.specs.Slices.{slice_fault, as_slices};
+ghost use Rattle.table.specs.Slices.{slice_fault, slices_of, as_slices};
 
 use super::TableSlices;
 use super::numbers::wide;
@@ -107,20 +107,44 @@ pub fn check_room(
     Ok(())
 }
 
-// 8, 3, then 4 and 5 link by link, within the limits pmax and lmax.
-pub fn check_slices(pmax: usize, lmax: usize, table: TableSlices<'_>) -> Result<(), Refusal>
-    ensures { fault_of result ≡ slice_fault pmax lmax (as_slices table.entry) }
+// 8, 3, then 4 and 5 link by link, within the limits pmax and lmax, of counts of any size.
+pub fn check_parts(
+    pmax: usize,
+    lmax: usize,
+    probes: usize,
+    links: usize,
+    needs: &[u16],
+    lows: &[u16],
+    highs: &[u16],
+    costs: &[u16],
+) -> Result<(), Refusal>
+    ensures { let x = slices_of 0 probes links needs.now lows.now highs.now costs.now in
+        fault_of result ≡ slice_fault pmax lmax x }
 {
-    let probes = table.probes as usize;
-    let links = table.links as usize;
     check_room(
         probes,
         links,
-        table.needs.len(),
-        table.lows.len(),
-        table.highs.len(),
-        table.costs.len(),
+        needs.len(),
+        lows.len(),
+        highs.len(),
+        costs.len(),
     )?;
     check_size(pmax, lmax, probes, links)?;
-    check_links(probes, links, table.lows, table.highs)
+    check_links(probes, links, lows, highs)
+}
+
+// The same of a table.
+pub fn check_slices(pmax: usize, lmax: usize, table: TableSlices<'_>) -> Result<(), Refusal>
+    ensures { fault_of result ≡ slice_fault pmax lmax (as_slices table.entry) }
+{
+    check_parts(
+        pmax,
+        lmax,
+        table.probes as usize,
+        table.links as usize,
+        table.needs,
+        table.lows,
+        table.highs,
+        table.costs,
+    )
 }

@@ -1,10 +1,8 @@
 // A probe's number of links and its spare.
 ghost use Rattle.std.specs.Prelude.{◌≡◌, [], ◌-◌, ◌<◌, ◌≤◌, length};
 ghost use Rattle.table.specs.Table.{item, of_slices, degree, spare};
-ghost use Rattle.table.specs.Slices.{as_slices, table_of};
 
 use super::ends::touches;
-use table::TableSlices;
 
 // The probe's number of links.
 fn degree(links: usize, lows: &[u16], highs: &[u16], probe: usize) -> usize
@@ -43,14 +41,9 @@ pub fn spare_at(degrees: &[u16], needs: &[u16], v: usize) -> usize
 }
 
 // A probe's spare.
-pub fn spare(table: TableSlices<'_>, probe: usize) -> usize
-    requires { (table.links ≤ length table.lows.now) × (table.links ≤ length table.highs.now) }
-    ensures { result ≡ spare (table_of (as_slices table.entry)) probe }
+pub fn spare(links: usize, needs: &[u16], lows: &[u16], highs: &[u16], probe: usize) -> usize
+    requires { (links ≤ length lows.now) × (links ≤ length highs.now) }
+    ensures { result ≡ spare (of_slices 0 0 links needs.now lows.now highs.now []) probe }
 {
-    let links = table.links as usize;
-    spare_of(
-        degree(links, table.lows, table.highs, probe),
-        table.needs,
-        probe,
-    )
+    spare_of(degree(links, lows, highs, probe), needs, probe)
 }

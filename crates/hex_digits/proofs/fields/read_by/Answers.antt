@@ -49,4 +49,5 @@ returns-else-good c =
     let l = c.loop-i in
     let e : l.i ≡ a.width = omega arith in
     let v : l.sum ≡ value_sum a.text.now a.at a.width = rw (← e) l.invariant.1 in
-    rw (sym (good_by_sum a.text.now a.at a.width (omega arith)) ∙ le-ltb _ 255 (omega arith))
+    let bad = sym (good_by_sum a.text.now a.at a.width (omega arith)) ∙ le-ltb _ 255 (omega arith) in
+    rw (bad, ← e, l.invariant.0)

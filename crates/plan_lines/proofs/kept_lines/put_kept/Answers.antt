@@ -19,8 +19,8 @@ put_link-at-requires c =
     let l = c.loop-i in
     let a = c.args in
     let n = weigh_next l.i (is_kept a.plan.now) (λ (j : ℕ). 1) in
-    let m = count_part (is_kept a.plan.now) (l.i + 1) a.table.links (omega arith) in
-    let k = length_kept_line (is_kept a.plan.now l.i) (item a.table.lows.now l.i) (item a.table.highs.now l.i) (item a.table.costs.now l.i) in
+    let m = count_part (is_kept a.plan.now) (l.i + 1) a.links (omega arith) in
+    let k = length_kept_line (is_kept a.plan.now l.i) (item a.lows.now l.i) (item a.highs.now l.i) (item a.costs.now l.i) in
     omega (arith, l.invariant.0, c.requires.0)
 
 pub loop-i-preserved : goal.loop-i-preserved
@@ -29,5 +29,5 @@ loop-i-preserved c =
     let a = c.args in
     let e = c.put_link-at.ensures in
     let n = weigh_next l.i (is_kept a.plan.now) (λ (j : ℕ). 1) in
-    let k = length_kept_line (is_kept a.plan.now l.i) (item a.table.lows.now l.i) (item a.table.highs.now l.i) (item a.table.costs.now l.i) in
-    (omega (arith, e.1, l.invariant.0), lines_then (is_kept a.plan.now) (kept_line_at (is_kept a.plan.now) (item a.table.lows.now) (item a.table.highs.now) (item a.table.costs.now)) 13 (λ j. length_kept_line (is_kept a.plan.now j) (item a.table.lows.now j) (item a.table.highs.now j) (item a.table.costs.now j)) l.i (kept_start 0) l.at a.out.now l.out _ l.invariant.1 (omega (arith, l.invariant.0)) e.0)
+    let k = length_kept_line (is_kept a.plan.now l.i) (item a.lows.now l.i) (item a.highs.now l.i) (item a.costs.now l.i) in
+    (omega (arith, e.1, l.invariant.0), lines_then (is_kept a.plan.now) (kept_line_at (is_kept a.plan.now) (item a.lows.now) (item a.highs.now) (item a.costs.now)) 13 (λ j. length_kept_line (is_kept a.plan.now j) (item a.lows.now j) (item a.highs.now j) (item a.costs.now j)) l.i (kept_start 0) l.at a.out.now l.out _ l.invariant.1 (omega (arith, l.invariant.0)) e.0)

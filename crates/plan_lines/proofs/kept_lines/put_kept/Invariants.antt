@@ -10,4 +10,4 @@ use Rattle.plan_theory.specs.Plan.{is_kept}
 use Rattle.plan_lines.proofs.kept_lines.put_kept.Given as goal
 
 abbrev pub invariant-loop-i : goal.invariant-loop-i
-invariant-loop-i l = (l.at ≡ kept_start (count l.i (is_kept l.plan))) × (l.out ≡ sets l.initial.out (kept_start 0) (joined (kept_line_at (is_kept l.plan) (item l.table.lows.now) (item l.table.highs.now) (item l.table.costs.now)) l.i))
+invariant-loop-i l = (l.at ≡ kept_start (count l.i (is_kept l.plan))) × (l.out ≡ sets l.initial.out (kept_start 0) (joined (kept_line_at (is_kept l.plan) (item l.lows) (item l.highs) (item l.costs)) l.i))
