@@ -47,11 +47,15 @@ pub fn finished(table: TableSlices<'_>, rec: &[u8]) -> Finishing
     if let Err(refusal) = fleet_state::checks::check_state(table, rec, &mut degrees) {
         return Finishing::Refused(refusal.number());
     }
-    let counted = CountedTable {
-        table,
-        degrees: &degrees,
-    };
-    Finishing::Says(fleet_finishing::finishing::is_finished(counted, rec))
+    Finishing::Says(fleet_finishing::finishing::is_finished(
+        table.probes as usize,
+        table.links as usize,
+        table.needs,
+        &degrees,
+        table.lows,
+        table.highs,
+        rec,
+    ))
 }
 
 // How many changes an event made, by its entry; marks and wipes count nowhere.

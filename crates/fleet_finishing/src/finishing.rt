@@ -5,9 +5,6 @@ ghost use Rattle.table.specs.Table.{item, of_slices, Degrees};
 ghost use Rattle.fleet_theory.specs.Fleet.{finished, may_alter};
 ghost use Rattle.fleet_state.specs.Within.{LegalWithoutCosts};
 ghost use Rattle.fleet_finishing.specs.Opening.{may_open};
-ghost use Rattle.table.specs.Slices.{as_slices, table_of};
-
-use table::counted::CountedTable;
 
 // Whether a frame that may be sent would alter a byte.
 fn may_alter(out: u8, into: u8) -> bool
@@ -62,19 +59,25 @@ fn none_opens(
 }
 
 // Whether the fleet is finished, by each probe's number of links; the costs do not bear on it.
-pub fn is_finished(counted: CountedTable<'_>, rec: &[u8]) -> bool
-    requires { 8 * counted.table.links ≤ length rec.now }
-    ensures { (number : ℕ) (costs : List ℕ) → result ≡ finished (of_slices number counted.entry.table.probes counted.entry.table.links counted.entry.table.needs.now counted.entry.table.lows.now counted.entry.table.highs.now costs) rec.now }
+pub fn is_finished(
+    probes: usize,
+    links: usize,
+    needs: &[u16],
+    degrees: &[u16],
+    lows: &[u16],
+    highs: &[u16],
+    rec: &[u8],
+) -> bool
+    requires { LegalWithoutCosts probes links needs.now lows.now highs.now × (8 * links ≤ length rec.now)
+        × (probes ≤ length degrees.now) × Degrees (of_slices 0 probes links needs.now lows.now highs.now []) degrees.now }
+    ensures { (number : ℕ) (costs : List ℕ) → result ≡ finished (of_slices number probes links needs.now lows.now highs.now costs) rec.now }
 {
-    let table = counted.table;
-    let probes = table.probes as usize;
-    let links = table.links as usize;
     if !none_alters(rec, links) {
         return false;
     }
     let mut standing = [0u16; 256];
     let mut untried = [0u16; 256];
-    fleet_state::counts::count_bytes(&mut standing, rec, links, table.lows, table.highs, 0, 2, 1);
-    fleet_state::counts::count_bytes(&mut untried, rec, links, table.lows, table.highs, 0, 2, 0);
-    none_opens(probes, table.needs, counted.degrees, &standing, &untried)
+    fleet_state::counts::count_bytes(&mut standing, rec, links, lows, highs, 0, 2, 1);
+    fleet_state::counts::count_bytes(&mut untried, rec, links, lows, highs, 0, 2, 0);
+    none_opens(probes, needs, degrees, &standing, &untried)
 }

@@ -98,12 +98,13 @@ pub fn script_end(table: TableSlices<'_>, rec: &[u8], progress: Progress, out: &
     if let Err(refusal) = fleet_state::checks::check_state(table, rec, &mut degrees) {
         return Output::Refused(refusal.number());
     }
-    let counted = CountedTable {
-        table,
-        degrees: &degrees,
-    };
     let length = script_pieces::ending::put_end(
-        counted,
+        table.probes as usize,
+        table.links as usize,
+        table.needs,
+        &degrees,
+        table.lows,
+        table.highs,
         rec,
         progress.held,
         progress.changed,

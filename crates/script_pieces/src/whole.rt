@@ -31,7 +31,8 @@ fn put_script(counted: CountedTable<'_>, text: &[u8], out: &mut [u8]) -> usize
     ensures { let printed = script_text (as_slices counted.entry.table) 1024 text.now in
         (result ≡ capped (length printed)) × (length printed ≤ length out.old → out.new ≡ sets out.old 0 printed) }
 {
-    let links = counted.table.links as usize;
+    let table = counted.table;
+    let links = table.links as usize;
     let mut bytes = [0u8; 16384];
     let rec = &mut bytes[..8 * links];
     let start = begin();
@@ -42,7 +43,19 @@ fn put_script(counted: CountedTable<'_>, text: &[u8], out: &mut [u8]) -> usize
     if closed.rest < text.len() {
         unclosed = 1;
     }
-    super::ending::put_end(counted, rec, unclosed, p.changed, out, place.at)
+    super::ending::put_end(
+        table.probes as usize,
+        links,
+        table.needs,
+        counted.degrees,
+        table.lows,
+        table.highs,
+        rec,
+        unclosed,
+        p.changed,
+        out,
+        place.at,
+    )
 }
 
 // Whether a slice of this length holds what the lines behind a table print. Five bytes for each byte, and 11, hold any output; else it is counted.

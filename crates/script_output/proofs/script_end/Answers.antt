@@ -11,6 +11,7 @@ use Rattle.refusals.specs.Refusals.{fault_of}
 use Rattle.refusals.proofs.Laws.{number_some}
 use Rattle.table.proofs.Slices.{legal_slices}
 use Rattle.table.specs.Slices.{table_of, as_slices}
+use Rattle.fleet_state.proofs.Legal.{fits}
 use Rattle.fleet_state.proofs.CheckLaws.{fleet_good, state_passed}
 use Rattle.output.specs.Output.{output_fault}
 use Rattle.output.proofs.Printing.{prints_refused, prints_done, too_short, long_enough}
@@ -43,19 +44,15 @@ returns-in-Err c =
     prints_refused _ _ printed a.out.now (e ∙ c.in-Err.ensures.0 ∙ sym (or_none (output_fault (length a.out.now) printed) (site_fault x a.rec.now) (long_enough (length a.out.now) printed long)))
     (λ z. number_some c.in-Err.refusal (sym e ∙ z))
 
-pub invariant_of-counted : goal.invariant_of-counted
-invariant_of-counted c =
-    let x = as_slices c.args.table in
-    let s = state_passed x c.args.rec.now c.in_default.is c.check_state.ensures in
-    let room : length c.check_state.new.degrees ≡ 256 = c.check_state.auto.degrees in
-    record { legal = s.0; in_degrees = omega (arith, (legal_slices 256 2048 x s.0).few, room); are_counted = s.2 }
-
 pub put_end-length-requires : goal.put_end-length-requires
 put_end-length-requires c =
-    let x = as_slices c.args.table in
+    let t = c.args.table in
+    let x = as_slices t in
     let s = state_passed x c.args.rec.now c.in_default.is c.check_state.ensures in
-    let g = fleet_good (table_of x) c.args.rec.now s.1 in
-    (omega (arith, g.0), omega arith)
+    let f = fleet_good (table_of x) c.args.rec.now s.1 in
+    let g = legal_slices 256 2048 x s.0 in
+    let room : length c.check_state.new.degrees ≡ 256 = c.check_state.auto.degrees in
+    (fits t.number t.probes t.links t.needs.now t.lows.now t.highs.now t.costs.now g, omega (arith, f.0), omega (arith, g.few, room), s.2, omega arith)
 
 pub returns : goal.returns
 returns c =

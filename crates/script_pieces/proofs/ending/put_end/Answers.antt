@@ -19,14 +19,14 @@ eleven false = omega arith
 pub overflow_add-end : goal.overflow_add-end
 overflow_add-end c =
     let n = end_most (eqb c.args.held 0) in
-    omega (arith, c.requires.1, c.end_length.ensures)
+    omega (arith, c.requires.4, c.end_length.ensures)
 
 pub returns-then-out-end : goal.returns-then-out-end
 returns-then-out-end c =
     let a = c.args in
     let e = c.end_length.ensures in (
       λ number costs.
-          let x = slices_of number a.counted.table.probes a.counted.table.links a.counted.table.needs.now a.counted.table.lows.now a.counted.table.highs.now costs in
+          let x = slices_of number a.probes a.links a.needs.now a.lows.now a.highs.now costs in
           let n = length_end x a.rec.now a.held a.changed in
           sym (stored_short a.out.now a.at (end_text x a.rec.now a.held a.changed) (omega (arith, c.if-out-end.true))),
       c.cap.ensures ∙ ap capped (omega arith),
@@ -49,9 +49,9 @@ returns c =
     let u = c.put_unclosed-next in
     let e = c.end_length.ensures in (
       λ number costs.
-          let x = slices_of number a.counted.table.probes a.counted.table.links a.counted.table.needs.now a.counted.table.lows.now a.counted.table.highs.now costs in
+          let x = slices_of number a.probes a.links a.needs.now a.lows.now a.highs.now costs in
           let n = length_end x a.rec.now a.held a.changed in
           end_then x a.rec.now a.held a.changed _ a.at _ a.out.now _ _ (c.is_finished-done.ensures number costs) u.ensures.0 u.ensures.1 c.put_last.ensures
           ∙ sym (stored_fits a.out.now a.at (end_text x a.rec.now a.held a.changed) (omega (arith, c.if-out-end.false))),
-      sym (capped_below (a.at + cond (eqb a.held 0) 11 16) (omega (arith, c.if-out-end.false, c.well_formed.1.1.1.1.0)) ∙ omega arith),
+      sym (capped_below (a.at + cond (eqb a.held 0) 11 16) (omega (arith, c.if-out-end.false, c.well_formed.1.1.1.1.1.1.1.1.1.0)) ∙ omega arith),
     )

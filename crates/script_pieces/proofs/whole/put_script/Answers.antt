@@ -45,11 +45,12 @@ take_lines-closed-requires c =
 
 pub put_end-requires : goal.put_end-requires
 put_end-requires c =
-    let x = as_slices c.args.counted.table in
+    let t = c.args.counted.table in
+    let x = as_slices t in
     let k = c.take_lines-closed in
     let m = links_within x c.args.counted.legal in
     let n = length-take-le (8 * x.links) (replicate {A = ℕ} 16384 0) (omega arith) in
-    (omega (arith, k.auto.rec), at_most _ _ _ _ _ _ _ k.ensures.buffered)
+    (fits t.number t.probes t.links t.needs.now t.lows.now t.highs.now t.costs.now (legal_slices 256 2048 x c.args.counted.legal), omega (arith, k.auto.rec), c.args.counted.in_degrees, c.args.counted.are_counted, at_most _ _ _ _ _ _ _ k.ensures.buffered)
 
 pub returns : goal.returns
 returns c =
