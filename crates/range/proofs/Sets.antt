@@ -1,14 +1,12 @@
 -- Runs of stores, as the writers make them.
-use Prim.Native.Nat.{ℕ, suc, ◌+◌, ◌-◌, ◌*◌, ◌≤◌, ◌<◌}
+use Prim.Native.Nat.{ℕ, suc, ◌+◌, ◌*◌, ◌≤◌, ◌<◌}
 use mathlib.Core.Path.{◌≡◌, refl, sym, ◌∙◌}
 use mathlib.Core.List.{List, [], ◌∷◌, ◌++◌}
 use native.Mathlib.Nat.{add-zero}
 use native.Mathlib.Numerals.{add-one}
 use native.Mathlib.Omega.{arith}
-use borrow.Rule.Slice.PartMut.{put_mid, Post-is}
 use lib.ListN.{length, get_or, take, drop, set}
 use lib.Seq.{sets, sets-eq, take-suc, length-take-le}
-use Rattle.std.proofs.Common.{append_assoc}
 use Rattle.range.specs.Lists.{joined}
 use Rattle.range.proofs.Lists.{joined_next, length_joined}
 
@@ -22,13 +20,14 @@ sets_append (x ∷ xs) ys l at =
 pub sets_then : (l m r : List ℕ) (at next : ℕ) (xs ys : List ℕ) → m ≡ sets l at xs → next ≡ at + length xs → r ≡ sets m next ys → r ≡ sets l at (xs ++ ys)
 sets_then l m r at next xs ys e n f = f ∙ rw (e, n) (sym (sets_append xs ys l at))
 
+-- a list stored one by one
+pub sets_next : (l m xs : List ℕ) (at i : ℕ) → i < length xs → m ≡ sets l at (take i xs) → set m (at + i) (get_or xs i 0) ≡ sets l at (take (i + 1) xs)
+sets_next l m xs at i within e =
+    let k = length-take-le i xs (omega arith) in
+    rw (add-one i, take-suc xs i 0 within) (sets_then l m _ at (at + i) (take i xs) (get_or xs i 0 ∷ []) e (omega arith) refl)
+
 pub sets_start : (l xs : List ℕ) → length xs ≤ length l → sets l 0 xs ≡ xs ++ drop (length xs) l
 sets_start l xs fits = sets-eq xs l 0 (omega arith) ∙ (let e : 0 + length xs ≡ length xs = omega arith in rw e)
-
--- a part of a list written over
-pub sets_part : (l xs : List ℕ) (at end : ℕ) → end ≡ at + length xs → end ≤ length l → put_mid at (end - at) l xs ≡ sets l at xs
-sets_part l xs at end e fits =
-    rw (Post-is at end l (omega arith), e) (rw append_assoc at (sym (sets-eq xs l at (omega arith))))
 
 pub joined_then : (f : ℕ → List ℕ) (k n : ℕ) (l m r : List ℕ) (at : ℕ) → ((i : ℕ) → length (f i) ≡ k) → m ≡ sets l at (joined f n) → r ≡ sets m (at + k * n) (f n) → r ≡ sets l at (joined f (n + 1))
 joined_then f k n l m r at h e g =

@@ -19,7 +19,9 @@ pub fn copy(to: &mut [u8], at: usize, from: &[u8], n: usize)
     requires { (at + n ≤ length to.old) × (n ≤ length from.now) }
     ensures { to.new ≡ sets to.old at (take n from.now) }
 {
-    to[at..at + n].copy_from_slice(&from[..n]);
+    for i in 0..n {
+        to[at + i] = from[i];
+    }
 }
 
 // Bytes of an unfinished line, stored behind those held, 16 in all. Answers how many are held then.

@@ -1,12 +1,12 @@
-use Prim.Native.Nat.{◌+◌}
+use mathlib.Core.Path.{refl}
 use native.Mathlib.Omega.{arith}
-use lib.ListN.{take}
-use lib.Seq.{length-take-le}
-use Rattle.range.proofs.Sets.{sets_part}
+use Rattle.range.proofs.Sets.{sets_next}
 use Rattle.script_steps.proofs.line_bytes.copy.Goals as goal
 
-pub returns : goal.returns
-returns c =
+pub loop-i-init : goal.loop-i-init
+loop-i-init c = refl
+
+pub loop-i-preserved : goal.loop-i-preserved
+loop-i-preserved c =
     let a = c.args in
-    let k = length-take-le a.n a.from.now (omega arith) in
-    rw c.copy_from_slice.ensures.after (sets_part a.to.now (take a.n a.from.now) a.at (a.at + a.n) (omega arith) (omega arith))
+    sets_next a.to.now _ a.from.now a.at c.loop-i.i (omega arith) c.loop-i.invariant
