@@ -1,5 +1,5 @@
 -- A call of an end that is refused, and one that is accepted; the event of a frame asked for.
-use Prim.Native.Nat.{ℕ, ◌<◌}
+use Prim.Native.Nat.{ℕ}
 use mathlib.Core.Path.{◌≡◌, sym, ◌∙◌, ap}
 use mathlib.Core.Bool.{◌&&◌}
 use mathlib.Core.List.{List}
@@ -9,7 +9,7 @@ use lib.ListN.{get_or}
 use borrow.Author.Tests.{ne_eqb}
 use Rattle.refusals.specs.Refusals.{number_of}
 use Rattle.refusals.specs.declared.Refusal.{Refusal}
-use Rattle.refusals.proofs.Laws.{number_some, or_refused}
+use Rattle.refusals.proofs.Laws.{number_some}
 use Rattle.table.specs.Table.{Table, other}
 use Rattle.table.specs.Legal.{Legal}
 use Rattle.table.specs.Slices.{Slices, table_of, slices_fault}
@@ -27,7 +27,6 @@ use Rattle.probe_maps.specs.Maps.{Maps, AllWords, rows, bytes_of, state_fault}
 use Rattle.probe_maps.specs.GoodMaps.{GoodMaps}
 use Rattle.probe_maps.proofs.Rounds.{is_standing, is_refused_in, is_held}
 use Rattle.probe_maps.proofs.Faults.{good_maps}
-use Rattle.probe_checks.specs.Checks.{own_link_fault, link_call_fault}
 use Rattle.probe_checks.proofs.Accepted.{state_parts}
 use Rattle.probe_maps.specs.MapRules.{befalls_maps, alter_maps}
 use Rattle.probe.specs.declared.Kind.{Kind}
@@ -63,14 +62,6 @@ pub good_state : (x : Slices) (p : ℕ) (m : Maps) → AllWords m → state_faul
 good_state x p m words f =
     let parts = state_parts x p m f in
     (parts.0, good_maps (table_of x) p m words parts.1)
-
--- the fault of a call about one link whose state has none
-pub call_same : (state : ℕ) (t : Table) (p i : ℕ) → state ≡ 0 → link_call_fault 0 t p i ≡ link_call_fault state t p i
-call_same state t p i none = ap (λ (n : ℕ). link_call_fault n t p i) (sym none)
-
-pub call_state : (d : Refusal) (state : ℕ) (t : Table) (p i : ℕ) → number_of d ≡ state → number_of d ≡ link_call_fault state t p i
-unfolding link_call_fault
-call_state d state t p i = or_refused d state (own_link_fault t p i)
 
 module _ (t : Table) (p : ℕ) (m : Maps) (good : GoodMaps t p m) where
   -- what an end is asked for may be sent by the bit that lets it

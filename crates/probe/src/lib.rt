@@ -48,7 +48,7 @@ pub fn open(
         Opens (as_slices table.entry) probe free result before after }
 {
     let mut own = [0u64; 32];
-    if let Err(refusal) = probe_state::states::check_state(
+    let state = probe_state::states::check_state(
         table,
         probe,
         standing,
@@ -56,10 +56,8 @@ pub fn open(
         held,
         refused_in,
         &mut own,
-    ) {
-        return wake_log::Answer::Refused(refusal.number());
-    }
-    if let Err(refusal) = faults::check_open(table, probe as usize, free) {
+    );
+    if let Err(refusal) = faults::check_open(state, table.probes as usize, probe as usize, free) {
         return wake_log::Answer::Refused(refusal.number());
     }
     let e = probe_decisions::steps::apply(
@@ -91,7 +89,7 @@ pub fn hear(
         Hears (as_slices table.entry) probe frame.now free result before after }
 {
     let mut own = [0u64; 32];
-    if let Err(refusal) = probe_state::states::check_state(
+    let state = probe_state::states::check_state(
         table,
         probe,
         standing,
@@ -99,10 +97,17 @@ pub fn hear(
         held,
         refused_in,
         &mut own,
+    );
+    let event = match faults::check_hearing(
+        state,
+        table.number,
+        table.links as usize,
+        table.lows,
+        table.highs,
+        probe as usize,
+        frame,
+        free,
     ) {
-        return wake_log::Answer::Refused(refusal.number());
-    }
-    let event = match faults::check_hearing(table, probe as usize, frame, free) {
         Ok(event) => event,
         Err(refusal) => return wake_log::Answer::Refused(refusal.number()),
     };
@@ -138,7 +143,7 @@ pub fn ask(
         return Asked::Refused(8);
     }
     let mut own = [0u64; 32];
-    if let Err(refusal) = probe_state::states::check_state(
+    let state = probe_state::states::check_state(
         table,
         probe,
         standing,
@@ -146,10 +151,15 @@ pub fn ask(
         held,
         refused_in,
         &mut own,
+    );
+    if let Err(refusal) = faults::check_link_call(
+        state,
+        table.links as usize,
+        table.lows,
+        table.highs,
+        probe as usize,
+        link as usize,
     ) {
-        return Asked::Refused(refusal.number());
-    }
-    if let Err(refusal) = faults::check_link_call(table, probe as usize, link as usize) {
         return Asked::Refused(refusal.number());
     }
     if !steps::is_sendable(kind, standing, refused_in, link as usize) {
@@ -174,7 +184,7 @@ pub fn rests(
         resting_reply result ≡ whether_rests (as_slices table.entry) probe m link }
 {
     let mut own = [0u64; 32];
-    if let Err(refusal) = probe_state::states::check_state(
+    let state = probe_state::states::check_state(
         table,
         probe,
         standing,
@@ -182,10 +192,15 @@ pub fn rests(
         held,
         refused_in,
         &mut own,
+    );
+    if let Err(refusal) = faults::check_link_call(
+        state,
+        table.links as usize,
+        table.lows,
+        table.highs,
+        probe as usize,
+        link as usize,
     ) {
-        return Resting::Refused(refusal.number());
-    }
-    if let Err(refusal) = faults::check_link_call(table, probe as usize, link as usize) {
         return Resting::Refused(refusal.number());
     }
     Resting::Rests(steps::in_both(standing, held, link as usize))

@@ -1,6 +1,6 @@
 -- What it means that a call of an end has no fault.
 use Prim.Native.Nat.{ℕ, ◌≤◌, ◌<◌}
-use mathlib.Core.Path.{◌≡◌, refl, sym, ◌∙◌, ap}
+use mathlib.Core.Path.{◌≡◌, sym, ◌∙◌, ap}
 use mathlib.Core.Logic.{◌⊎◌, inl, inr}
 use mathlib.Core.Bool.{true, false, ◌&&◌, ◌||◌}
 use mathlib.Core.List.{List}
@@ -17,7 +17,7 @@ use Rattle.std.specs.Prelude.{Result, Ok, Err, IfOk, ⊤}
 use Rattle.std.proofs.lemmas.Result.{IfOk-at_ok}
 use Rattle.refusals.specs.Refusals.{number_of, fault_of}
 use Rattle.refusals.specs.declared.Refusal.{Refusal}
-use Rattle.refusals.proofs.Laws.{or_refused}
+use Rattle.refusals.proofs.Laws.{number_some, or_refused}
 use Rattle.probe_frame.specs.Frame.{Frame, frame_of, frame_fault, frame_read, ReadsFrame}
 use Rattle.probe_frame.specs.declared.FrameLine.{FrameLine}
 use Rattle.probe_rules.specs.Frames.{number_fault, heard_of}
@@ -28,6 +28,11 @@ use Rattle.probe_checks.specs.Checks.{frame_kind_fault, to_fault, probe_fault, o
 -- a check that found nothing, and what it says then
 pub passed : {Q : Type 0} {fault : ℕ} {r : Result ⊤ Refusal} {u : ⊤} → r ≡ Ok u → (fault_of r ≡ fault) × IfOk r (λ v. Q) → (fault ≡ 0) × Q
 passed {Q} is h = (sym h.0 ∙ ap fault_of is, IfOk-at_ok (λ v. Q) is h.1)
+
+-- the same of a check that the call's other checks are given
+pub not_refused : {Q : Type 0} {fault : ℕ} (r : Result ⊤ Refusal) → fault_of r ≡ 0 → (fault_of r ≡ fault) × IfOk r (λ v. Q) → (fault ≡ 0) × Q
+not_refused (Ok u) none h = (sym h.0, h.1)
+not_refused (Err e) none h = absurd (number_some e none)
 
 -- 9, 23, 24 of a frame
 abbrev pub heard_checks : Table → ℕ → Frame → ℕ

@@ -46,7 +46,14 @@ pub fn read_frames(
     while at < bag.len() {
         let found = lines::find_line(bag, at);
         let next = found.next;
-        let event = probe_checks::faults::check_frame(table, probe, &bag[at..next])?;
+        let event = probe_checks::faults::check_frame(
+            table.number,
+            table.links as usize,
+            table.lows,
+            table.highs,
+            probe,
+            &bag[at..next],
+        )?;
         said[n] = super::events::packed_event(event);
         n += 1;
         at = next;

@@ -43,16 +43,18 @@ returns-in_err-event c =
     let a = c.args in
     let l = c.loop-at in
     let t = table_of (as_slices a.table) in
+    let heard = c.in_err-event.ensures a.table.probes a.table.needs.now a.table.costs.now in
     let piece = piece_is a.bag.now l.at _ c.find_line-found.ensures c.loop-at-test.true in
-    at_exit_if _ _ _ _ c.from_residual.ensures.1 (read_bad t a.probe a.bag.now a.said.now l.said l.n l.at l.invariant c.loop-at-test.true _ (c.in_err-event.ensures.0 ∙ ap (heard_fault t a.probe) piece) (number_some _))
+    at_exit_if _ _ _ _ c.from_residual.ensures.1 (read_bad t a.probe a.bag.now a.said.now l.said l.n l.at l.invariant c.loop-at-test.true _ (heard.0 ∙ ap (heard_fault t a.probe) piece) (number_some _))
 
 pub packed_event-requires : goal.packed_event-requires
 packed_event-requires c =
     let a = c.args in
     let l = c.loop-at in
     let t = table_of (as_slices a.table) in
+    let heard = c.in_ok-event.ensures a.table.probes a.table.needs.now a.table.costs.now in
     let piece = piece_is a.bag.now l.at _ c.find_line-found.ensures c.loop-at-test.true in
-    rw (c.in_ok-event.ensures.1 ∙ ap (λ (line : List ℕ). heard_of t (frame_of line)) piece) (event_wider a.table.links 2048 _ c.requires.1 (heard_within t a.probe (line_bytes a.bag.now l.at) (sym (c.in_ok-event.ensures.0 ∙ ap (heard_fault t a.probe) piece))))
+    rw (heard.1 ∙ ap (λ (line : List ℕ). heard_of t (frame_of line)) piece) (event_wider a.table.links 2048 _ c.requires.1 (heard_within t a.probe (line_bytes a.bag.now l.at) (sym (heard.0 ∙ ap (heard_fault t a.probe) piece))))
 
 pub bounds-said-n : goal.bounds-said-n
 bounds-said-n c =
@@ -72,9 +74,10 @@ loop-at-preserved c =
     let a = c.args in
     let l = c.loop-at in
     let t = table_of (as_slices a.table) in
+    let heard = c.in_ok-event.ensures a.table.probes a.table.needs.now a.table.costs.now in
     let piece = piece_is a.bag.now l.at _ c.find_line-found.ensures c.loop-at-test.true in
     let e = ap (λ (f : Found). f.next) c.find_line-found.ensures in
-    rw e (read_next t a.probe a.bag.now a.said.now l.said l.n l.at l.invariant c.loop-at-test.true _ (sym (c.in_ok-event.ensures.0 ∙ ap (heard_fault t a.probe) piece)) (c.packed_event.ensures ∙ ap packed_event (c.in_ok-event.ensures.1 ∙ ap (λ (line : List ℕ). heard_of t (frame_of line)) piece)))
+    rw e (read_next t a.probe a.bag.now a.said.now l.said l.n l.at l.invariant c.loop-at-test.true _ (sym (heard.0 ∙ ap (heard_fault t a.probe) piece)) (c.packed_event.ensures ∙ ap packed_event (heard.1 ∙ ap (λ (line : List ℕ). heard_of t (frame_of line)) piece)))
 
 pub returns : goal.returns
 returns c =
