@@ -1,6 +1,7 @@
 // A text read within limits: its answer, and its fields stored. The public readers call these, and so do readers with other limits.
-ghost use Rattle.std.specs.Prelude.{◌≡◌, true, ℕ, ◌<◌, ◌≤◌, length};
+ghost use Rattle.std.specs.Prelude.{◌≡◌, true, ℕ, ◌+◌, ◌<◌, ◌≤◌, length};
 ghost use Rattle.range.specs.Lists.{stored};
+ghost use Rattle.hex_digits.specs.Digits.{number_at};
 ghost use Rattle.lines.specs.Digits.{line_fault};
 ghost use Rattle.table.specs.Legal.{room_fault};
 ghost use Rattle.table.specs.Text.{of_text, need_start, link_start, text_fault};
@@ -8,7 +9,7 @@ ghost use Rattle.table_text.specs.Header.{HeaderOf};
 ghost use Rattle.table_read.specs.Reading.{lent_of, head_values, read_values, Filled, ReadsTable};
 
 use super::TableHead;
-use reader::numbers::{need_line, triple_line};
+use hex_digits::fields::read_digits;
 use refusals::Refusal;
 use table::checks::check_room;
 use table::starts::{link_start, need_start, text_end};
@@ -29,6 +30,16 @@ fn answer(text: &[u8], head: Header) -> TableHead
     }
 }
 
+// The number of four digits, which were tested before: `read_digits` has it in both cases, so nothing is tested twice.
+fn field(text: &[u8], at: usize) -> u16
+    requires { (at + 4 ≤ length text.now) × (number_at text.now at 4 < 65536) }
+    ensures { result ≡ number_at text.now at 4 }
+{
+    match read_digits(text, at, 4) {
+        Ok(number) | Err(number) => number as u16,
+    }
+}
+
 // Stores the needs of so many lines that have no fault.
 fn store_needs(text: &[u8], probes: usize, needs: &mut [u16])
     requires { (probes ≤ length needs.old) × (probes ≤ 256) × ((v : ℕ) → v < probes → line_fault text.now (need_start v) 4 ≡ 0) }
@@ -36,7 +47,7 @@ fn store_needs(text: &[u8], probes: usize, needs: &mut [u16])
 {
     let start = need_start(0);
     for v in 0..probes {
-        needs[v] = need_line(text, start + NEED_BYTES * v).unwrap() as u16;
+        needs[v] = field(text, start + NEED_BYTES * v);
     }
 }
 
@@ -57,10 +68,10 @@ fn store_links(
 {
     let start = link_start(probes, 0);
     for i in 0..links {
-        let line = triple_line(text, start + LINK_BYTES * i).unwrap();
-        lows[i] = line.first as u16;
-        highs[i] = line.second as u16;
-        costs[i] = line.third as u16;
+        let at = start + LINK_BYTES * i;
+        lows[i] = field(text, at);
+        highs[i] = field(text, at + 4);
+        costs[i] = field(text, at + 8);
     }
 }
 

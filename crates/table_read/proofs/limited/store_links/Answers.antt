@@ -1,39 +1,40 @@
-use mathlib.Core.Path.{refl, sym}
+use mathlib.Core.Path.{refl, sym, ◌∙◌}
 use native.Mathlib.Omega.{arith}
 use Rattle.range.specs.Lists.{stored}
 use Rattle.range.proofs.Lists.{stored_next}
-use Rattle.table.specs.Text.{of_text}
-use Rattle.table_read.proofs.Lines.{link_read}
+use Rattle.table.specs.Text.{of_text, link_start}
+use Rattle.table_read.proofs.Lines.{field_there, low_read, high_read, cost_read}
 use Rattle.table_read.proofs.limited.store_links.Goals as goal
 
 pub loop-i-init : goal.loop-i-init
 unfolding stored
 loop-i-init c = (refl, refl, refl)
 
-pub overflow_cast-lows : goal.overflow_cast-lows
-overflow_cast-lows c =
+pub field-requires : goal.field-requires
+field-requires c =
     let a = c.args in
-    let r = link_read a.text.now a.probes c.loop-i.i _ _ _ c.unwrap-line.ensures c.requires.5 (omega arith) (c.requires.6 c.loop-i.i c.loop-i-test.true) c.triple_line.ensures in
-    omega (arith, r.fits.0)
+    let i = c.loop-i.i in
+    field_there a.text.now (link_start a.probes i) 12 _ (c.requires.6 i c.loop-i-test.true) (omega arith) (omega arith)
 
-pub overflow_cast-highs : goal.overflow_cast-highs
-overflow_cast-highs c =
+pub field-requires-in-loop-i : goal.field-requires-in-loop-i
+field-requires-in-loop-i c =
     let a = c.args in
-    let r = link_read a.text.now a.probes c.loop-i.i _ _ _ c.unwrap-line.ensures c.requires.5 (omega arith) (c.requires.6 c.loop-i.i c.loop-i-test.true) c.triple_line.ensures in
-    omega (arith, r.fits.1)
+    let i = c.loop-i.i in
+    field_there a.text.now (link_start a.probes i) 12 _ (c.requires.6 i c.loop-i-test.true) (omega arith) (omega arith)
 
-pub overflow_cast-costs : goal.overflow_cast-costs
-overflow_cast-costs c =
+pub field-requires-in-loop-i-2 : goal.field-requires-in-loop-i-2
+field-requires-in-loop-i-2 c =
     let a = c.args in
-    let r = link_read a.text.now a.probes c.loop-i.i _ _ _ c.unwrap-line.ensures c.requires.5 (omega arith) (c.requires.6 c.loop-i.i c.loop-i-test.true) c.triple_line.ensures in
-    omega (arith, r.fits.2)
+    let i = c.loop-i.i in
+    field_there a.text.now (link_start a.probes i) 12 _ (c.requires.6 i c.loop-i-test.true) (omega arith) (omega arith)
 
 pub loop-i-preserved : goal.loop-i-preserved
 loop-i-preserved c =
     let a = c.args in
-    let r = link_read a.text.now a.probes c.loop-i.i _ _ _ c.unwrap-line.ensures c.requires.5 (omega arith) (c.requires.6 c.loop-i.i c.loop-i-test.true) c.triple_line.ensures in
-    let t = of_text a.text.now in (
-      rw (c.loop-i.invariant.0, r.low) (sym (stored_next t.low c.loop-i.i a.lows.now)),
-      rw (c.loop-i.invariant.1, r.high) (sym (stored_next t.high c.loop-i.i a.highs.now)),
-      rw (c.loop-i.invariant.2, r.cost) (sym (stored_next t.cost c.loop-i.i a.costs.now)),
+    let s = a.text.now in
+    let t = of_text s in
+    let i = c.loop-i.i in (
+      rw (c.loop-i.invariant.0, c.field.ensures ∙ low_read s a.probes i _ c.requires.5 (omega arith)) (sym (stored_next t.low i a.lows.now)),
+      rw (c.loop-i.invariant.1, c.field-in-loop-i.ensures ∙ high_read s a.probes i _ c.requires.5 (omega arith)) (sym (stored_next t.high i a.highs.now)),
+      rw (c.loop-i.invariant.2, c.field-in-loop-i-2.ensures ∙ cost_read s a.probes i _ c.requires.5 (omega arith)) (sym (stored_next t.cost i a.costs.now)),
     )
