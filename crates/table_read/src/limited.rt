@@ -30,7 +30,7 @@ fn answer(text: &[u8], head: Header) -> TableHead
     }
 }
 
-// The number of four digits, which were tested before: `read_digits` has it in both cases, so nothing is tested twice.
+// The number that four bytes of a checked line write. `read_digits` has it in both cases, so that its test of them is not needed here.
 fn field(text: &[u8], at: usize) -> u16
     requires { (at + 4 ≤ length text.now) × (number_at text.now at 4 < 65536) }
     ensures { result ≡ number_at text.now at 4 }
